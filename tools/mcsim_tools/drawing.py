@@ -9,8 +9,8 @@ from typing import Optional
 from . import legend, style
 from .lanes import TOP, Lanes
 from .reading import BLOCKED, HELD, LOST, MERGED, READY, RUNNING, STANDINGS, THROTTLED, WOKE, Post, Round, Stood
-from .scale import Clock, Scale
-from .scene import LOSSES, MISSED, ROUNDS, Columns, Held, Scene
+from .scale import TICKS, Clock, Scale, Unit
+from .scene import LOSSES, MISSED, ROUNDS, Columns, Held, Scene, others_on
 from .style import BAR, CORE, HEAD, PLOT, Theme
 from .system import System, Thread
 from .tally import NEVER, OVERDUE, Finding
@@ -37,14 +37,6 @@ def number(value: float) -> str:
     return f'{value:.2f}'.rstrip('0').rstrip('.')
 
 
-def short(value: int) -> str:
-    """A number in a label."""
-    for unit, letter in ((10**9, 'G'), (10**6, 'M'), (10**3, 'k')):
-        if value >= 10 * unit and value % (unit // 10) == 0 or value >= unit and value % unit == 0:
-            return f'{value / unit:g}{letter}'
-    return str(value)
-
-
 @dataclass(frozen=True)
 class Frame:
     """How a picture is asked for. One that zooms is for a page."""
@@ -52,6 +44,7 @@ class Frame:
     width: int = 1200
     theme: Theme = Theme.AUTO
     clock: Clock = Clock()
+    unit: Unit = TICKS
     zooms: bool = False
 
 
@@ -73,7 +66,9 @@ class Picture:
         self.system, self.lanes, self.begin, self.end, self.frame, self.heading, self.under = system, lanes, begin, end, frame, heading, under
         span = max(1, end - begin)
         wide = max(NARROWEST, min(WIDEST_TICK * span, frame.width))
-        self.scale = Scale(begin, end, LEFT, wide)
+        self.unit = frame.unit
+        self.left = max(LEFT, *(int(28 + LETTER * .92 * len(self.label(thread))) for thread in lanes.shown), 0)
+        self.scale = Scale(begin, end, self.left, wide)
         # what stretches with a zoom: bars by lane, and lines between lanes
         self.bars: list[str] = []
         self.joins: list[str] = []
@@ -86,6 +81,19 @@ class Picture:
         self.column_width: Optional[int] = None
 
     # ---- parts
+
+    def text(self, ticks: int) -> str:
+        """A time or a length in the unit of the picture."""
+        return self.unit.text(ticks)
+
+    def span(self, begin: int, end: int) -> str:
+        return f'{self.text(begin)} to {self.text(end)}: {self.text(end - begin)}'
+
+    def label(self, thread: Thread) -> str:
+        """What stands below a thread's name."""
+        unit, name = self.unit, f' {self.unit.name}' * (self.unit.tick is not None)
+        said = f'prio {thread.priority}, {unit.short(thread.context.budget)}/{unit.short(thread.context.period)}{name}'
+        return said + (f', due {unit.short(thread.deadline)}{name}' if thread.deadline else '')
 
     def bar(self, kind: str, begin: int, end: int, top: float, height: float, said: str = '', more: str = '') -> str:
         """A rectangle from one moment to another, within the window."""
@@ -110,8 +118,8 @@ class Picture:
         for stood in scene.stood:
             if stood.thread.name in own and self.is_seen(stood.begin, stood.end):
                 own[stood.thread.name].append(self.standing(stood))
-                if stood.standing == RUNNING:
-                    on[stood.thread.core].append(self.on_core(stood))
+            if stood.standing == RUNNING and stood.thread.core in on and self.is_seen(stood.begin, stood.end):
+                on[stood.thread.core].append(self.on_core(stood))
         for one in scene.rounds:
             if one.thread.name in own:
                 own[one.thread.name] += self.round(one)
@@ -120,7 +128,7 @@ class Picture:
         for sent in scene.sent:
             maker = sent.signal.maker
             if maker and maker.name in own:
-                self.mark(maker.name, 'made', 'ink', sent.signal.made, f'signal of {maker.name} at {sent.signal.made:,} to {sent.note}, still under way')
+                self.mark(maker.name, 'made', 'ink', sent.signal.made, f'signal of {maker.name} at {self.text(sent.signal.made)} to {sent.note}, still under way')
         self.bars += [f'<g class="C" data-core="{core}">{"".join(parts)}</g>' for core, parts in on.items()]
         self.bars += [f'<g class="T" data-name="{escaped(name)}">{"".join(parts)}</g>' for name, parts in own.items()]
         self.refills(scene.held)
@@ -129,7 +137,7 @@ class Picture:
 
     def standing(self, stood: Stood) -> str:
         name, standing = stood.thread.name, stood.standing
-        said = f'{name} {STANDINGS[standing]} {stood.begin:,} to {stood.end:,}: {stood.end - stood.begin:,}'
+        said = f'{name} {STANDINGS[standing]} {self.span(stood.begin, stood.end)}'
         if standing == THROTTLED:
             said += ', ' + STOPPED_BY.get(stood.why, f'after a stop by {stood.why}')
         elif standing == BLOCKED and stood.why == 'call':
@@ -140,44 +148,46 @@ class Picture:
         return self.bar(STANDINGS[standing] + colour, stood.begin, stood.end, self.lanes.base[name] - height, height, said)
 
     def on_core(self, stood: Stood) -> str:
-        name, core, colour = stood.thread.name, stood.thread.core, self.lanes.colour[stood.thread.name]
+        name, core = stood.thread.name, stood.thread.core
+        colour = self.lanes.colour.get(name)
         top = self.lanes.core_at[core]
         begin, end = max(stood.begin, self.begin), min(stood.end, self.end)
         if not self.frame.zooms and (end - begin) * self.scale.tick > LETTER * len(name) + 6:
             middle = (self.scale.x(begin) + self.scale.x(end)) / 2
-            self.labels.append(f'<text class="n{colour}" x="{number(middle)}" y="{top + 14}" text-anchor="middle">{escaped(name)}</text>')
-        said = f'core {core}: {name} {stood.begin:,} to {stood.end:,}: {stood.end - stood.begin:,}'
-        return self.bar(f'on c{colour}', begin, end, top, CORE, said, f' data-n="{escaped(name)}" data-c="{colour}"')
+            self.labels.append(f'<text class="{style.name_look(colour)}" x="{number(middle)}" y="{top + 14}" text-anchor="middle">{escaped(name)}</text>')
+        said = f'core {core}: {name} {self.span(stood.begin, stood.end)}'
+        look = 'other' if colour is None else f'on c{colour}'
+        return self.bar(look, begin, end, top, CORE, said, f' data-n="{escaped(name)}" data-c="{style.name_look(colour)}"')
 
     def round(self, one: Round) -> list[str]:
         """The line of a response from the activation on, with what is beyond the deadline in red, and the signs at its ends."""
         thread, base = one.thread, self.lanes.base[one.thread.name]
         is_open, is_bad = one.number == 0, one.is_missed or one.is_overdue
         what = f'{thread.name}: a round that is open' if is_open else f'{thread.name} round {one.number}'
-        said = f'{what}: {one.activated:,} to {one.end:,}, response {one.response:,}' if not is_open else f'{what} since {one.activated:,}'
-        said += f', deadline {thread.deadline:,}' if thread.deadline else ''
+        said = f'{what} since {self.text(one.activated)}' if is_open else f'{what}: {self.text(one.activated)} to {self.text(one.end)}, response {self.text(one.response)}'
+        said += f', deadline {self.text(thread.deadline)}' if thread.deadline else ''
         parts = []
         if one.begun > one.activated and self.is_seen(one.activated, one.begun):
-            parts.append(self.bar('queued', one.activated, one.begun, base + 3.3, 1.4, f'{said}; it was queued until {one.begun:,}'))
+            parts.append(self.bar('queued', one.activated, one.begun, base + 3.3, 1.4, f'{said}; it was queued until {self.text(one.begun)}'))
         begin = max(one.activated, one.begun)
         if self.is_seen(begin, one.end):
             parts.append(self.bar('resp', begin, one.end, base + 3.3, 1.4, said))
         if is_bad and self.is_seen(one.due, one.end):
-            parts.append(self.bar('late', one.due, one.end, base + 2, 4, f'{said}: {"overdue" if is_open else "missed"} by {one.end - one.due:,}'))
-        self.mark(thread.name, 'up', 'ink', one.activated, f'{thread.name}: activation at {one.activated:,}')
+            parts.append(self.bar('late', one.due, one.end, base + 2, 4, f'{said}: {"overdue" if is_open else "missed"} by {self.text(one.end - one.due)}'))
+        self.mark(thread.name, 'up', 'ink', one.activated, f'{thread.name}: activation at {self.text(one.activated)}')
         if thread.deadline and (not is_open or one.due <= self.end):
-            due = f'{thread.name}: deadline at {one.due:,} of the activation at {one.activated:,}' + (', missed' if is_bad else '')
+            due = f'{thread.name}: deadline at {self.text(one.due)} of the activation at {self.text(one.activated)}' + (', missed' if is_bad else '')
             self.mark(thread.name, 'down', 'bad' if is_bad else 'ink', one.due, due)
         if not is_open:
-            said += f': missed by {one.end - one.due:,}' if is_bad else ''
+            said += f': missed by {self.text(one.end - one.due)}' if is_bad else ''
             self.mark(thread.name, 'endlate' if is_bad else 'end', 'bad' if is_bad else 'ink', one.end, said)
         return parts
 
     def post(self, post: Post) -> None:
         maker, thread, base = post.maker, post.thread, self.lanes.base
         what = f'interrupt of {post.source}' if post.source else f'signal of {maker.name if maker else f"core {post.core}"}'
-        said = f'{what} at {post.made:,} to {post.note}, badge {post.badge}'
-        said += f', arrives at {post.arrived:,}' * (post.arrived > post.made) + ': ' + SAID_OF[post.outcome].format(thread.name if thread else 'nobody')
+        said = f'{what} at {self.text(post.made)} to {post.note}, badge {post.badge}'
+        said += f', arrives at {self.text(post.arrived)}' * (post.arrived > post.made) + ': ' + SAID_OF[post.outcome].format(thread.name if thread else 'nobody')
         if maker and maker.name in base:
             self.mark(maker.name, 'made', 'ink', post.made, said)
         if not thread or thread.name not in base:
@@ -207,7 +217,7 @@ class Picture:
                 continue
             core = context.core
             heights[core] = max(self.lanes.base[one.name] for one in self.lanes.on(core)) - self.lanes.core_at[core] + 6
-            self.mark(thread.name, 'order', 'order', moment, f'order for context {context.name} at {moment:,}')
+            self.mark(thread.name, 'order', 'order', moment, f'order for context {context.name} at {self.text(moment)}')
             self.order_lines.append(f'<use class="m orderline" href="#ol{core}" x="{number(self.scale.x(moment))}" y="{self.lanes.core_at[core]}"/>')
         self.order_forms = ''.join(f'<path id="ol{core}" d="M0 0V{height}"/>' for core, height in heights.items())
 
@@ -219,7 +229,7 @@ class Picture:
             if finding.kind in (OVERDUE, NEVER) and finding.thread and finding.thread.name in self.lanes.base and finding.end <= self.end:
                 word = 'overdue' if finding.kind == OVERDUE else 'never'
                 self.drawn[finding.kind] += 1
-                at = f'x="{number(LEFT + self.scale.wide + 6)}" y="{self.lanes.base[finding.thread.name] + 3}"'
+                at = f'x="{number(self.left + self.scale.wide + 6)}" y="{self.lanes.base[finding.thread.name] + 3}"'
                 title = f'<title>{escaped(finding.name)}: {escaped(finding.said)}</title>'
                 self.names.append(f'<text class="badtext" data-end="{min(finding.end, self.end)}" {at}>{word}{title}</text>')
 
@@ -269,15 +279,27 @@ class Picture:
         self.column_width = columns.width
         many = min(columns.many, -(-(self.end - self.begin) // columns.width))
         stacks = Stacks(self, columns, many)
-        said = f'its share of each column of {columns.width:,} ticks'
+        self.each = f'{self.text(columns.width)}' + ' ticks' * (self.unit.tick is None)
+        said = f'its share of each column of {self.each}'
         for core, top in self.lanes.core_at.items():
             stack = stacks.begin(top + CORE, CORE)
             parts = (f'<path class="on c{self.lanes.colour[thread.name]}" d="{stack.add(columns.cells[thread.name][RUNNING])}">'
                      f'<title>core {core}: {escaped(thread.name)}, {said}</title></path>' for thread in self.lanes.on(core))
-            self.bars.append(f'<g class="C" data-core="{core}">{"".join(parts)}</g>')
+            others = f'<path class="other" d="{stack.add(self.others(core, columns))}"><title>core {core}: threads without a lane, {said}</title></path>'
+            self.bars.append(f'<g class="C" data-core="{core}">{"".join(parts)}{others}</g>')
         for thread in self.lanes.shown:
             self.bars.append(f'<g class="T" data-name="{escaped(thread.name)}">{self.thread_columns(thread, columns, stacks, many)}{self.beyond(thread, overdue)}</g>')
         self.margin(findings)
+
+    def others(self, core: int, columns: Columns) -> list[int]:
+        """The ticks of a core, column by column, in which a thread without a lane ran."""
+        names = [name for name in columns.cells if name not in self.lanes.base and (name == others_on(core) or self.core_of(name) == core)]
+        found = [sum(cells) for cells in zip(*(columns.cells[name][RUNNING] for name in names))]
+        self.drawn['other'] += any(found)
+        return found
+
+    def core_of(self, name: str) -> Optional[int]:
+        return self.system.threads[name].core if name in self.system.threads else None
 
     def thread_columns(self, thread: Thread, columns: Columns, stacks: Stacks, many: int) -> str:
         base, cells, colour = self.lanes.base[thread.name], columns.cells[thread.name], self.lanes.colour[thread.name]
@@ -285,12 +307,12 @@ class Picture:
         for standing, look in ((RUNNING, f'running c{colour}'), (READY, f'ready c{colour}'), (THROTTLED, 'throttled')):
             if path := stack.add(cells[standing]):
                 self.drawn[STANDINGS[standing]] += 1
-                title = f'<title>{escaped(thread.name)}: {STANDINGS[standing]}, {columns.width:,} ticks a column</title>'
+                title = f'<title>{escaped(thread.name)}: {STANDINGS[standing]}, {self.each} a column</title>'
                 parts.append(f'<path class="{look}" d="{path}">{title}</path>')
         for k in range(many):
             begin = self.begin + k * columns.width
             end = min(self.end, begin + columns.width)
-            where = f'{thread.name} {begin:,} to {end:,}'
+            where = f'{thread.name} {self.text(begin)} to {self.text(end)}'
             if cells[MISSED][k]:
                 parts.append(self.bar('late', begin, end, base + 1.5, 5, f'{where}: {cells[MISSED][k]:,} of {cells[ROUNDS][k]:,} rounds missed'))
             if cells[LOSSES][k]:
@@ -319,19 +341,19 @@ class Picture:
         for thread in self.lanes.shown:
             base, colour = self.lanes.base[thread.name], self.lanes.colour[thread.name]
             name = thread.name if len(thread.name) <= 22 else thread.name[:21] + '…'
-            said = f'prio {thread.priority}, {short(thread.context.budget)}/{short(thread.context.period)}' + (f', due {short(thread.deadline)}' if thread.deadline else '')
+            said = self.label(thread)
             parts.append(f'<rect class="c{colour}" x="8" y="{base - BAR - 5}" width="4" height="{BAR + 9}"/>'
                          f'<text x="17" y="{base - 6}">{escaped(name)}<title>{escaped(thread.name)}: priority {thread.priority}, context {escaped(thread.context.name)}'
-                         f' with {thread.context.budget:,} in {thread.context.period:,}</title></text><text class="small" x="17" y="{base + 5}">{said}</text>')
+                         f' with {self.text(thread.context.budget)} in {self.text(thread.context.period)}</title></text><text class="small" x="17" y="{base + 5}">{said}</text>')
             if thread.name in self.lanes.plot_at:
                 budget = self.greatest_budget(thread)
-                parts.append(f'<text class="small" x="{LEFT - 8}" y="{self.lanes.plot_at[thread.name] + 10}" text-anchor="end">budget {short(budget)}</text>')
+                parts.append(f'<text class="small" x="{self.left - 8}" y="{self.lanes.plot_at[thread.name] + 10}" text-anchor="end">budget {self.unit.short(budget)} {self.unit.name}</text>')
         return ''.join(parts)
 
     def axis(self) -> str:
         parts = []
         for moment in self.scale.moments():
-            x, text = number(self.scale.x(moment)), self.frame.clock.text(moment, self.end)
+            x, text = number(self.scale.x(moment)), self.text(moment)
             parts.append(f'<path class="grid" d="M{x} {TOP - 6}V{self.lanes.bottom}"/>')
             parts += [f'<text class="small" x="{x}" y="{y}" text-anchor="middle">{text}</text>' for y in (TOP - 10, self.lanes.bottom + 12)]
         return ''.join(parts)
@@ -363,17 +385,17 @@ class Picture:
         joins = self.joins if self.frame.zooms or len(self.joins) <= JOINS else []
         self.drawn['join'] = len(joins)
         back, signs = self.background(), self.signs()
-        explained, high = legend.legend(self.drawn, self.column_width, self.lanes.bottom + 30, LEFT + self.scale.wide + RIGHT)
-        wide, tall = number(LEFT + self.scale.wide + RIGHT), self.lanes.bottom + 30 + high
-        clip = f'<rect x="{LEFT - 6}" y="{TOP - 8}" width="{number(self.scale.wide + 12)}" height="{self.lanes.bottom - TOP + 12}"/>'
-        data = {'a': self.begin, 'b': self.end, 'left': LEFT, 'wide': number(self.scale.wide), 'top': TOP, 'bottom': self.lanes.bottom,
+        explained, high = legend.legend(self.drawn, self.column_width, self.lanes.bottom + 30, self.left + self.scale.wide + RIGHT)
+        wide, tall = number(self.left + self.scale.wide + RIGHT), self.lanes.bottom + 30 + high
+        clip = f'<rect x="{self.left - 6}" y="{TOP - 8}" width="{number(self.scale.wide + 12)}" height="{self.lanes.bottom - TOP + 12}"/>'
+        data = {'a': self.begin, 'b': self.end, 'left': self.left, 'wide': number(self.scale.wide), 'top': TOP, 'bottom': self.lanes.bottom,
                 'single': int(self.column_width is None), 'tick': self.frame.clock.tick_us or ''}
         said = ' '.join(f'data-{key}="{value}"' for key, value in data.items())
         return '\n'.join([
             f'<svg xmlns="http://www.w3.org/2000/svg" width="{wide}" height="{tall}" viewBox="0 0 {wide} {tall}" role="img" {said}>',
             f'<title>{escaped(self.heading)}: {escaped(self.under)}</title>',
             f'<style>{style.style(self.frame.theme)}</style>',
-            f'<defs>{style.SIGNS}{self.order_forms}<clipPath id="plot">{clip}</clipPath></defs>',
+            f'<defs>{style.SIGNS}{style.patterns(self.lanes.colour.values())}{self.order_forms}<clipPath id="plot">{clip}</clipPath></defs>',
             f'<rect class="bg" width="100%" height="100%"/><text class="h" x="8" y="20">{escaped(self.heading)}</text>',
             f'<text class="small" x="8" y="35">{escaped(self.under)}</text>',
             f'<g clip-path="url(#plot)"><g class="z">{back}</g></g><g id="axis">{self.axis()}</g>',

@@ -1,13 +1,14 @@
 """Which lanes a picture has, and where: for each core one, and below it those of its threads by priority, each with its budget where it is plotted."""
 from __future__ import annotations
 
-from collections.abc import Collection
+from collections.abc import Collection, Iterable, Sequence
 from dataclasses import dataclass, field
 from typing import Optional
 
 from . import style
 from .faults import Fault
 from .system import System, Thread
+from .tally import Finding
 
 TOP = 62
 
@@ -30,13 +31,13 @@ class Lanes:
 def lanes_of(system: System, threads: Collection[str], plotted: Collection[str]) -> Lanes:
     lanes, at = Lanes(), TOP
     for core, own in system.by_core().items():
-        lanes.colour.update({thread.name: place % len(style.COLOURS) for place, thread in enumerate(own)})
         here = [thread for thread in own if thread.name in threads]
         if not here:
             continue
         lanes.core_at[core] = at
         at += style.CORE + 5
         for thread in here:
+            lanes.colour[thread.name] = len(lanes.colour) % style.LOOKS_OF_THREADS
             lanes.base[thread.name] = at + style.HEAD + style.BAR
             at += style.LANE
             if thread.name in plotted:
@@ -55,13 +56,22 @@ class Choice:
     threads: frozenset[str]
     left_out: int
 
+    @classmethod
+    def of(cls, asked: Sequence[str], findings: Iterable[Finding], most: int) -> Choice:
+        """Chooses among the threads that were asked for. If they are too many, those with findings come first."""
+        found = dict.fromkeys(finding.thread.name for finding in findings if finding.thread)
+        known = frozenset(asked)
+        first = [name for name in found if name in known] if len(asked) > most else []
+        ordered = list(dict.fromkeys([*first, *asked]))
+        return cls(frozenset(ordered[:most]), len(ordered[most:]))
+
 
 def names_in(asked: Optional[str]) -> Optional[list[str]]:
     return None if asked is None else [name for name in asked.split(',') if name]
 
 
-def choose(system: System, threads: Optional[str], cores: Optional[str], most: int) -> Choice:
-    """The threads and cores that are asked for, names with commas between; None asks for all."""
+def asked(system: System, threads: Optional[str], cores: Optional[str]) -> list[str]:
+    """Returns the threads that may have lanes, core by core. Names and numbers have commas between them; None asks for all."""
     names, numbers = names_in(threads), names_in(cores)
     for name in names or []:
         if name not in system.threads:
@@ -70,9 +80,8 @@ def choose(system: System, threads: Optional[str], cores: Optional[str], most: i
         if not (number.isascii() and number.isdigit() and int(number) < system.cores):
             raise Fault(f'there is no core {number!r}')
     cores_asked = None if numbers is None else {int(number) for number in numbers}
-    found = [thread.name for own in system.by_core().values() for thread in own
-             if (names is None or thread.name in names) and (cores_asked is None or thread.core in cores_asked)]
-    return Choice(frozenset(found[:most]), len(found[most:]))
+    return [thread.name for own in system.by_core().values() for thread in own
+            if (names is None or thread.name in names) and (cores_asked is None or thread.core in cores_asked)]
 
 
 FEW = 5

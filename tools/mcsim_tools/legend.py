@@ -6,7 +6,8 @@ from typing import NamedTuple, Optional
 
 from .style import BAR
 
-ROW, LETTER, SAMPLE, GAP = 26, 5.4, 26, 16
+# a line, a letter at most, a sample, and what is between two entries, in pixels
+ROW, LETTER, SAMPLE, GAP = 26, 6.6, 26, 14
 Draw = Callable[[int, int], str]
 
 
@@ -48,6 +49,7 @@ def items(drawn: Mapping[str, int], column_width: Optional[int]) -> list[Item]:
     is_single = column_width is None
     known = [
         (drawn.get('running') or drawn.get('on'), Item('running', box('running c0', BAR))),
+        (drawn.get('other'), Item('another thread, without a lane', box('other', BAR))),
         (drawn.get('ready'), Item('ready: waits for the core', box('ready c0', 7))),
         (drawn.get('throttled'), Item('throttled: waits for budget', hatched)),
         (drawn.get('blocked'), Item('blocked: waits for a signal' + (' or a server' if drawn.get('call') else ''), box('blocked', 1.6))),

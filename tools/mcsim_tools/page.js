@@ -38,7 +38,7 @@ class View {
       crowded: false,
       marks: [...lane.children].map(node => ({ node, x: +node.getAttribute("x"), sign: node.getAttribute("href").slice(1), bad: node.classList.contains("bad"), seen: true })) }));
     this.ends = [...svg.querySelectorAll("[data-end]")];
-    this.runs = [...svg.querySelectorAll("rect.on")].map(r => [+r.getAttribute("x"), +r.getAttribute("width"), +r.getAttribute("y"), r.dataset.n, r.dataset.c]);
+    this.runs = [...svg.querySelectorAll("g.C rect")].map(r => [+r.getAttribute("x"), +r.getAttribute("width"), +r.getAttribute("y"), r.dataset.n, r.dataset.c]);
     this.joins = [...svg.querySelectorAll("#joins .join")].map(j => +/M([\d.-]+)/.exec(j.getAttribute("d"))[1]);
   }
   x(drawn) { return this.left + (drawn - this.left) * this.k + this.e; }
@@ -90,7 +90,7 @@ class View {
     const names = document.createDocumentFragment();
     for (const [x, w, y, name, colour] of this.runs) {
       const a = Math.max(this.left, this.x(x)), b = Math.min(this.left + this.wide, this.x(x + w));
-      if (b - a > LETTER * name.length + 6) names.append(made("text", { class: "n" + colour, x: (a + b) / 2, y: y + 14, "text-anchor": "middle", "pointer-events": "none" }, name));
+      if (b - a > LETTER * name.length + 6) names.append(made("text", { class: colour, x: (a + b) / 2, y: y + 14, "text-anchor": "middle", "pointer-events": "none" }, name));
     }
     this.svg.querySelector("#labels").replaceChildren(names);
   }

@@ -7,6 +7,7 @@ from collections.abc import Sequence
 from typing import Optional
 
 from .reading import BLOCKED, DONE, PENDING, READY, RUNNING, STANDINGS, THROTTLED
+from .scale import Unit
 from .scene import Shown
 from .style import Theme
 from .system import Thread
@@ -41,31 +42,31 @@ def table_row(shown: Shown, thread: Thread, horizon: int) -> str:
     ])
 
 
-def finding_item(shown: Shown, finding: Finding) -> str:
+def finding_item(shown: Shown, finding: Finding, unit: Unit) -> str:
     """A finding that leads to the place where it is seen: in the picture, or in a close-up where the picture shows columns."""
     close_up = None if shown.is_single else shown.close_ups.of(finding)
     place = '' if close_up is None else f' data-close="{close_up}"'
     is_seen = shown.is_single and shown.scene.is_within(finding.begin, finding.end) or close_up is not None
     name = finding.thread.name if finding.thread else ''
-    said = f'<b>{finding.kind}</b> {finding.end:,} {escaped(finding.name)}: {escaped(finding.said)}'
+    said = f'<b>{finding.kind}</b> {unit.text(finding.end)} {escaped(finding.name)}: {escaped(finding.said(unit))}'
     look = '' if is_seen else ' class="far"'
     return f'<li{look} data-a="{finding.begin}" data-b="{finding.end}" data-name="{escaped(name)}"{place}>{said}</li>'
 
 
-def findings_list(shown: Shown) -> str:
-    items = [finding_item(shown, finding) for finding in shown.findings]
+def findings_list(shown: Shown, unit: Unit) -> str:
+    items = [finding_item(shown, finding, unit) for finding in shown.findings]
     if shown.left_out:
         items.append(f'<li class="more">and {shown.left_out:,} more, which the table counts</li>')
     return ''.join(items) or '<li class="more">nothing missed, overdue or lost</li>'
 
 
-def page(shown: Shown, svg: str, close_ups: Sequence[str], title: str, theme: Theme, horizon: int, live: Optional[int] = None) -> str:
+def page(shown: Shown, svg: str, close_ups: Sequence[str], title: str, theme: Theme, horizon: int, unit: Unit, live: Optional[int] = None) -> str:
     """The text of a page. A live one has a number, and follows the file that it shows."""
     templates = ''.join(f'<template id="close{number}">{text}</template>' for number, text in enumerate(close_ups))
     script = (HERE / 'page.js').read_text(encoding='utf-8') + ((HERE / 'live.js').read_text(encoding='utf-8') if live is not None else '')
     parts = {
         'TITLE': escaped(title), 'THEME': theme.value, 'PICTURE': str(live or ''), 'STYLE': (HERE / 'page.css').read_text(encoding='utf-8'), 'SCRIPT': script,
-        'TABLE': ''.join(table_row(shown, thread, horizon) for thread in shown.system.threads.values()), 'FOUND': findings_list(shown),
+        'TABLE': ''.join(table_row(shown, thread, horizon) for thread in shown.system.threads.values()), 'FOUND': findings_list(shown, unit),
         'COUNTS': escaped(shown.summary()), 'SVG': svg, 'CLOSE': templates,
     }
     head, *rest = (HERE / 'page.html').read_text(encoding='utf-8').split('@@')

@@ -25,23 +25,52 @@ def plain(number: decimal.Decimal) -> str:
     return text.rstrip('0').rstrip('.') if '.' in text else text
 
 
+def short(value: int) -> str:
+    for many, letter in ((10**9, 'G'), (10**6, 'M'), (10**3, 'k')):
+        if value >= 10 * many and value % (many // 10) == 0 or value >= many and value % many == 0:
+            return f'{value / many:g}{letter}'
+    return str(value)
+
+
 def unit(last: decimal.Decimal) -> tuple[decimal.Decimal, str]:
     """How many microseconds the unit of a picture has that ends so many microseconds after its begin, and its name."""
     return next((many, name) for least_above, many, name in UNITS if least_above is None or last < least_above)
 
 
 @dataclass(frozen=True)
+class Unit:
+    """The one unit in which a picture or a page writes times and lengths: ticks, or a unit of which a tick is this part."""
+
+    tick: Optional[decimal.Decimal] = None
+    name: str = ''
+
+    def bare(self, ticks: int) -> str:
+        """Returns the number alone."""
+        return f'{ticks:,}' if self.tick is None else plain(ticks * self.tick)
+
+    def text(self, ticks: int) -> str:
+        return self.bare(ticks) if self.tick is None else f'{self.bare(ticks)} {self.name}'
+
+    def short(self, ticks: int) -> str:
+        """Returns a bare number for a label: 10k for 10,000 ticks."""
+        return short(ticks) if self.tick is None else self.bare(ticks)
+
+
+TICKS = Unit()
+
+
+@dataclass(frozen=True)
 class Clock:
-    """How moments are written: as numbers of ticks, or in real units where a tick's microseconds are given."""
+    """The length of a tick in microseconds, if it is given."""
 
     tick_us: Optional[decimal.Decimal] = None
 
-    def text(self, moment: int, last: int) -> str:
-        """A moment, in the unit of a picture whose last moment is this."""
+    def unit(self, last: int) -> Unit:
+        """Returns the unit for a run that ends at this time."""
         if self.tick_us is None:
-            return f'{moment:,}'
+            return TICKS
         many, name = unit(last * self.tick_us)
-        return f'{plain(moment * self.tick_us / many)} {name}'
+        return Unit(self.tick_us / many, name)
 
 
 @dataclass(frozen=True)

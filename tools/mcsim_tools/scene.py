@@ -5,11 +5,13 @@ import collections
 from collections.abc import Collection, Iterable
 from typing import Any, NamedTuple, Optional, Union
 
-from .reading import DONE, LOST, PENDING, STANDINGS, Holding, Post, Reading, Round, Stood, UnderWay
+from .reading import DONE, LOST, PENDING, RUNNING, STANDINGS, Holding, Post, Reading, Round, Stood, UnderWay
 from .system import Context, System, Thread
 from .tally import Finding, Tally
 
 COLUMNS = 1200
+# where there are many threads, columns are fewer: cells of all together at most, but so many columns at least
+CELLS, LEAST_COLUMNS = 8_000_000, 120
 # what a column counts beside ticks in each standing
 ROUNDS, MISSED, LOSSES = range(len(STANDINGS), len(STANDINGS) + 3)
 # things that a close-up may look back to, and those that it may have
@@ -75,14 +77,21 @@ class Scene:
             things.clear()
 
 
+def others_on(core: int) -> str:
+    """The name under which the threads of a core that were not asked for are counted. No thread has a space in its name."""
+    return f'core {core}'
+
+
 class Columns:
     """Shares of time by columns of equal width over a window; while its end is open, the width doubles as the schedule goes on."""
 
     def __init__(self, threads: Iterable[str], begin: int, end: Optional[int]) -> None:
         self.begin, self.is_open = begin, end is None
-        self.width = 1 if end is None else max(1, -(-(end - begin) // COLUMNS))
-        self.many = 2 * COLUMNS if end is None else -(-max(1, end - begin) // self.width)
-        self.cells = {name: [[0] * self.many for _ in range(LOSSES + 1)] for name in threads}
+        names = list(threads)
+        columns = max(LEAST_COLUMNS, min(COLUMNS, CELLS // max(1, len(names) * (LOSSES + 1)))) // 2 * 2
+        self.width = 1 if end is None else max(1, -(-(end - begin) // columns))
+        self.many = 2 * columns if end is None else -(-max(1, end - begin) // self.width)
+        self.cells = {name: [[0] * self.many for _ in range(LOSSES + 1)] for name in names}
 
     def widen(self, moment: int) -> None:
         """Makes room for a moment, where the end is open."""
@@ -178,8 +187,10 @@ class Shown(Tally):
     def __init__(self, system: System, threads: Collection[str], begin: int, end: Optional[int], most: int, plotted: Collection[str]) -> None:
         super().__init__(system)
         self.threads, self.most = threads, most
+        # of the other threads on these cores a picture shows that they run
+        self.cores = {system.threads[name].core for name in threads}
         self.scene = Scene(threads, begin, end)
-        self.columns = Columns(threads, begin, end)
+        self.columns = Columns([*threads, *map(others_on, sorted(self.cores))], begin, end)
         self.close_ups = CloseUps(threads)
         self.is_single = True
         self.hears_holdings = plotted
@@ -206,14 +217,17 @@ class Shown(Tally):
     def stood(self, stood: Stood) -> None:
         super().stood(stood)
         thread, standing, begin, end, _ = stood
-        if thread.name not in self.threads:
-            return
+        name = thread.name
+        if name not in self.threads:
+            if standing != RUNNING or thread.core not in self.cores:
+                return
+            name = others_on(thread.core)
         if standing != PENDING and standing != DONE:
             self.keep(begin, end, stood)
         begin = max(begin, self.scene.begin)
         end = end if self.scene.end is None else min(end, self.scene.end)
         if begin < end:
-            self.columns.add_ticks(thread.name, standing, begin, end)
+            self.columns.add_ticks(name, standing, begin, end)
 
     def round_ended(self, ended: Round) -> None:
         # what is kept comes first: a finding's own close-up has it

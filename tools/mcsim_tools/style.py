@@ -6,6 +6,8 @@ draw it too."""
 from __future__ import annotations
 
 import enum
+from collections.abc import Iterable
+from typing import Optional
 
 BAR, HEAD, LANE, CORE, PLOT = 14, 10, 33, 20, 22
 # of each thread of a core in turn: the colour in the light, in the dark, and of a name on it
@@ -14,13 +16,16 @@ COLOURS = (
     ('#56B4E9', '#8ccdf2', '#000'), ('#F0E442', '#F0E442', '#000'),
 )
 YELLOW = 5
+# what is drawn over a colour, so that more threads than there are colours look different: nothing, and lines of these paths in a square of 6 pixels
+LINES = ('', 'M-1 1L1 -1M0 6L6 0M5 7L7 5', 'M-1 5L1 7M0 0L6 6M5 -1L7 1', 'M0 3H6')
+LOOKS_OF_THREADS = len(COLOURS) * len(LINES)
 RED, RED_IN_DARK = '#D5280B', '#ff4f38'
 
 LIGHT = """
 text{font:11px system-ui,-apple-system,"Segoe UI","DejaVu Sans",Arial,Helvetica,sans-serif;fill:#1f2328}
-.small{font-size:9.5px;fill:#59636e}.h{font-size:14px;font-weight:600}.b{font-weight:600}
+.small{fill:#59636e}.h{font-size:14px;font-weight:600}.b{font-weight:600}
 .bg{fill:#fff}.lane{fill:#f6f8fa}.core{fill:#e7eaee}.grid{stroke:#d8dde3;stroke-width:1}
-.ready{fill-opacity:.38}.hl{stroke:#6e7781;stroke-width:1.4}
+.ready{fill-opacity:.38}.hl{stroke:#6e7781;stroke-width:1.4}.other{fill:#b6bec7}.ql{stroke:#fff;stroke-width:1.6;stroke-opacity:.75;fill:none}
 .resp{fill:#57606a}.queued{fill:#57606a;fill-opacity:.45}.ink{fill:#1f2328;stroke:#1f2328}.soft{fill:#fff;stroke:#1f2328}
 .join{fill:none;stroke:#57606a;stroke-width:1;stroke-opacity:.55}
 .late{fill:@RED@}.bad{fill:@RED@;stroke:@RED@}.badtext{fill:@RED@;font-weight:600}
@@ -30,10 +35,10 @@ text{font:11px system-ui,-apple-system,"Segoe UI","DejaVu Sans",Arial,Helvetica,
 DARK = """
 text{fill:#e6edf3}.small{fill:#9aa4af}.bg{fill:#12161b}.lane{fill:#1a2027}.core{fill:#252d36}.grid{stroke:#303841}
 .ink{fill:#e6edf3;stroke:#e6edf3}.resp,.queued{fill:#b1bac4}.soft,.order{fill:#12161b;stroke:#e6edf3}.join{stroke:#b1bac4}.orderline{stroke:#e6edf3}
-.hl{stroke:#9aa4af}.late{fill:@RED@}.bad{fill:@RED@;stroke:@RED@}.badtext{fill:@RED@}
+.hl{stroke:#9aa4af}.other{fill:#4b5663}.ql{stroke:#12161b}.late{fill:@RED@}.bad{fill:@RED@;stroke:@RED@}.badtext{fill:@RED@}
 """
 # after the colours of threads: what is hatched or grey whoever stands so
-AFTER = '.throttled{fill:url(#hatch)}.blocked{fill:#8c959f}'
+AFTER = ''.join(f'.c{number}{{fill:url(#q{number})}}' for number in range(len(COLOURS), LOOKS_OF_THREADS)) + '.throttled{fill:url(#hatch)}.blocked{fill:#8c959f}'
 # yellow is faint on white
 YELLOW_EDGE = f'rect.c{YELLOW}{{stroke:#9a9000;stroke-width:.8;vector-effect:non-scaling-stroke}}'
 
@@ -63,6 +68,18 @@ ABOVE = ('up', 'down', 'hold', 'lost')
 
 class Theme(enum.Enum):
     AUTO, LIGHT, DARK = 'auto', 'light', 'dark'
+
+
+def patterns(used: Iterable[int]) -> str:
+    """The colours with lines over them that are used."""
+    plain = len(COLOURS)
+    return ''.join(f'<pattern id="q{number}" width="6" height="6" patternUnits="userSpaceOnUse"><rect width="6" height="6" class="c{number % plain}"/>'
+                   f'<path class="ql" d="{LINES[number // plain]}"/></pattern>' for number in sorted(set(used)) if number >= plain)
+
+
+def name_look(colour: Optional[int]) -> str:
+    """The class of a name that stands on a bar."""
+    return 'small' if colour is None else f'n{colour % len(COLOURS)}'
 
 
 def colours(place: int) -> str:

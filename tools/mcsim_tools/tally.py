@@ -5,6 +5,7 @@ import collections
 from typing import NamedTuple, Optional
 
 from .reading import LOST, MERGED, STANDINGS, Listener, Post, Round, Stood
+from .scale import TICKS, Unit
 from .system import System, Thread
 
 MISS, OVERDUE, LOSS, NEVER = 'miss', 'overdue', 'lost', 'never'
@@ -13,7 +14,7 @@ KEPT = 500
 
 
 class Finding(NamedTuple):
-    """What is wrong, from where to where; the thread in whose lane it is seen, where scripts tell."""
+    """What is wrong, from where to where; the thread in whose lane it is seen, if scripts tell. `form` has a place for each of the times."""
 
     kind: str
     core: int
@@ -21,7 +22,12 @@ class Finding(NamedTuple):
     end: int
     name: str
     thread: Optional[Thread]
-    said: str
+    form: str
+    times: tuple[int, ...] = ()
+
+    def said(self, unit: Unit = TICKS) -> str:
+        """Returns what is wrong in words, with its times in a unit."""
+        return self.form.format(*map(unit.text, self.times))
 
 
 class Counts:
@@ -74,15 +80,16 @@ class Tally(Listener):
             counts.greatest = response
         if 0 < thread.deadline < response:
             counts.missed += 1
-            said = f'round {number} took {response:,}, deadline {thread.deadline:,}'
-            self.find(Finding(MISS, thread.core, activated, end, thread.name, thread, said))
+            form = f'round {number} took {{}}, deadline {{}}'
+            self.find(Finding(MISS, thread.core, activated, end, thread.name, thread, form, (response, thread.deadline)))
 
     def round_open(self, open_round: Round) -> None:
         if open_round.is_overdue:
             thread = open_round.thread
             self.of[thread.name].is_overdue = True
-            said = f'activated at {open_round.activated:,} and not ended {open_round.response:,} later, deadline {thread.deadline:,}'
-            self.find(Finding(OVERDUE, thread.core, open_round.activated, open_round.end, thread.name, thread, said))
+            times = open_round.activated, open_round.response, thread.deadline
+            form = 'activated at {} and not ended {} later, deadline {}'
+            self.find(Finding(OVERDUE, thread.core, open_round.activated, open_round.end, thread.name, thread, form, times))
 
     def posted(self, post: Post) -> None:
         if post.outcome == LOST:
@@ -94,7 +101,8 @@ class Tally(Listener):
 
     def never(self, thread: Thread, horizon: int) -> None:
         self.of[thread.name].is_never = True
-        self.find(Finding(NEVER, thread.core, horizon, horizon, thread.name, thread, f'it has a deadline and was not activated once up to {horizon:,}'))
+        form = 'it has a deadline and was not activated once up to {}'
+        self.find(Finding(NEVER, thread.core, horizon, horizon, thread.name, thread, form, (horizon,)))
 
     def of_notes(self, counter: collections.Counter[str], thread: Thread) -> int:
         """A count of signals over the notifications on which a thread waits."""

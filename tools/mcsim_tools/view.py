@@ -84,17 +84,19 @@ def window_of(words: argparse.Namespace, reads_rows: bool) -> Window:
 def draw(told: Told, words: argparse.Namespace, window: Window, is_page: bool, live: Optional[int] = None) -> str:
     """The text of a picture, or of a page; a live page has a number."""
     system = told.system
-    choice = lanes.choose(system, words.threads, words.cores, words.lanes)
+    asked = lanes.asked(system, words.threads, words.cores)
     plotted = lanes.choose_budgets(system, words.budgets)
-    shown = Shown(system, choice.threads, window.begin, window.end, words.most, plotted)
+    shown = Shown(system, frozenset(asked), window.begin, window.end, words.most, plotted)
     reading = read(told, shown)
     shown.close(reading, window.end)
+    choice, unit = lanes.Choice.of(asked, shown.findings, words.lanes), Clock(words.tick_us).unit(reading.end)
     name, theme = printable(words.system.stem), Theme(words.theme)
-    frame = Frame(words.width, theme, Clock(words.tick_us), is_page)
+    frame = Frame(words.width, theme, Clock(words.tick_us), unit, is_page)
     begin, end = shown.scene.begin, shown.scene.last
     is_whole = (begin, end) == (0, reading.end)
-    under = f'{reading.end:,} ticks, {reading.count:,} rows: {shown.summary()}'
-    under = under if is_whole else f'moments {begin:,} to {end:,} of a run of {under}'
+    ticks = ' ticks' if words.tick_us is None else ''
+    under = f'{unit.text(reading.end)}{ticks}, {reading.count:,} rows: {shown.summary()}'
+    under = under if is_whole else f'{unit.text(begin)} to {unit.text(end)} of a run of {under}'
     under += f' (no lanes for {choice.left_out:,} threads: --threads, --cores, --lanes)' if choice.left_out else ''
     own = lanes.lanes_of(system, choice.threads, plotted if shown.is_single else ())
     picture = Picture(system, own, begin, end, frame, name, under)
@@ -105,7 +107,7 @@ def draw(told: Told, words: argparse.Namespace, window: Window, is_page: bool, l
     if not is_page:
         return picture.svg()
     close_ups = [] if shown.is_single else [close_up(shown, place, frame, name) for place in range(len(shown.close_ups.scenes))]
-    return page(shown, picture.svg(), close_ups, f'{name}: {under}', theme, reading.end, live)
+    return page(shown, picture.svg(), close_ups, f'{name}: {under}', theme, reading.end, unit, live)
 
 
 def close_up(shown: Shown, place: int, frame: Frame, name: str) -> str:
@@ -113,7 +115,7 @@ def close_up(shown: Shown, place: int, frame: Frame, name: str) -> str:
     finding, scene = shown.close_ups.scenes[place]
     threads = scene.threads if len(scene.threads) <= CLOSE_LANES else [name for name in scene.threads if shown.system.threads[name].core == finding.core]
     own = lanes.lanes_of(shown.system, threads, ())
-    under = f'moments {scene.begin:,} to {scene.last:,}, around: {finding.kind} {finding.name}, {finding.said}'
+    under = f'{frame.unit.text(scene.begin)} to {frame.unit.text(scene.last)}, around: {finding.kind} {finding.name}, {finding.said(frame.unit)}'
     picture = Picture(shown.system, own, scene.begin, scene.last, frame, name, under)
     picture.draw_scene(scene, shown.findings)
     return picture.svg()

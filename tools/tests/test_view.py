@@ -118,6 +118,44 @@ class SingleThings(unittest.TestCase):
         lanes = {group.get('data-core'): [rect.get('data-n') for rect in group] for group in svg.iter(f'{SVG}g') if group.get('class') == 'C'}
         self.assertEqual(lanes, {'0': ['W', 'W'], '1': ['D']})
 
+    def test_a_thread_without_a_lane_is_no_idle_time(self) -> None:
+        for most in ('20000', '3'):
+            svg = drawn(TAKEN, TAKEN_ROWS, '--horizon', '22', '--threads', 'H', '--most', most)
+            lane = next(group for group in svg.iter(f'{SVG}g') if group.get('class') == 'C')
+            self.assertEqual({one.attrib['class'] for one in lane}, {'other', 'on c0'})
+            self.assertIn('another thread, without a lane', text_of(svg, f"./{SVG}g[@id='legend']"))
+        svg = drawn(TAKEN, TAKEN_ROWS, '--horizon', '22', '--threads', 'H')
+        lane = next(group for group in svg.iter(f'{SVG}g') if group.get('class') == 'C')
+        # L runs from 0 to 3, from 10 to 13 and from 20 to 21, H from 4 to 5 and from 21 on
+        wanted = [('other', 0, 3), ('on', 4, 5), ('other', 10, 13), ('other', 20, 21), ('on', 21, 22)]
+        found = [(rect.attrib['class'].split()[0], float(rect.attrib['x']), float(rect.attrib['width'])) for rect in lane]
+        self.assertEqual(found, [(look, at(begin), 34.0 * (end - begin)) for look, begin, end in wanted])
+
+    def test_threads_with_findings_have_lanes_first(self) -> None:
+        names = {group.get('data-name') for group in drawn(PAIR, PAIR_ROWS, '--horizon', '12', '--lanes', '1').iter(f'{SVG}g') if group.get('class') == 'T'}
+        self.assertEqual(names, {'W'})
+        # L stands first, and H misses
+        names = {group.get('data-name') for group in drawn(TAKEN.replace('priority = 10', 'priority = 31'), TAKEN_ROWS, '--horizon', '22', '--lanes', '1').iter(f'{SVG}g')
+                 if group.get('class') == 'T'}
+        self.assertEqual(names, {'H'})
+
+    def test_one_unit_everywhere(self) -> None:
+        svg = drawn(ONE, ONE_ROWS, '--horizon', '12', '--tick-us', '2.5')
+        said = ''.join(svg.itertext())
+        # a budget of 2 in 5, a deadline of 10, a miss by 1
+        for text in ('system: 30 µs, 10 rows', 'prio 5, 5/12.5 µs, due 25 µs', 'A running 0 µs to 5 µs: 5 µs', 'response 27.5 µs, deadline 25 µs: missed by 2.5 µs'):
+            self.assertIn(text, said)
+
+    def test_colours_and_lines_tell_threads_apart(self) -> None:
+        names = [f'T{number}' for number in range(26)]
+        text = 'version = 1\ncores = 1\ndelay = 1\n' + ''.join(
+            f'[[context]]\nname = "{name}"\ncore = 0\nbudget = 1\nperiod = 9\n[[thread]]\nname = "{name}"\ncontext = "{name}"\npriority = 5\nscript = ["yield"]\n'
+            for name in names)
+        svg = drawn(text, '', '--horizon', '5')
+        looks = [rect.attrib['class'] for rect in svg.iter(f'{SVG}rect') if re.fullmatch(r'c\d+', rect.get('class', '')) and rect.get('width') == '4']
+        self.assertEqual(looks, [f'c{number % 24}' for number in range(26)])
+        self.assertEqual({pattern.attrib['id'] for pattern in svg.iter(f'{SVG}pattern')}, {'hatch', 'hatch0', *(f'q{number}' for number in range(6, 24))})
+
     def test_lanes_that_are_asked_for(self) -> None:
         names = [group.get('data-name') for group in drawn(PAIR, PAIR_ROWS, '--horizon', '12', '--cores', '1').iter(f'{SVG}g') if group.get('class') == 'T']
         self.assertEqual(names, ['D'])
@@ -193,10 +231,11 @@ class Scales(unittest.TestCase):
 
     def test_real_units(self) -> None:
         clock = Clock(decimal.Decimal('2.5'))
-        self.assertEqual([clock.text(moment, 100) for moment in (0, 1, 100)], ['0 µs', '2.5 µs', '250 µs'])
-        self.assertEqual(clock.text(1000, 4000), '2.5 ms')
-        self.assertEqual(clock.text(400_000, 4_000_000), '1 s')
-        self.assertEqual(Clock().text(1200, 4000), '1,200')
+        self.assertEqual([clock.unit(100).text(moment) for moment in (0, 1, 100)], ['0 µs', '2.5 µs', '250 µs'])
+        self.assertEqual(clock.unit(4000).text(1000), '2.5 ms')
+        self.assertEqual(clock.unit(4_000_000).text(400_000), '1 s')
+        self.assertEqual(Clock().unit(4000).text(1200), '1,200')
+        self.assertEqual([unit.short(20_000) for unit in (Clock().unit(20_000), clock.unit(20_000))], ['20k', '50'])
 
 
 class Tool(unittest.TestCase):
