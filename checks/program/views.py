@@ -8,6 +8,7 @@ from __future__ import annotations
 
 import collections
 import contextlib
+import json
 import os
 import pathlib
 import random
@@ -28,23 +29,42 @@ from checks.program.browser import Browser
 
 HORIZONS = (12, 60, 300)
 SYSTEMS = 12
+# all lanes are drawn, with every thing by itself; a lock that is free is held by nobody, as any word that nobody took
 COUNTED = """(() => {
-  const found = {}, svg = document.querySelector('#draw svg'), scale = svg.dataset.wide / (svg.dataset.b - svg.dataset.a);
+  const found = {}, scale = view.wide / view.span;
   const tell = (name, many) => found[name] = (found[name] || 0) + many;
-  for (const sign of document.querySelectorAll('#marks g.M use')) tell(sign.getAttribute('href').slice(1).replace(/-s$/, ''), 1);
+  Object.assign(view.drawer, { crowded: 0, most: Infinity });
+  view.isPrinting = true;
+  Object.assign(view, { lo: view.schedule.a, hi: view.schedule.a + view.span });
+  view.show();
+  for (const sign of document.querySelectorAll('#plot g.M use')) tell(sign.getAttribute('href').slice(1).replace(/-s$/, '').replace('free', 'hold'), 1);
   for (const lane of document.querySelectorAll('g.T')) for (const bar of lane.querySelectorAll('rect')) {
     const kind = bar.classList[0];
     tell(kind, 1);
     tell(lane.dataset.name + ' ' + kind, Math.round(bar.getAttribute('width') / scale));
   }
-  tell('on', document.querySelectorAll('rect.on').length);
+  tell('on', document.querySelectorAll('#plot rect.on').length);
+  for (const band of document.querySelectorAll('#plot g.S rect')) tell(band.classList[0], 1);
+  view.isPrinting = false;
   return found;
 })()"""
+IN_LANES = "(() => { const box = $('scroll').getBoundingClientRect(); return [view.left + view.wide / 2, box.top + 12]; })()"
+# whether the lane and the time of a finding are in view
+IS_SHOWN = """finding => {
+  const row = finding.thread < 0 ? view.rows.ofCore(finding.core) : view.rows.of(finding.thread), { scrollTop, clientHeight } = $('scroll');
+  const isLane = row && row.top + row.high > scrollTop && row.top < scrollTop + clientHeight;
+  return [findings.text(finding), !!isLane, view.lo <= finding.end && finding.end <= view.hi];
+}"""
+COUNTS = ('rounds', 'greatest', 'missed', 'lost', 'merged')
+STANDINGS = ('pending', 'ready', 'running', 'throttled', 'blocked', 'done')
+KINDS = ('miss', 'overdue', 'lost', 'never')
+TABLE = """Object.fromEntries(view.schedule.threads.map(thread =>
+  [thread.name, { ...thread, ...Object.fromEntries(view.schedule.standings.map((standing, place) => [standing, thread.stood[place]])) }]))"""
 DRAWN = 'new Promise(done => requestAnimationFrame(() => requestAnimationFrame(done)))'
-PLACE = "document.querySelector('#draw .z').getAttribute('transform')"
+PLACE = "[view.lo, view.hi].join()"
 A_BAR = """(() => {
-  const bars = [...document.querySelectorAll('g.T rect.running')].map(bar => bar.getBoundingClientRect());
-  const bar = bars.find(bar => bar.width > 3 && bar.bottom < innerHeight && bar.left > 176 && bar.right < innerWidth);
+  const bars = [...document.querySelectorAll('g.T rect.running')].map(bar => bar.getBoundingClientRect()), low = document.querySelector('#scroll').getBoundingClientRect().bottom;
+  const bar = bars.find(bar => bar.width > 3 && bar.bottom < low && bar.left > 176 && bar.right < innerWidth);
   return bar ? [bar.x + bar.width / 2, bar.bottom - 2] : null;
 })()"""
 TIP = "document.querySelector('#tip').style.display === 'block' ? document.querySelector('#tip').textContent : ''"
@@ -73,6 +93,7 @@ class Expected:
             self.stands(name, [row for row, last in zip(own, before) if row[2] != 'enter' or last[2] == 'stop' and last[4] == 'call'])
             self.rounds(name)
         self.signals()
+        self.servers()
         self.count['on'] = self.count['running']
 
     def standing(self, row: Row, after: Optional[Row]) -> Optional[str]:
@@ -149,10 +170,11 @@ class Expected:
 
     def signals(self) -> None:
         words = collections.Counter(self.firsts)
-        for before, row in zip([[''] * 3, *self.rows], self.rows):
-            # an interrupt that wakes is a sign in the lane of its thread
-            if row[2] == 'signal' or row[2] == 'wake' and before[2] == 'interrupt':
+        for row in self.rows:
+            if row[2] == 'signal':
                 self.count['made'] += 1
+            elif row[2] == 'interrupt' and row[4] in self.waited:
+                self.count['irq'] += 1
             elif row[2] == 'hold':
                 if row[3] in self.waited:
                     self.count['lost' if words[row[3]] == int(row[4]) else 'hold'] += 1
@@ -161,6 +183,21 @@ class Expected:
                 words[row[4]] = 0
             elif row[2] == 'order' and row[3] in self.with_thread:
                 self.count['order'] += 1
+
+
+    def servers(self) -> None:
+        """Who is inside a server, and who waited until it was let in. Nothing is drawn of what takes no time."""
+        inside: dict[str, int] = {}
+        waits: dict[str, int] = {}
+        for moment, _, kind, *rest in self.rows:
+            if kind == 'enter':
+                inside[rest[1]] = int(moment)
+                self.count['waits'] += rest[0] in waits and waits.pop(rest[0]) < int(moment)
+            elif kind == 'leave':
+                self.count['inside'] += inside.pop(rest[1]) < int(moment)
+            elif kind == 'stop' and rest[1] == 'call':
+                waits[rest[0]] = int(moment)
+        self.count['inside'] += sum(begin < self.horizon for begin in inside.values())
 
 
 def is_apart(kind: str) -> bool:
@@ -189,22 +226,56 @@ def hands(page: Browser, horizon: int) -> list[str]:
         page.value(DRAWN)
         if not page.value(TIP):
             found.append('a bar that is pointed at tells nothing')
-    all_ = page.value(PLACE)
-    page.wheel(600, 200, -600)
+    all_, (x, y) = page.value(PLACE), page.value(IN_LANES)
+    page.wheel(x, y, -600)
     page.value(DRAWN)
     near = page.value(PLACE)
-    for kind, x, buttons in (('mousePressed', 600, 1), ('mouseMoved', 680, 1), ('mouseReleased', 680, 0)):
-        page.mouse(kind, x, 200, button='left', clickCount=1, buttons=buttons)
+    for kind, by, buttons in (('mousePressed', 0, 1), ('mouseMoved', 80, 1), ('mouseReleased', 80, 0)):
+        page.mouse(kind, x + by, y, button='left', clickCount=1, buttons=buttons)
     page.value(DRAWN)
     if horizon > 60 and not all_ != near != page.value(PLACE):
         found.append('the wheel does not zoom, or the hand does not move')
     if page.value(COUNTED) != before:
         found.append('zooming changes what is drawn')
-    page.value("document.querySelector('#found li[data-a]:not(.far)')?.click()")
-    page.value("document.querySelector('#table tbody tr').dispatchEvent(new Event('mouseover', { bubbles: true }))")
+    found += chosen(page)
+    page.value("document.querySelector('#threads tbody tr').dispatchEvent(new Event('mouseover', { bubbles: true }))")
     if page.value("document.querySelectorAll('.lane.hi').length") < 1:
         found.append('a thread of the table has no lane')
     return found + page.faults()
+
+
+def chosen(page: Browser, most: int = 12) -> list[str]:
+    """What goes wrong where findings are clicked: each brings its lane and its time, whatever is in view before."""
+    found = []
+    for place in range(min(most, page.value("document.querySelectorAll('#list .finding').length"))):
+        page.value(f"document.querySelectorAll('#list .finding')[{place}].click()")
+        page.value(DRAWN)
+        said, is_lane, is_time = page.value(f'({IS_SHOWN})(findings.list[{place}])')
+        if not is_lane:
+            found.append(f'{said}: a click does not bring its lane')
+        if not is_time:
+            found.append(f'{said}: a click does not bring its time')
+    return found
+
+
+def told(page: Browser, checker: pathlib.Path, system: pathlib.Path, horizon: int) -> list[str]:
+    """How the table and the findings of a page differ from what mcscheck says of the same run."""
+    ran = common.run([checker, system, '--horizon', str(horizon), '--format', 'json'])
+    lines = [json.loads(line) for line in ran.stdout.decode().splitlines()]
+    threads = {line['thread']: line for line in lines if line['kind'] == 'thread'}
+    findings = [[line['kind'], line['moment'], line.get('thread') or line.get('note')] for line in lines if line['kind'] in KINDS]
+    rows: dict[str, dict[str, Any]] = page.value(TABLE)
+    said = []
+    for name, line in threads.items():
+        # a thread that was woken last may be ready or throttled, which rows alone do not say
+        wanted = {key: line[key] for key in COUNTS if key in line}
+        wanted |= {key: line[f'ticks_{key}'] for key in STANDINGS if not line['ticks_woken']}
+        shown = {key: rows[name][key] for key in wanted}
+        if shown != wanted:
+            said.append(f'the table has {shown} of {name}, and mcscheck {wanted}')
+    if sorted(page.value('findings.list.map(one => [one.kind, one.end, one.name])')) != sorted(findings):
+        said.append('the findings are not those of mcscheck')
+    return said
 
 
 # what the live page says: how many bars show a thread that runs, and its fault
@@ -235,6 +306,7 @@ def try_live(page: Browser, program: pathlib.Path, folder: pathlib.Path, count: 
     file.write_text(text)
     with live_page(file, program) as address:
         page.open(address)
+        page.value('ready')
         for text, wanted in saved:
             file.write_text(text)
             until = time.monotonic() + FOLLOWS
@@ -249,6 +321,7 @@ class Trial:
 
     def __init__(self, program: pathlib.Path, page: Browser, folder: pathlib.Path) -> None:
         self.program, self.page, self.folder, self.count, self.counted = program, page, folder, Count(), 0
+        self.checker = common.checker_of(program)
 
     def drawn(self, system: pathlib.Path, horizon: int) -> common.Ran:
         words: list[Word] = [sys.executable, TOP / 'tools' / 'view', system, '--horizon', str(horizon), '-o', self.folder / 'page.html']
@@ -266,9 +339,11 @@ class Trial:
 
     def seen(self, system: pathlib.Path, text: str, horizon: int) -> list[str]:
         self.page.open((self.folder / 'page.html').as_uri())
+        self.page.value('ready')
         counted: dict[str, Any] = self.page.value(COUNTED)
         self.counted += sum(many for kind, many in counted.items() if ' ' not in kind)
-        return differences(counted, Expected(system.read_bytes(), text, horizon).count) + hands(self.page, horizon)
+        found = differences(counted, Expected(system.read_bytes(), text, horizon).count) + hands(self.page, horizon)
+        return found + (told(self.page, self.checker, system, horizon) if self.checker else [])
 
 
 def main() -> None:

@@ -1,4 +1,4 @@
-"""The one drawer: a scene, or the columns of a long window, as an SVG. A page holds the same SVG and zooms it."""
+"""The drawer of pictures: a scene, or the columns of a long window, as an SVG. A page draws by its own scripts, with the same style and signs."""
 from __future__ import annotations
 
 import collections
@@ -9,7 +9,7 @@ from typing import Optional
 from . import legend, style
 from .lanes import TOP, Lanes
 from .reading import BLOCKED, HELD, LOST, MERGED, READY, RUNNING, STANDINGS, THROTTLED, WOKE, Post, Round, Stood
-from .scale import TICKS, Clock, Scale, Unit
+from .scale import TICKS, Scale, Unit
 from .scene import LOSSES, MISSED, ROUNDS, Columns, Held, Scene, others_on
 from .style import BAR, CORE, HEAD, PLOT, Theme
 from .system import System, Thread
@@ -18,7 +18,7 @@ from .tally import NEVER, OVERDUE, Finding
 LEFT, RIGHT = 176, 64
 # pixels of a tick at most, of a picture at least
 WIDEST_TICK, NARROWEST = 34.0, 320.0
-# more lines between lanes hide the lanes; a page shows them from some zoom on
+# more lines between lanes hide the lanes
 JOINS = 160
 # where the signs above a bar, more than a few, stand closer on average, they are small and leave the bar free
 CROWDED, FEW = 18.0, 4
@@ -39,13 +39,11 @@ def number(value: float) -> str:
 
 @dataclass(frozen=True)
 class Frame:
-    """How a picture is asked for. One that zooms is for a page."""
+    """How a picture is asked for."""
 
     width: int = 1200
     theme: Theme = Theme.AUTO
-    clock: Clock = Clock()
     unit: Unit = TICKS
-    zooms: bool = False
 
 
 @dataclass
@@ -69,7 +67,7 @@ class Picture:
         self.unit = frame.unit
         self.left = max(LEFT, *(int(28 + LETTER * .92 * len(self.label(thread))) for thread in lanes.shown), 0)
         self.scale = Scale(begin, end, self.left, wide)
-        # what stretches with a zoom: bars by lane, and lines between lanes
+        # bars by lane, and lines between lanes
         self.bars: list[str] = []
         self.joins: list[str] = []
         self.marks: dict[str, list[Mark]] = collections.defaultdict(list)
@@ -152,12 +150,12 @@ class Picture:
         colour = self.lanes.colour.get(name)
         top = self.lanes.core_at[core]
         begin, end = max(stood.begin, self.begin), min(stood.end, self.end)
-        if not self.frame.zooms and (end - begin) * self.scale.tick > LETTER * len(name) + 6:
+        if (end - begin) * self.scale.tick > LETTER * len(name) + 6:
             middle = (self.scale.x(begin) + self.scale.x(end)) / 2
             self.labels.append(f'<text class="{style.name_look(colour)}" x="{number(middle)}" y="{top + 14}" text-anchor="middle">{escaped(name)}</text>')
         said = f'core {core}: {name} {self.span(stood.begin, stood.end)}'
         look = 'other' if colour is None else f'on c{colour}'
-        return self.bar(look, begin, end, top, CORE, said, f' data-n="{escaped(name)}" data-c="{style.name_look(colour)}"')
+        return self.bar(look, begin, end, top, CORE, said, f' data-n="{escaped(name)}"')
 
     def round(self, one: Round) -> list[str]:
         """The line of a response from the activation on, with what is beyond the deadline in red, and the signs at its ends."""
@@ -192,12 +190,12 @@ class Picture:
             self.mark(maker.name, 'made', 'ink', post.made, said)
         if not thread or thread.name not in base:
             return
+        if post.source:
+            self.mark(thread.name, 'interrupt', 'bad' if post.outcome == LOST else 'ink', post.arrived, said)
         if post.outcome in (HELD, MERGED):
             self.mark(thread.name, 'hold', 'soft', post.arrived, said)
         elif post.outcome == LOST:
             self.mark(thread.name, 'lost', 'bad', post.arrived, said)
-        elif post.source:
-            self.mark(thread.name, 'interrupt', 'ink', post.arrived, said)
         if maker and maker.name in base and maker is not thread and post.made >= self.begin and post.arrived <= self.end:
             self.joins.append(self.join(post, base[maker.name], base[thread.name], said))
 
@@ -207,7 +205,7 @@ class Picture:
         bend = (low - top) / 2
         begin, end = number(self.scale.x(post.made)), number(self.scale.x(post.arrived))
         path = f'M{begin} {number(top)}C{begin} {number(top + bend)} {end} {number(low - bend)} {end} {number(low)}'
-        return f'<path class="join" vector-effect="non-scaling-stroke" d="{path}"><title>{escaped(said)}</title></path>'
+        return f'<path class="join" d="{path}"><title>{escaped(said)}</title></path>'
 
     def orders(self, scene: Scene) -> None:
         heights = {}
@@ -218,7 +216,7 @@ class Picture:
             core = context.core
             heights[core] = max(self.lanes.base[one.name] for one in self.lanes.on(core)) - self.lanes.core_at[core] + 6
             self.mark(thread.name, 'order', 'order', moment, f'order for context {context.name} at {self.text(moment)}')
-            self.order_lines.append(f'<use class="m orderline" href="#ol{core}" x="{number(self.scale.x(moment))}" y="{self.lanes.core_at[core]}"/>')
+            self.order_lines.append(f'<use class="orderline" href="#ol{core}" x="{number(self.scale.x(moment))}" y="{self.lanes.core_at[core]}"/>')
         self.order_forms = ''.join(f'<path id="ol{core}" d="M0 0V{height}"/>' for core, height in heights.items())
 
     order_forms = ''
@@ -231,7 +229,7 @@ class Picture:
                 self.drawn[finding.kind] += 1
                 at = f'x="{number(self.left + self.scale.wide + 6)}" y="{self.lanes.base[finding.thread.name] + 3}"'
                 title = f'<title>{escaped(finding.name)}: {escaped(finding.said)}</title>'
-                self.names.append(f'<text class="badtext" data-end="{min(finding.end, self.end)}" {at}>{word}{title}</text>')
+                self.names.append(f'<text class="badtext" {at}>{word}{title}</text>')
 
     # ---- what contexts hold
 
@@ -363,10 +361,10 @@ class Picture:
         return above > FEW and self.scale.wide < CROWDED * above
 
     def signs(self) -> str:
-        """The signs by lane. A page decides itself which lanes are crowded, as it zooms."""
+        """The signs by lane."""
         parts = []
         for name, marks in self.marks.items():
-            is_crowded = not self.frame.zooms and self.is_crowded(marks)
+            is_crowded = self.is_crowded(marks)
             uses = []
             for mark in marks:
                 sign, is_bad = mark.sign, mark.look == 'bad'
@@ -377,29 +375,26 @@ class Picture:
                 small = '-s' if is_crowded and sign in style.SMALL else ''
                 x, title = number(self.scale.x(mark.moment)), f'<title>{escaped(mark.said)}</title>'
                 form = style.LOOKS.get(sign, sign)
-                uses.append(f'<use class="m {mark.look}" href="#{form}{small}" x="{x}" y="{mark.base}">{title}</use>')
+                uses.append(f'<use class="{mark.look}" href="#{form}{small}" x="{x}" y="{mark.base}">{title}</use>')
             parts.append(f'<g class="M" data-name="{escaped(name)}">{"".join(uses)}</g>')
         return ''.join(parts)
 
     def svg(self) -> str:
-        joins = self.joins if self.frame.zooms or len(self.joins) <= JOINS else []
+        joins = self.joins if len(self.joins) <= JOINS else []
         self.drawn['join'] = len(joins)
         back, signs = self.background(), self.signs()
         explained, high = legend.legend(self.drawn, self.column_width, self.lanes.bottom + 30, self.left + self.scale.wide + RIGHT)
         wide, tall = number(self.left + self.scale.wide + RIGHT), self.lanes.bottom + 30 + high
         clip = f'<rect x="{self.left - 6}" y="{TOP - 8}" width="{number(self.scale.wide + 12)}" height="{self.lanes.bottom - TOP + 12}"/>'
-        data = {'a': self.begin, 'b': self.end, 'left': self.left, 'wide': number(self.scale.wide), 'top': TOP, 'bottom': self.lanes.bottom,
-                'single': int(self.column_width is None), 'tick': self.frame.clock.tick_us or ''}
-        said = ' '.join(f'data-{key}="{value}"' for key, value in data.items())
         return '\n'.join([
-            f'<svg xmlns="http://www.w3.org/2000/svg" width="{wide}" height="{tall}" viewBox="0 0 {wide} {tall}" role="img" {said}>',
+            f'<svg xmlns="http://www.w3.org/2000/svg" width="{wide}" height="{tall}" viewBox="0 0 {wide} {tall}" role="img">',
             f'<title>{escaped(self.heading)}: {escaped(self.under)}</title>',
             f'<style>{style.style(self.frame.theme)}</style>',
             f'<defs>{style.SIGNS}{style.patterns(self.lanes.colour.values())}{self.order_forms}<clipPath id="plot">{clip}</clipPath></defs>',
             f'<rect class="bg" width="100%" height="100%"/><text class="h" x="8" y="20">{escaped(self.heading)}</text>',
             f'<text class="small" x="8" y="35">{escaped(self.under)}</text>',
-            f'<g clip-path="url(#plot)"><g class="z">{back}</g></g><g id="axis">{self.axis()}</g>',
-            f'<g clip-path="url(#plot)"><g class="z">{"".join(self.bars)}</g><g id="joins" class="z">{"".join(joins)}</g>',
+            f'<g clip-path="url(#plot)"><g>{back}</g></g><g id="axis">{self.axis()}</g>',
+            f'<g clip-path="url(#plot)"><g>{"".join(self.bars)}</g><g id="joins">{"".join(joins)}</g>',
             f'<g id="marks">{"".join(self.order_lines)}{signs}</g><g id="labels">{"".join(self.labels)}</g></g>',
             f'<g id="names">{self.lane_names()}{"".join(self.names)}</g><g id="legend">{explained}</g></svg>',
             ''])

@@ -4,9 +4,13 @@ from __future__ import annotations
 from collections.abc import Callable, Mapping
 from typing import NamedTuple, Optional
 
+from .packing import OUTCOMES, Packed
+from .reading import BLOCKED, HELD, LOST, MERGED, READY, RUNNING, STANDINGS, THROTTLED
 from .style import BAR
+from .tally import MISS, OVERDUE
 
-# a line, a letter at most, a sample, and what is between two entries, in pixels
+HELD_BACK = (OUTCOMES.index(HELD), OUTCOMES.index(MERGED))
+# pixels of a line of the legend, of a letter at most, of a sample, and between two entries
 ROW, LETTER, SAMPLE, GAP = 26, 6.6, 26, 14
 Draw = Callable[[int, int], str]
 
@@ -61,14 +65,36 @@ def items(drawn: Mapping[str, int], column_width: Optional[int]) -> list[Item]:
         (drawn.get('late') and not is_single, Item('below a lane: rounds missed; above it: signals lost', box('late', 4))),
         (drawn.get('join'), Item('signal, joined to where it takes effect', both(line, dot))),
         (drawn.get('made') and not drawn.get('join'), Item('signal made', dot)),
-        (drawn.get('interrupt'), Item('interrupt that wakes a thread', dot)),
+        (drawn.get('interrupt'), Item('interrupt', sign('irq', 'ink', BAR))),
         (drawn.get('hold'), Item('held: nobody waits yet', sign('hold', 'soft', BAR + 2))),
+        (drawn.get('free'), Item('lock given back: it is free', sign('free', 'soft', BAR + 2))),
         (drawn.get('lost'), Item('lost: its bits are held already', sign('lost', 'bad', BAR + 1))),
         (drawn.get('order'), Item('order of SchedControl', sign('order', 'order', BAR - 1))),
+        (drawn.get('served'), Item('a server: who is inside, and below who waits', both(box('on c0', BAR, up=2), box('waits c1', 5, up=-8)))),
         (drawn.get('plot'), Item('budget: to be used now, coming back', both(box('use c0', 7, up=-3), box('come1', 7, up=4)))),
         (not is_single, Item(f'each column is {column_width:,} ticks, and shows shares of them' if column_width else '', lambda x, y: '')),
     ]
     return [item for is_there, item in known if is_there]
+
+
+def of_page(packed: Packed, has_others: bool) -> dict[str, int]:
+    """What a page may show of a schedule."""
+    outcomes, stood = packed.posts[6::9], [sum(counts.stood[standing] for counts in packed.of.values()) for standing in range(len(STANDINGS))]
+    rounds, has_deadlines = sum(counts.rounds for counts in packed.of.values()), any(thread.deadline for thread in packed.threads)
+    locks = set(packed.locks())
+    is_late = any(packed.found[kind] for kind in (MISS, OVERDUE))
+    return {
+        'running': stood[RUNNING], 'other': has_others, 'ready': stood[READY], 'throttled': stood[THROTTLED], 'blocked': stood[BLOCKED],
+        'call': any(packed.queued.values()), 'up': rounds, 'down': has_deadlines, 'left out': True, 'resp': rounds, 'queued': outcomes.count(OUTCOMES.index(HELD)),
+        'late': is_late, 'join': any(packed.posts[2::9]), 'interrupt': any(packed.posts[7::9]), 'hold': any(outcome in HELD_BACK and note not in locks for outcome, note in zip(outcomes, packed.posts[4::9])),
+        'free': any(outcome in HELD_BACK and note in locks for outcome, note in zip(outcomes, packed.posts[4::9])),
+        'lost': outcomes.count(OUTCOMES.index(LOST)), 'order': len(packed.orders), 'plot': any(packed.held), 'served': any(packed.served.values()),
+    }
+
+
+def legend_of_page(packed: Packed, has_others: bool) -> str:
+    """The legend of a page: each entry with its own small picture, so that they flow as the window allows."""
+    return ''.join(f'<span><svg width="24" height="26" aria-hidden="true">{draw(3, 17)}</svg>{text}</span>' for text, draw in items(of_page(packed, has_others), None))
 
 
 def legend(drawn: Mapping[str, int], column_width: Optional[int], top: int, wide: float) -> tuple[str, int]:

@@ -1,4 +1,4 @@
-// The live page: asks for the number of the picture, and where that is another takes the new picture, table and findings, with the window that is in view.
+// The live page: asks for the number of the picture, and takes the new one when that is another, with the window and the lanes that are in view.
 const EVERY = 300;
 let shown = +document.documentElement.dataset.picture;
 function fault(text) {
@@ -6,25 +6,21 @@ function fault(text) {
   $("fault").textContent = text ?? "";
   $("draw").classList.toggle("stale", !!text);
 }
-function renew(text) {
+async function renew(text) {
   const page = new DOMParser().parseFromString(text, "text/html"), old = view;
-  const wasAll = Math.abs(old.k - old.least) < 1e-6, window_ = [old.at(old.left), old.at(old.left + old.wide)];
-  for (const id of ["draw", "below", "close"]) $(id).replaceChildren(...page.getElementById(id).childNodes);
   document.title = page.title;
+  $("legend").replaceChildren(...page.getElementById("legend").childNodes);
+  await begin(page, old);
   shown = +page.documentElement.dataset.picture;
-  whole = null;
-  $("back").hidden = true;
-  attach();
-  if (!wasAll && view.a === old.a && view.b === old.b) view.window(...window_);
 }
 async function follow() {
   try {
     const state = await (await fetch("/state")).json();
-    if (state.picture !== shown) renew(await (await fetch("/")).text());
+    if (state.picture !== shown) await renew(await (await fetch("/")).text());
     fault(state.fault);
   } catch {
     fault("live has ended");
   }
   setTimeout(follow, EVERY);
 }
-follow();
+ready.then(follow);

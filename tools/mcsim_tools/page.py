@@ -1,73 +1,71 @@
-"""A page: the picture of the drawer, which it zooms, with the table of threads and the findings. One file, nothing from a network."""
+"""A page: one file, nothing from a network. It holds a schedule as numbers, and its scripts draw what is in view."""
 from __future__ import annotations
 
 import html
+import json
 import pathlib
-from collections.abc import Sequence
-from typing import Optional
+from collections.abc import Mapping
+from typing import Any, Optional
 
-from .reading import BLOCKED, DONE, PENDING, READY, RUNNING, STANDINGS, THROTTLED
+from . import style
+from .legend import legend_of_page
+from .packing import Packed
+from .reading import STANDINGS
 from .scale import Unit
-from .scene import Shown
 from .style import Theme
 from .system import Thread
-from .tally import Finding
 
 HERE = pathlib.Path(__file__).resolve().parent
-BAR_PARTS = ((RUNNING, 'run'), (READY, 'rdy'), (THROTTLED, 'thr'), (BLOCKED, 'blk'), (PENDING, 'non'), (DONE, 'non'))
+# in the order in which the page runs them
+SCRIPTS = ('page_data.js', 'page_lanes.js', 'page_draw.js', 'page_view.js', 'page_overview.js', 'page_lists.js', 'page.js')
 
 
 def escaped(text: object) -> str:
     return html.escape(str(text), quote=True)
 
 
-def cell(count: int) -> str:
-    """A count of what should not be."""
-    return f'<td class="bad">{count:,}</td>' if count else '<td>0</td>'
+def script_json(value: object) -> str:
+    """JSON that may stand within a script element."""
+    return json.dumps(value, ensure_ascii=False, separators=(',', ':')).replace('<', '\\u003c')
 
 
-def table_row(shown: Shown, thread: Thread, horizon: int) -> str:
-    counts, context, all_ticks = shown.of[thread.name], thread.context, max(1, horizon)
-    margin = thread.deadline - counts.greatest if thread.deadline and counts.rounds else None
-    bar = ''.join(f'<i class="{look}" style="width:{100 * counts.stood[standing] / all_ticks:.3f}%" title="{STANDINGS[standing]} {counts.stood[standing]:,}"></i>'
-                  for standing, look in BAR_PARTS if counts.stood[standing])
-    late = 'never activated' if counts.is_never else 'overdue' if counts.is_overdue else ''
-    return ''.join([
-        f'<tr data-name="{escaped(thread.name)}"><th>{escaped(thread.name)}</th><td>{thread.core}</td><td>{thread.priority}</td>',
-        f'<td>{context.budget:,}/{context.period:,}</td><td>{context.budget / context.period:.1%}</td><td>{counts.stood[RUNNING] / all_ticks:.1%}</td>',
-        f'<td>{counts.rounds:,}</td><td>{f"{counts.greatest:,}" if counts.rounds else "–"}</td><td>{f"{thread.deadline:,}" if thread.deadline else "–"}</td>',
-        f'<td{" class=bad" if margin is not None and margin < 0 else ""}>{"–" if margin is None else f"{margin:,}"}</td>',
-        cell(counts.missed), f'<td class="bad">{late}</td>' if late else '<td>–</td>',
-        cell(shown.of_notes(shown.lost, thread)), f'<td>{shown.of_notes(shown.merged, thread):,}</td><td class="bar">{bar}</td></tr>',
-    ])
+def thread_words(packed: Packed, thread: Thread) -> dict[str, Any]:
+    """What the page has of a thread, with its counts over the whole run."""
+    counts, context = packed.of[thread.name], thread.context
+    return {
+        'name': thread.name, 'core': thread.core, 'prio': thread.priority, 'context': context.name, 'budget': context.budget, 'period': context.period,
+        'deadline': thread.deadline, 'rounds': counts.rounds, 'greatest': counts.greatest, 'missed': counts.missed,
+        'open': 'never activated' if counts.is_never else 'overdue' if counts.is_overdue else '', 'lost': packed.of_notes(packed.lost, thread),
+        'merged': packed.of_notes(packed.merged, thread), 'stood': counts.stood,
+    }
 
 
-def finding_item(shown: Shown, finding: Finding, unit: Unit) -> str:
-    """A finding that leads to the place where it is seen: in the picture, or in a close-up where the picture shows columns."""
-    close_up = None if shown.is_single else shown.close_ups.of(finding)
-    place = '' if close_up is None else f' data-close="{close_up}"'
-    is_seen = shown.is_single and shown.scene.is_within(finding.begin, finding.end) or close_up is not None
-    name = finding.thread.name if finding.thread else ''
-    said = f'<b>{finding.kind}</b> {unit.text(finding.end)} {escaped(finding.name)}: {escaped(finding.said(unit))}'
-    look = '' if is_seen else ' class="far"'
-    return f'<li{look} data-a="{finding.begin}" data-b="{finding.end}" data-name="{escaped(name)}"{place}>{said}</li>'
+def data(packed: Packed, unit: Unit, heading: Mapping[str, Any]) -> dict[str, Any]:
+    """All that the page knows but for the arrays."""
+    place = packed.place
+    return {
+        **heading, 'a': packed.begin, 'b': packed.end, 'detail': packed.detail, 'tick': None if unit.tick is None else float(unit.tick), 'unit': unit.name,
+        'cores': packed.system.cores, 'threads': [thread_words(packed, thread) for thread in packed.threads], 'standings': STANDINGS,
+        'notes': packed.notes, 'sources': packed.sources, 'servers': packed.servers, 'serverCores': packed.server_cores(), 'locks': packed.locks(),
+        'findings': [[one.kind, one.core, one.begin, one.end, one.name, place[one.thread.name] if one.thread else -1, one.said(unit)] for one in packed.findings],
+        'more': packed.left_out, 'summary': packed.summary(),
+        'open': [[place[one.thread.name], one.activated, one.begun, one.end] for one in packed.open_rounds],
+        'sent': [[note, place[signal.maker.name], signal.made] for note, signal in packed.sent if signal.maker],
+        'orders': [[place[packed.system.thread_of[context.name].name], moment, context.name] for context, moment in packed.orders
+                   if context.name in packed.system.thread_of],
+        'columns': None if packed.columns is None else [packed.columns.begin, packed.columns.width, packed.columns.many],
+    }
 
 
-def findings_list(shown: Shown, unit: Unit) -> str:
-    items = [finding_item(shown, finding, unit) for finding in shown.findings]
-    if shown.left_out:
-        items.append(f'<li class="more">and {shown.left_out:,} more, which the table counts</li>')
-    return ''.join(items) or '<li class="more">nothing missed, overdue or lost</li>'
-
-
-def page(shown: Shown, svg: str, close_ups: Sequence[str], title: str, theme: Theme, horizon: int, unit: Unit, live: Optional[int] = None) -> str:
+def page(packed: Packed, unit: Unit, heading: Mapping[str, Any], theme: Theme, live: Optional[int] = None) -> str:
     """The text of a page. A live one has a number, and follows the file that it shows."""
-    templates = ''.join(f'<template id="close{number}">{text}</template>' for number, text in enumerate(close_ups))
-    script = (HERE / 'page.js').read_text(encoding='utf-8') + ((HERE / 'live.js').read_text(encoding='utf-8') if live is not None else '')
+    scripts = [*SCRIPTS, 'live.js'] if live is not None else SCRIPTS
+    arrays, parts_of_arrays = packed.text()
     parts = {
-        'TITLE': escaped(title), 'THEME': theme.value, 'PICTURE': str(live or ''), 'STYLE': (HERE / 'page.css').read_text(encoding='utf-8'), 'SCRIPT': script,
-        'TABLE': ''.join(table_row(shown, thread, horizon) for thread in shown.system.threads.values()), 'FOUND': findings_list(shown, unit),
-        'COUNTS': escaped(shown.summary()), 'SVG': svg, 'CLOSE': templates,
+        'TITLE': escaped(heading['title']), 'THEME': theme.value, 'PICTURE': str(live or ''),
+        'STYLE': style.style(theme) + (HERE / 'page.css').read_text(encoding='utf-8'), 'LEGEND': legend_of_page(packed, len(heading['chosen']) < len(packed.threads)), 'SIGNS': style.SIGNS + style.patterns(range(style.LOOKS_OF_THREADS)),
+        'DATA': script_json({**data(packed, unit, heading), 'arrays': parts_of_arrays}), 'ARRAYS': arrays,
+        'SCRIPT': '\n'.join((HERE / name).read_text(encoding='utf-8') for name in scripts),
     }
     head, *rest = (HERE / 'page.html').read_text(encoding='utf-8').split('@@')
     # the template's pieces are text and names of parts in turn
@@ -77,6 +75,6 @@ def page(shown: Shown, svg: str, close_ups: Sequence[str], title: str, theme: Th
 def fault_page(fault: str) -> str:
     """The page of a file of which there is no picture yet: it looks again."""
     script = 'setTimeout(() => location.reload(), 500)'
-    style = (HERE / 'page.css').read_text(encoding='utf-8')
-    head = f'<head><meta charset="utf-8"><title>mcsim live</title><style>{style}</style></head>'
+    css = (HERE / 'page.css').read_text(encoding='utf-8')
+    head = f'<head><meta charset="utf-8"><title>mcsim live</title><style>{css}</style></head>'
     return f'<!doctype html><html lang="en">{head}<body><p id="fault">{escaped(fault)}</p><script>{script}</script></body></html>'

@@ -120,6 +120,12 @@ class Listener:
 
     def ordered(self, context: Context, moment: int) -> None: ...
 
+    def at_server(self, server: str, thread: Thread, begin: int, end: int) -> None:
+        """The thread waited for a server that was taken, and was let in at the end."""
+
+    def in_server(self, server: str, thread: Thread, begin: int, end: int) -> None:
+        """The thread had a server, and left it at the end, or had it still."""
+
     def holds(self, holding: Holding) -> None: ...
 
     def never(self, thread: Thread, horizon: int) -> None:
@@ -174,6 +180,7 @@ class Reading:
         # since when a word has a bit that leaves something to do
         self.first_set: dict[str, int] = dict.fromkeys(system.home_of, 0)
         self.taken_by: dict[str, Optional[str]] = dict.fromkeys(system.servers)
+        self.taken_since: dict[str, int] = {}
         self.signals: dict[tuple[int, str], collections.deque[UnderWay]] = collections.defaultdict(collections.deque)
         self.arriving: Optional[UnderWay] = None
         self.refills = {
@@ -285,9 +292,10 @@ class Reading:
         account, server = self.accounts[words[3]], words[4]
         if self.taken_by[server] is not None:
             raise ValueError
-        self.taken_by[server] = words[3]
+        self.taken_by[server], self.taken_since[server] = words[3], moment
         # a thread that runs goes on; one that waits for the server is let in by the one that leaves it
         if account.standing == BLOCKED and account.why == 'call':
+            self.listener.at_server(server, account.thread, account.since, moment)
             self.resume(account, moment)
         elif account.standing != RUNNING:
             raise ValueError
@@ -295,7 +303,7 @@ class Reading:
     def leave_server(self, moment: int, core: int, words: list[str]) -> None:
         if self.accounts[words[3]].standing != RUNNING or self.taken_by[words[4]] != words[3]:
             raise ValueError
-        self.taken_by[words[4]] = None
+        self.leave(words[4], moment)
 
     def hold(self, moment: int, core: int, words: list[str]) -> None:
         note, word = words[3], int(words[4])
@@ -325,6 +333,12 @@ class Reading:
             self.tell_held(thread.name, moment, False)
 
     # ---- what rows come to
+
+    def leave(self, server: str, moment: int) -> None:
+        """Ends the stay of the thread that has a server, if one has it."""
+        if name := self.taken_by[server]:
+            self.listener.in_server(server, self.accounts[name].thread, self.taken_since[server], moment)
+            self.taken_by[server] = None
 
     def resume(self, account: Account, moment: int) -> None:
         """A thread that was blocked goes on, once its context has budget."""
@@ -364,6 +378,8 @@ class Reading:
         for account in self.accounts.values():
             self.tell_stood(account, self.end)
             self.close_round(account)
+        for server in self.taken_by:
+            self.leave(server, self.end)
         for (_, note), queue in self.signals.items():
             for signal in queue:
                 self.listener.under_way(note, signal)

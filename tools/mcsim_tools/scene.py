@@ -1,22 +1,18 @@
 """What of a schedule is to be drawn: single things of a window of time while they are few enough, and else shares of time by columns."""
 from __future__ import annotations
 
-import collections
 from collections.abc import Collection, Iterable
 from typing import Any, NamedTuple, Optional, Union
 
 from .reading import DONE, LOST, PENDING, RUNNING, STANDINGS, Holding, Post, Reading, Round, Stood, UnderWay
 from .system import Context, System, Thread
-from .tally import Finding, Tally
+from .tally import Tally
 
 COLUMNS = 1200
 # where there are many threads, columns are fewer: cells of all together at most, but so many columns at least
 CELLS, LEAST_COLUMNS = 8_000_000, 120
 # what a column counts beside ticks in each standing
 ROUNDS, MISSED, LOSSES = range(len(STANDINGS), len(STANDINGS) + 3)
-# things that a close-up may look back to, and those that it may have
-RECENT, CLOSE = 1200, 2000
-CLOSE_UPS = 12
 ORDERS = 2000
 
 
@@ -121,66 +117,6 @@ class Columns:
         self.cells[name][what][min((moment - self.begin) // self.width, self.many - 1)] += 1
 
 
-class CloseUps:
-    """Windows around the first findings, one for each kind and name, so that a long run shows them singly: what is recent is kept, and goes into the
-    window that a finding opens."""
-
-    def __init__(self, threads: Collection[str]) -> None:
-        self.threads = threads
-        self.recent: collections.deque[tuple[int, int, Thing]] = collections.deque()
-        # before this moment something recent may have been dropped
-        self.complete_from = 0
-        self.scenes: list[tuple[Finding, Scene]] = []
-        self.told: set[tuple[str, str]] = set()
-        self.latest = -1
-        # until there are as many scenes as there may be
-        self.is_listening = True
-
-    def offer(self, begin: int, end: int, thing: Thing) -> None:
-        if begin <= self.latest:
-            for _, scene in self.scenes:
-                self.add(scene, begin, end, thing)
-        if self.is_listening:
-            self.recent.append((begin, end, thing))
-            if len(self.recent) > RECENT:
-                _, end, dropped = self.recent.popleft()
-                # a round reaches to its deadline, but was told when it ended
-                self.complete_from = max(self.complete_from, dropped.end if isinstance(dropped, Round) else end)
-
-    def add(self, scene: Scene, begin: int, end: int, thing: Thing) -> None:
-        if not scene.is_within(begin, end):
-            return
-        scene.add(thing)
-        if scene.count == CLOSE and end < scene.last:
-            scene.end = max(end, scene.begin + 1)
-
-    def around(self, finding: Finding) -> None:
-        key = finding.kind, finding.name
-        if not self.is_listening or key in self.told or finding.thread and finding.thread.name not in self.threads:
-            return
-        self.told.add(key)
-        margin = max(20, (finding.end - finding.begin) * 3 // 10)
-        begin = min(max(finding.begin - margin, self.complete_from, 0), finding.end)
-        scene = Scene(self.threads, begin, finding.end + margin)
-        self.scenes.append((finding, scene))
-        for one, two, thing in self.recent:
-            self.add(scene, one, two, thing)
-        self.latest = max(self.latest, scene.last)
-        if len(self.scenes) == CLOSE_UPS:
-            self.is_listening = False
-            self.recent.clear()
-
-    def of(self, finding: Finding) -> Optional[int]:
-        """The number of the close-up of a finding, or of the narrowest in which it is seen."""
-        own = (place for place, (other, _) in enumerate(self.scenes) if other == finding)
-        inside = [(scene.last - scene.begin, place) for place, (_, scene) in enumerate(self.scenes) if scene.begin <= finding.end <= scene.last]
-        return next(own, min(inside)[1] if inside else None)
-
-    def close(self, horizon: int) -> None:
-        for _, scene in self.scenes:
-            scene.end = min(scene.last, horizon)
-
-
 class Shown(Tally):
     """Listens to a whole schedule: counts all of it, and keeps what is to be drawn of a window, for the threads that have lanes."""
 
@@ -191,7 +127,6 @@ class Shown(Tally):
         self.cores = {system.threads[name].core for name in threads}
         self.scene = Scene(threads, begin, end)
         self.columns = Columns([*threads, *map(others_on, sorted(self.cores))], begin, end)
-        self.close_ups = CloseUps(threads)
         self.is_single = True
         self.hears_holdings = plotted
         # for columns too, in which an open round shows nothing else
@@ -200,19 +135,12 @@ class Shown(Tally):
 
     def keep(self, begin: int, end: int, thing: Thing) -> None:
         """A thing from one moment to another, both within reach of it."""
-        close_ups = self.close_ups
-        if close_ups.is_listening or begin <= close_ups.latest:
-            close_ups.offer(begin, end, thing)
         if self.is_single and self.scene.is_within(begin, end):
             self.scene.add(thing)
             if self.scene.count > self.most:
                 self.is_single = False
                 self.hears_holdings = ()
                 self.scene.clear()
-
-    def find(self, finding: Finding) -> None:
-        super().find(finding)
-        self.close_ups.around(finding)
 
     def stood(self, stood: Stood) -> None:
         super().stood(stood)
@@ -230,7 +158,6 @@ class Shown(Tally):
             self.columns.add_ticks(name, standing, begin, end)
 
     def round_ended(self, ended: Round) -> None:
-        # what is kept comes first: a finding's own close-up has it
         thread, _, activated, _, end = ended
         if thread.name in self.threads:
             self.keep(activated, max(end, activated + thread.deadline), ended)
@@ -278,4 +205,3 @@ class Shown(Tally):
             self.end_held(self.system.threads[name], reading.end)
         if self.scene.end is None:
             self.scene.end = max(reading.end if end is None else end, self.scene.begin + 1)
-        self.close_ups.close(reading.end)

@@ -30,7 +30,7 @@ text{font:11px system-ui,-apple-system,"Segoe UI","DejaVu Sans",Arial,Helvetica,
 .join{fill:none;stroke:#57606a;stroke-width:1;stroke-opacity:.55}
 .late{fill:@RED@}.bad{fill:@RED@;stroke:@RED@}.badtext{fill:@RED@;font-weight:600}
 .order{fill:#fff;stroke:#1f2328;stroke-width:1.4}.orderline{stroke:#1f2328;stroke-dasharray:2 3;stroke-width:1}
-.come1{fill:#8c959f;fill-opacity:.55}.come2{fill:#8c959f;fill-opacity:.34}.come3{fill:#8c959f;fill-opacity:.2}.use{fill-opacity:.85}
+.come1{fill:#8c959f;fill-opacity:.55}.come2{fill:#8c959f;fill-opacity:.34}.come3{fill:#8c959f;fill-opacity:.2}.use{fill-opacity:.85}.waits{fill-opacity:.45}
 """
 DARK = """
 text{fill:#e6edf3}.small{fill:#9aa4af}.bg{fill:#12161b}.lane{fill:#1a2027}.core{fill:#252d36}.grid{stroke:#303841}
@@ -52,18 +52,20 @@ SIGNS = f"""<pattern id="hatch0" width="5" height="5" patternUnits="userSpaceOnU
 <path id="down-s" d="M-2.4 -{BAR + 6}L0 -{BAR + 1}L2.4 -{BAR + 6}Z"/>
 <path id="hold" d="M-3.2 -{BAR + 3.5}L0 -{BAR + 9}L3.2 -{BAR + 3.5}Z"/>
 <path id="hold-s" d="M-2.2 -{BAR + 5.5}L0 -{BAR + 9.5}L2.2 -{BAR + 5.5}Z" stroke-width=".8"/>
+<circle id="free" cy="-{BAR + 5.5}" r="2.6"/>
 <path id="lost" d="M-3.5 -{BAR + 9}L3.5 -{BAR + 2}M-3.5 -{BAR + 2}L3.5 -{BAR + 9}" stroke-width="2"/>
 <path id="lost-s" d="M-2.5 -{BAR + 8}L2.5 -{BAR + 3}M-2.5 -{BAR + 3}L2.5 -{BAR + 8}" stroke-width="1.5"/>
 <circle id="made" cy="-{BAR}" r="2.1"/><circle id="end" cy="4" r="2.4"/><circle id="end-s" cy="4" r="1.6" stroke="none"/>
 <path id="endlate" d="M-3.6 4L0 .4L3.6 4L0 7.6Z"/><path id="endlate-s" d="M-2.6 4L0 1.4L2.6 4L0 6.6Z"/>
+<path id="irq" d="M-3 -{BAR + HEAD}H3M0 -{BAR + HEAD}V-{BAR + 2}" stroke-width="1.6"/>
 <path id="order" d="M0 -{BAR + 9}L4.5 -{BAR + 3}L0 -{BAR - 3}L-4.5 -{BAR + 3}Z"/>"""
 # which signs crowded lanes have in another form, and which they leave out where nothing is wrong
 SMALL = ('up', 'down', 'hold', 'lost', 'end', 'endlate')
 LEFT_OUT = ('made', 'interrupt', 'down')
 # signs that look like another
-LOOKS = {'interrupt': 'made'}
+LOOKS = {'interrupt': 'irq'}
 # signs that stand above a bar, or reach over it
-ABOVE = ('up', 'down', 'hold', 'lost')
+ABOVE = ('up', 'down', 'hold', 'free', 'lost')
 
 
 class Theme(enum.Enum):

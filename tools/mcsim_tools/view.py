@@ -4,32 +4,36 @@ Draws a schedule: for each core a lane, below it one for each of its threads, wi
 responses, what was missed, held and lost, signals from lane to lane, orders, and what its context holds. It runs the program to the horizon, or
 reads the rows of a schedule of SYSTEM (--rows).
 
-An SVG is a picture by itself. An HTML page is one file that needs no network: the same picture, which can be zoomed, the table of the threads,
-and the findings. A window with more than --most things is drawn by columns, which show shares of time, and the page has close-ups around its
-first findings: nothing that was missed or lost is left out."""
+An SVG is a picture by itself. An HTML page is one file that needs no network: it holds the schedule, shows lanes for the threads that are chosen on
+it, zooms to single events, and has the table of the threads and the findings. A window with more than --most things is drawn by columns, which show
+shares of time: nothing that was missed or lost is left out."""
 from __future__ import annotations
 
 import argparse
 import decimal
+import shlex
+from collections.abc import Sequence
 from dataclasses import dataclass
 from typing import Optional
 
-from . import lanes, options, output, source
+from . import lanes, options, output, packing, source
 from .drawing import Frame, Picture
 from .faults import Fault
+from .packing import Packed
 from .page import page
 from .printable import printable
-from .reading import read
-from .scale import Clock
+from .reading import Reading, read
+from .scale import Clock, Unit
 from .scene import Shown
 from .source import Told, Words, moment
 from .style import Theme
+from .tally import Tally
 
 MOST = 20_000
 WIDTH = 1200
 LANES = 150
-# a close-up of more lanes shows those of the finding's core
-CLOSE_LANES = 40
+# threads that have lanes on a page at first, where there are more than it shows at once
+FIRST_LANES = 40
 
 
 def microseconds(text: str) -> decimal.Decimal:
@@ -43,6 +47,7 @@ def microseconds(text: str) -> decimal.Decimal:
 
 
 count = options.number('no number of 1 to 1000000', 1, 10**6)
+thing_count = options.number('no number of 1 to 100000000', 1, 10**8)
 
 
 def add_looks(words: Words) -> None:
@@ -54,9 +59,10 @@ def add_looks(words: Words) -> None:
     words.add_argument('--budgets', default='auto', metavar='WHOSE', help=budgets)
     words.add_argument('--threads', metavar='NAMES', help='lanes for these threads alone, with commas')
     words.add_argument('--cores', metavar='NUMBERS', help='lanes for these cores alone, with commas')
-    words.add_argument('--lanes', type=count, default=LANES, metavar='N', help='threads that have lanes at most (default: %(default)s)')
-    most = 'things that are drawn singly at most; more are drawn by columns (default: %(default)s)'
-    words.add_argument('--most', type=count, default=MOST, metavar='N', help=most)
+    lanes_said = f'threads that have lanes at most, those with findings first (default: {LANES}; a page of more threads begins with {FIRST_LANES})'
+    words.add_argument('--lanes', type=count, metavar='N', help=lanes_said)
+    most = f'things that a picture draws singly at most, or that a page holds; more are shown by columns (default: {MOST}, {packing.MOST})'
+    words.add_argument('--most', type=thing_count, metavar='N', help=most)
     words.add_argument('--width', type=count, default=WIDTH, metavar='PIXELS', help='how wide the window of time is at most (default: %(default)s)')
     looks = [look.value for look in Theme]
     words.add_argument('--theme', choices=looks, default=Theme.AUTO.value, help='which colours (default: auto, as the reader has it)')
@@ -83,42 +89,50 @@ def window_of(words: argparse.Namespace, reads_rows: bool) -> Window:
 
 def draw(told: Told, words: argparse.Namespace, window: Window, is_page: bool, live: Optional[int] = None) -> str:
     """The text of a picture, or of a page; a live page has a number."""
-    system = told.system
-    asked = lanes.asked(system, words.threads, words.cores)
-    plotted = lanes.choose_budgets(system, words.budgets)
-    shown = Shown(system, frozenset(asked), window.begin, window.end, words.most, plotted)
+    asked = lanes.asked(told.system, words.threads, words.cores)
+    return draw_page(told, words, window, asked, live) if is_page else draw_picture(told, words, window, asked)
+
+
+def draw_picture(told: Told, words: argparse.Namespace, window: Window, asked: Sequence[str]) -> str:
+    system, plotted = told.system, lanes.choose_budgets(told.system, words.budgets)
+    shown = Shown(system, frozenset(asked), window.begin, window.end, words.most or MOST, plotted)
     reading = read(told, shown)
     shown.close(reading, window.end)
-    choice, unit = lanes.Choice.of(asked, shown.findings, words.lanes), Clock(words.tick_us).unit(reading.end)
-    name, theme = printable(words.system.stem), Theme(words.theme)
-    frame = Frame(words.width, theme, Clock(words.tick_us), unit, is_page)
+    choice, unit = lanes.Choice.of(asked, shown.findings, words.lanes or LANES), Clock(words.tick_us).unit(reading.end)
     begin, end = shown.scene.begin, shown.scene.last
-    is_whole = (begin, end) == (0, reading.end)
-    ticks = ' ticks' if words.tick_us is None else ''
-    under = f'{unit.text(reading.end)}{ticks}, {reading.count:,} rows: {shown.summary()}'
-    under = under if is_whole else f'{unit.text(begin)} to {unit.text(end)} of a run of {under}'
+    under = said_of(shown, reading, unit, begin, end)
     under += f' (no lanes for {choice.left_out:,} threads: --threads, --cores, --lanes)' if choice.left_out else ''
     own = lanes.lanes_of(system, choice.threads, plotted if shown.is_single else ())
-    picture = Picture(system, own, begin, end, frame, name, under)
+    picture = Picture(system, own, begin, end, Frame(words.width, Theme(words.theme), unit), printable(words.system.stem), under)
     if shown.is_single:
         picture.draw_scene(shown.scene, shown.findings)
     else:
         picture.draw_columns(shown.columns, shown.overdue, shown.findings)
-    if not is_page:
-        return picture.svg()
-    close_ups = [] if shown.is_single else [close_up(shown, place, frame, name) for place in range(len(shown.close_ups.scenes))]
-    return page(shown, picture.svg(), close_ups, f'{name}: {under}', theme, reading.end, unit, live)
-
-
-def close_up(shown: Shown, place: int, frame: Frame, name: str) -> str:
-    """The picture around a finding."""
-    finding, scene = shown.close_ups.scenes[place]
-    threads = scene.threads if len(scene.threads) <= CLOSE_LANES else [name for name in scene.threads if shown.system.threads[name].core == finding.core]
-    own = lanes.lanes_of(shown.system, threads, ())
-    under = f'{frame.unit.text(scene.begin)} to {frame.unit.text(scene.last)}, around: {finding.kind} {finding.name}, {finding.said(frame.unit)}'
-    picture = Picture(shown.system, own, scene.begin, scene.last, frame, name, under)
-    picture.draw_scene(scene, shown.findings)
     return picture.svg()
+
+
+def said_of(tally: Tally, reading: Reading, unit: Unit, begin: int, end: int) -> str:
+    """What stands below the name of a system."""
+    under = f'{unit.text(reading.end)}{" ticks" * (unit.tick is None)}, {reading.count:,} rows: {tally.summary()}'
+    return under if (begin, end) == (0, reading.end) else f'{unit.text(begin)} to {unit.text(end)} of a run of {under}'
+
+
+def draw_page(told: Told, words: argparse.Namespace, window: Window, asked: Sequence[str], live: Optional[int]) -> str:
+    plotted = lanes.choose_budgets(told.system, words.budgets)
+    budgets = () if words.budgets in ('auto', 'none') else plotted
+    packed = Packed(told.system, window.begin, window.end, words.most or packing.MOST, budgets)
+    reading = read(told, packed)
+    packed.close(reading, window.end)
+    most = words.lanes or (LANES if len(asked) <= LANES else FIRST_LANES)
+    choice, unit = lanes.Choice.of(asked, packed.findings, most), Clock(words.tick_us).unit(reading.end)
+    name, under = printable(words.system.stem), said_of(packed, reading, unit, packed.begin, packed.end)
+    ticks = '' if words.tick_us is None else f' --tick-us {words.tick_us}'
+    heading = {
+        'name': name, 'under': under, 'title': f'{name}: {under}', 'end': reading.end, 'plotted': sorted(packed.place[name] for name in plotted),
+        'chosen': sorted(packed.place[name] for name in choice.threads),
+        'command': f'tools/view {printable(shlex.quote(str(words.system)))} --horizon {reading.end}{ticks}',
+    }
+    return page(packed, unit, heading, Theme(words.theme), live)
 
 
 def main() -> None:

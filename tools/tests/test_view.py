@@ -2,8 +2,10 @@
 from __future__ import annotations
 
 import argparse
+import base64
 import collections
 import decimal
+import json
 import pathlib
 import re
 import subprocess
@@ -11,10 +13,13 @@ import sys
 import tempfile
 import unittest
 import xml.etree.ElementTree as ElementTree
+import zlib
+from typing import Any
 
 from worked import BUSY, BUSY_ROWS, HANDLERS, HANDLERS_ROWS, ONE, ONE_ROWS, PAIR, PAIR_ROWS, TAKEN, TAKEN_ROWS, TOOLS, told
 from mcsim_tools import view
 from mcsim_tools.faults import Fault
+from mcsim_tools.page import script_json
 from mcsim_tools.scale import Clock, Scale, step_of
 from mcsim_tools.source import Words
 
@@ -88,15 +93,17 @@ class SingleThings(unittest.TestCase):
     def test_interrupts_arrive_in_the_lane_of_the_thread_that_waits(self) -> None:
         svg = drawn(BUSY, BUSY_ROWS, '--horizon', '13')
         found = signs(svg, 'D')
-        arrived = [('made', 2), ('hold', 3), ('hold', 4), ('lost', 6), ('hold', 8), ('lost', 10), ('lost', 12)]
-        self.assertEqual([sign for sign in found if sign[0] in ('made', 'hold', 'lost')], [(sign, at(moment)) for sign, moment in arrived])
+        arrived = [('hold', 3), ('hold', 4), ('lost', 6), ('hold', 8), ('lost', 10), ('lost', 12)]
+        self.assertEqual([sign for sign in found if sign[0] in ('hold', 'lost')], [(sign, at(moment)) for sign, moment in arrived])
+        # each interrupt is a mark at the top edge, whatever comes of it
+        self.assertEqual([sign for sign in found if sign[0] == 'irq'], [('irq', at(moment)) for moment in (2, 3, 4, 6, 8, 10, 12)])
         # the word of 3 activates no round, that of 4 does
         self.assertEqual([sign for sign in found if sign[0] == 'up'], [('up', at(2)), ('up', at(4)), ('up', at(8))])
         titles = [title.text for title in svg.iter(f'{SVG}title')]
         self.assertIn('interrupt of s at 2 to n, badge 1: wakes D', titles)
         self.assertIn('interrupt of s at 6 to n, badge 1: is lost: its bits were there already', titles)
         legend = text_of(svg, f"./{SVG}g[@id='legend']")
-        self.assertIn('interrupt that wakes a thread', legend)
+        self.assertIn('interrupt', legend)
         self.assertNotIn('signal made', legend)
         self.assertNotIn('a server', legend)
 
@@ -192,33 +199,100 @@ class ManyThings(unittest.TestCase):
         # columns of a tick: whole for 0 and 1, 5 and 6, and 10
         self.assertEqual(re.findall(r'M([\d.]+)', path.attrib['d']), ['176', f'{at(5)}', f'{at(10)}'])
 
-    def test_a_page_has_close_ups_of_its_findings(self) -> None:
-        page = paged(PAIR, PAIR_ROWS, '--horizon', '12', '--most', '3')
-        self.assertEqual(len(re.findall('<template id="close', page)), 3)
-        self.assertIn('around: lost n, badge 2 was there already, for W', page)
-        self.assertIn('data-name="W" data-close="0"><b>lost</b> 6 n: badge 2 was there already, for W</li>', page)
-        close = ElementTree.fromstring(part_of(page, '<template id="close0">(.*?)</template>'))
-        self.assertIn('lost', [sign for sign, _ in signs(close, 'W')])
+
+Packed = dict[str, list[int]]
+
+
+def held_by(page: str) -> tuple[dict[str, Any], Packed]:
+    """What a page knows, and its arrays by their names, read as its scripts do."""
+    known: dict[str, Any] = json.loads(part_of(page, '<script type="application/json" id="data">(.*?)</script>'))
+    data, arrays, at = zlib.decompress(base64.b64decode(part_of(page, '<script type="text/plain" id="arrays">(.*?)</script>'))), {}, 0
+    for name, many, wide in known['arrays']:
+        planes = [data[at + byte * many:at + (byte + 1) * many] for byte in range(wide)]
+        arrays[name] = [sum(plane[place] << 8 * byte for byte, plane in enumerate(planes)) for place in range(many)]
+        at += many * wide
+    return known, arrays
+
+
+def findings(page: str) -> list[tuple[str, int, str, str]]:
+    return [(kind, end, name, said) for kind, _, _, end, name, _, said in held_by(page)[0]['findings']]
 
 
 class Pages(unittest.TestCase):
     def test_the_table(self) -> None:
-        page = paged(PAIR, PAIR_ROWS, '--horizon', '12')
-        row = part_of(page, '<tr data-name="W">(.*?)</tr>')
-        # 2 rounds, greatest response 6, deadline 4, margin -2, 1 missed, overdue, 1 lost, 1 merged; it ran 10 ticks of 12
-        cells = re.findall(r'<t[hd][^>]*>([^<]*)</t[hd]>', row)
-        self.assertEqual(cells, ['W', '0', '5', '20/20', '100.0%', '83.3%', '2', '6', '4', '-2', '1', 'overdue', '1', '1'])
+        known, _ = held_by(paged(PAIR, PAIR_ROWS, '--horizon', '12'))
+        row = next(thread for thread in known['threads'] if thread['name'] == 'W')
+        # it waited for a tick at 0 and had the core for 10 of 12 ticks
+        self.assertEqual(row, {'name': 'W', 'core': 0, 'prio': 5, 'context': 'w', 'budget': 20, 'period': 20, 'deadline': 4, 'rounds': 2, 'greatest': 6,
+                               'missed': 1, 'open': 'overdue', 'lost': 1, 'merged': 1, 'stood': [0, 0, 10, 0, 2, 0]})
 
     def test_the_findings_of_handlers(self) -> None:
-        found = re.findall('<b>(.*?)</b> ([^<]*)<', paged(HANDLERS, HANDLERS_ROWS, '--horizon', '12'))
-        self.assertEqual(found, [('miss', '8 D: round 2 took 6, deadline 5')])
-        found = re.findall('<b>(.*?)</b> ([^<]*)<', paged(BUSY, BUSY_ROWS, '--horizon', '10'))
-        self.assertEqual(found, [('lost', f'{moment} n: badge 1 was there already, for D') for moment in (6, 10)])
+        self.assertEqual(findings(paged(HANDLERS, HANDLERS_ROWS, '--horizon', '12')), [('miss', 8, 'D', 'round 2 took 6, deadline 5')])
+        wanted = [('lost', moment, 'n', 'badge 1 was there already, for D') for moment in (6, 10)]
+        self.assertEqual(findings(paged(BUSY, BUSY_ROWS, '--horizon', '10')), wanted)
 
     def test_the_findings(self) -> None:
-        found = re.findall('<b>(.*?)</b> ([^<]*)<', paged(PAIR, PAIR_ROWS, '--horizon', '12'))
-        self.assertEqual(found, [('lost', '6 n: badge 2 was there already, for W'), ('miss', '10 W: round 2 took 6, deadline 4'),
-                                 ('overdue', '12 W: activated at 7 and not ended 5 later, deadline 4')])
+        wanted = [('lost', 6, 'n', 'badge 2 was there already, for W'), ('miss', 10, 'W', 'round 2 took 6, deadline 4'),
+                  ('overdue', 12, 'W', 'activated at 7 and not ended 5 later, deadline 4')]
+        self.assertEqual(findings(paged(PAIR, PAIR_ROWS, '--horizon', '12')), wanted)
+
+    def test_findings_in_the_unit_of_the_page(self) -> None:
+        page = paged(ONE, ONE_ROWS, '--horizon', '12', '--tick-us', '2.5')
+        self.assertEqual(findings(page), [('miss', 11, 'A', 'round 1 took 27.5 µs, deadline 25 µs')])
+        known, _ = held_by(page)
+        self.assertEqual((known['tick'], known['unit']), (2.5, 'µs'))
+
+    def test_how_threads_stood(self) -> None:
+        known, arrays = held_by(paged(ONE, ONE_ROWS, '--horizon', '12'))
+        self.assertEqual((known['a'], known['b'], known['detail']), (0, 12, None))
+        # running, throttled as its budget was spent, and so on, then done
+        codes = [2, 3 + 8 * 1, 2, 3 + 8 * 1, 2, 5 + 8 * 5]
+        self.assertEqual((arrays['segCount'], arrays['segLength'], arrays['segCode']), ([6], [2, 3, 2, 3, 1, 1], codes))
+        # round 1 ended at 11, and its response was 11 from the activation and from the beginning
+        rounds = [arrays[f'round{name}'] for name in ('Count', 'Number', 'End', 'Response', 'Took')]
+        self.assertEqual(rounds, [[1], [1], [11], [11], [11]])
+
+    def test_a_window(self) -> None:
+        known, arrays = held_by(paged(ONE, ONE_ROWS, '--horizon', '12', '--from', '1', '--to', '6'))
+        self.assertEqual((known['a'], known['b'], known['end']), (1, 6, 12))
+        self.assertEqual((arrays['segLength'], arrays['segCode']), ([1, 3, 1], [2, 3 + 8 * 1, 2]))
+
+    def test_who_is_inside_a_server_and_who_waits(self) -> None:
+        known, arrays = held_by(paged(TAKEN, TAKEN_ROWS, '--horizon', '22'))
+        # H has the higher priority, so its lane is the first; L was inside from 1 to 21, and H waited from 5 on
+        self.assertEqual([thread['name'] for thread in known['threads']], ['H', 'L'])
+        self.assertEqual([arrays[f'served{name}'] for name in ('Count', 'Begin', 'End', 'Thread')], [[2], [1, 21], [21, 22], [1, 0]])
+        self.assertEqual([arrays[f'queued{name}'] for name in ('Count', 'Begin', 'End', 'Thread')], [[1], [5], [21], [0]])
+        self.assertEqual((known['servers'], known['serverCores']), (['v'], [0]))
+
+    def test_signals(self) -> None:
+        _, arrays = held_by(paged(PAIR, PAIR_ROWS, '--horizon', '12'))
+        # D signals at 1 to 5, and each signal is under way for 2: the first wakes W, the others are held, merged, lost, held
+        at = [sum(arrays['postAt'][:place + 1]) for place in range(5)]
+        self.assertEqual((at, arrays['postWay']), ([3, 4, 5, 6, 7], [2] * 5))
+        self.assertEqual(arrays['postOutcome'], [0, 1, 2, 3, 1])
+
+    def test_columns_after_the_last_single_thing(self) -> None:
+        known, arrays = held_by(paged(ONE, ONE_ROWS, '--horizon', '12', '--most', '2'))
+        # the third thing ends at 7: from there on each tick is a column, in which A is throttled, runs from 10 to 11, and is done
+        self.assertEqual((known['detail'], known['columns']), (7, [7, 1, 5]))
+        self.assertEqual(arrays['segLength'], [2, 3, 2])
+        self.assertEqual([arrays[f'column{name}'] for name in ('Run', 'Throttled', 'Missed')], [[0, 0, 0, 1, 0], [1, 1, 1, 0, 0], [0, 0, 0, 0, 1]])
+
+    def test_a_page_of_many_threads_begins_with_those_that_have_findings(self) -> None:
+        known, _ = held_by(paged(TAKEN.replace('priority = 10', 'priority = 31'), TAKEN_ROWS, '--horizon', '22', '--lanes', '1'))
+        self.assertEqual([known['threads'][place]['name'] for place in known['chosen']], ['H'])
+
+    def test_no_text_of_a_file_ends_its_script(self) -> None:
+        page = paged(ONE, ONE_ROWS, '--horizon', '12')
+        self.assertEqual(script_json('</script>'), '"\\u003c/script>"')
+        self.assertEqual(page.count('</script>'), 3)
+
+    def test_a_page_takes_nothing_from_a_network(self) -> None:
+        page = paged(ONE, ONE_ROWS, '--horizon', '12')
+        found = set(re.findall(r'https?://[^\s"\']+', page))
+        self.assertEqual(found, {'http://www.w3.org/2000/svg'})
+        self.assertNotIn('src=', page)
 
 
 class Scales(unittest.TestCase):
@@ -301,7 +375,7 @@ class Tool(unittest.TestCase):
         self.assertEqual(self.run_tool('one.toml', '--program', program, '--horizon', '12', '-o', 'one.html'), (0, ''))
         self.assertEqual((self.folder / 'given.toml').read_text(), ONE)
         self.assertEqual((self.folder / 'given.words').read_text(), '--horizon 12\n')
-        self.assertIn('<b>miss</b> 11 A: round 1 took 11, deadline 10', (self.folder / 'one.html').read_text())
+        self.assertEqual(findings((self.folder / 'one.html').read_text()), [('miss', 11, 'A', 'round 1 took 11, deadline 10')])
 
     def test_what_the_program_says_has_its_line(self) -> None:
         program = self.program('cat >/dev/null; echo "mcsim: zero budget at context 1 budget" >&2; exit 1')
