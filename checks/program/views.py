@@ -24,7 +24,7 @@ sys.dont_write_bytecode = True
 sys.path[0] = str(pathlib.Path(__file__).resolve().parents[2])
 from checks import common, random_systems
 from checks.common import DATA, TOP, Count, Word
-from checks.program import browser, reading
+from checks.program import browser, large, reading
 from checks.program.browser import Browser
 
 HORIZONS = (12, 60, 300)
@@ -55,6 +55,12 @@ IS_SHOWN = """finding => {
   const isLane = row && row.top + row.high > scrollTop && row.top < scrollTop + clientHeight;
   return [findings.text(finding), !!isLane, view.lo <= finding.end && finding.end <= view.hi];
 }"""
+# whether the thread of a finding has bars of its own, and not columns
+IS_SINGLE = """finding => {
+  const lane = document.querySelector(`#plot .T[data-name="${finding.thread < 0 ? '' : view.schedule.threads[finding.thread].name}"]`);
+  return finding.thread < 0 || lane !== null && lane.querySelector('rect[data-i^="s."]') !== null;
+}"""
+LARGEST_PAGE = 10_000_000
 COUNTS = ('rounds', 'greatest', 'missed', 'lost', 'merged')
 STANDINGS = ('pending', 'ready', 'running', 'throttled', 'blocked', 'done')
 KINDS = ('miss', 'overdue', 'lost', 'never')
@@ -279,7 +285,7 @@ def told(page: Browser, checker: pathlib.Path, system: pathlib.Path, horizon: in
 
 
 # what the live page says: how many bars show a thread that runs, and its fault
-LIVE = "[document.querySelectorAll('g.T rect.running').length, $('fault').hidden ? '' : $('fault').textContent]"
+LIVE = "[document.querySelectorAll('#plot g.T rect.running').length, $('fault').hidden ? '' : $('fault').textContent.split('\\n')[0]]"
 # so long a machine with much to do may take, which else takes half a second
 FOLLOWS = 30
 
@@ -313,6 +319,9 @@ def try_live(page: Browser, program: pathlib.Path, folder: pathlib.Path, count: 
             while (found := page.value(LIVE)) != wanted and time.monotonic() < until:
                 time.sleep(0.05)
             count.expect(f'the live page shows {found} where it should show {wanted}', found == wanted)
+            if wanted[1]:
+                said = page.value("$('fault').textContent")
+                count.expect(f'the live page does not explain a fault: {said}', 'priority = 256' in said and '0 to 255' in said)
     count.expect(f'the live page throws {page.faults()}', not page.faults())
 
 
@@ -345,6 +354,37 @@ class Trial:
         found = differences(counted, Expected(system.read_bytes(), text, horizon).count) + hands(self.page, horizon)
         return found + (told(self.page, self.checker, system, horizon) if self.checker else [])
 
+    def large(self, system: pathlib.Path, horizon: int) -> list[str]:
+        page = self.page
+        page.open((self.folder / 'page.html').as_uri())
+        page.value('ready')
+        found, size = [], (self.folder / 'page.html').stat().st_size
+        if size > LARGEST_PAGE:
+            found.append(f'the page has {size} bytes')
+        many = page.value('findings.list.length')
+        for place in sorted({0, 1, many // 3, many // 2, many - 1}):
+            page.value(f'findings.go({place})')
+            page.value(DRAWN)
+            said, is_lane, is_time = page.value(f'({IS_SHOWN})(findings.list[{place}])')
+            if not (is_lane and is_time and page.value(f'({IS_SINGLE})(findings.list[{place}])')):
+                found.append(f'{said}: it is not shown singly, in its lane')
+        # the last thread of the file, by its name
+        name = page.value('view.schedule.threads.at(-1).name')
+        page.value(f"$('find').value = '{name}', $('find').oninput(), $('find').onkeydown(new KeyboardEvent('keydown', {{ key: 'Enter' }}))")
+        if not page.value(f"!!document.querySelector('#plot .lane.hi[data-name=\"{name}\"]')"):
+            found.append(f'the search does not bring the lane of {name}')
+        return found + page.faults() + (told(page, self.checker, system, horizon) if self.checker else [])
+
+
+def try_large(trial: Trial) -> None:
+    """Two large systems: each page tells what mcscheck tells, and each finding that is clicked is seen singly, with its lane."""
+    for name, system, horizon in large.systems():
+        file = trial.folder / name
+        file.write_text(system)
+        drawn = trial.drawn(file, horizon)
+        found = [drawn.stderr.decode().strip()] if drawn.status else trial.large(file, horizon)
+        trial.count.expect(f'{name} to {horizon}: {found}', not found)
+
 
 def main() -> None:
     words = common.asking_random(__doc__, SYSTEMS).parse_args()
@@ -362,6 +402,7 @@ def main() -> None:
             file = trial.folder / f'random_{number}.toml'
             file.write_text(random_systems.random_text(rng))
             trial.look(file, rng.choice(HORIZONS))
+        try_large(trial)
         try_live(page, program, trial.folder, trial.count)
     print(f'{trial.counted} bars and signs were counted')
     trial.count.end()

@@ -1,10 +1,18 @@
 // The live page: asks for the number of the picture, and takes the new one when that is another, with the window and the lanes that are in view.
 const EVERY = 300;
 let shown = +document.documentElement.dataset.picture;
-function fault(text) {
+// the fault of the file, and below it what there is to say of it, with its line
+function fault(text, explained = []) {
+  const said = text ? [text, ...explained].join("\n") : "";
   $("fault").hidden = !text;
-  $("fault").textContent = text ?? "";
+  if ($("fault").textContent !== said) $("fault").textContent = said;
   $("draw").classList.toggle("stale", !!text);
+}
+// what the last save made worse, and what it made better
+function change(found) {
+  const mark = isWorse => node("b", { className: isWorse ? "worse" : "better" }, isWorse ? "worse " : "better ");
+  $("changes").hidden = shown < 2;
+  $("changes").replaceChildren(...found.map(([isWorse, said]) => node("span", {}, mark(isWorse), said)), found.length ? "" : "the last save changed nothing of the verdict");
 }
 async function renew(text) {
   const page = new DOMParser().parseFromString(text, "text/html"), old = view;
@@ -16,8 +24,11 @@ async function renew(text) {
 async function follow() {
   try {
     const state = await (await fetch("/state")).json();
-    if (state.picture !== shown) await renew(await (await fetch("/")).text());
-    fault(state.fault);
+    if (state.picture !== shown) {
+      await renew(await (await fetch("/")).text());
+      change(state.changes);
+    }
+    fault(state.fault, state.explained);
   } catch {
     fault("live has ended");
   }

@@ -1,7 +1,7 @@
 """live SYSTEM [--horizon N] [--port N]
 
-Shows the picture of a system, its table and its findings on a page, and draws them anew each time the file is saved. A fault of the file is told
-with its line, where that is known, beside the last good picture. A file that is not read within 5 s, and a run with its picture that takes longer than
+Shows the picture of a system, its table and its findings on a page, and draws them anew each time the file is saved, with what the save made worse or
+better. A fault of the file stands above the last good picture, with its line and with what tools/explain says of it. A file that is not read within 5 s, and a run with its picture that takes longer than
 --limit, are given up, and the page says so; the next save is looked at again.
 
 The page is at http://127.0.0.1:PORT, a port that is free unless one is asked for, and for this machine alone. What is served is this one page: no
@@ -16,11 +16,12 @@ import json
 import socket
 import socketserver
 import threading
-from collections.abc import Iterator
+from collections.abc import Iterator, Sequence
 from http import HTTPStatus
 from typing import Any, NamedTuple, Optional
 
-from . import frame, looking, options, view
+from . import changes, frame, looking, options, view
+from .changes import Verdict
 from .faults import Fault, why
 from .looking import Looker, Mark
 from .page import fault_page
@@ -35,14 +36,18 @@ POLICY = "default-src 'none'; style-src 'unsafe-inline'; script-src 'unsafe-inli
 
 
 class State(NamedTuple):
-    """What the page shows: the number of the last good picture, 0 before there is one, its text, and the fault of the file where there is one."""
+    """What the page shows: the number of the last good picture, 0 before there is one, its text, and what it changed of the verdict; and the fault of the
+    file if there is one, with what there is to say of it."""
 
     picture: int
     page: bytes
-    fault: Optional[str]
+    fault: Optional[str] = None
+    explained: Sequence[str] = ()
+    verdict: Verdict = {}
+    changes: Sequence[tuple[bool, str]] = ()
 
     def text(self) -> bytes:
-        return json.dumps({'picture': self.picture, 'fault': self.fault}).encode()
+        return json.dumps({'picture': self.picture, 'fault': self.fault, 'explained': self.explained, 'changes': self.changes}).encode()
 
 
 class Watch:
@@ -51,7 +56,7 @@ class Watch:
     def __init__(self, words: argparse.Namespace) -> None:
         self.words = words
         self.looker = Looker(words, view.window_of(words, False), words.limit)
-        self.state = State(0, b'', None)
+        self.state = State(0, b'')
         # the file as it was at the last look that read it
         self.seen: Mark = None
         self.ends = threading.Event()
@@ -66,10 +71,11 @@ class Watch:
             return
         self.seen = None if drawn.is_unread else mark
         if drawn.fault is None:
-            self.state = State(self.state.picture + 1, drawn.page, None)
+            found = changes.told(changes.changes(self.state.verdict, drawn.verdict)) if self.state.picture else []
+            self.state = State(self.state.picture + 1, drawn.page, verdict=drawn.verdict, changes=found)
         else:
-            page = self.state.page if self.state.picture else fault_page(drawn.fault).encode()
-            self.state = State(self.state.picture, page, drawn.fault)
+            page = self.state.page if self.state.picture else fault_page('\n'.join([drawn.fault, *drawn.explained])).encode()
+            self.state = self.state._replace(page=page, fault=drawn.fault, explained=drawn.explained)
 
     def follow(self) -> None:
         while not self.ends.wait(looking.LOOK):

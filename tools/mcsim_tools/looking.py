@@ -11,11 +11,13 @@ import multiprocessing
 import multiprocessing.connection
 import pathlib
 import time
-from dataclasses import dataclass
+from collections.abc import Sequence
+from dataclasses import dataclass, field
 from multiprocessing.connection import Connection
 from typing import Optional, Union
 
-from . import source, system, view, workers
+from . import explain, explaining, source, system, view, workers
+from .changes import Verdict
 from .faults import Fault
 from .printable import printable
 
@@ -41,10 +43,12 @@ def mark_of(path: pathlib.Path) -> Mark:
 
 @dataclass(frozen=True)
 class Drawn:
-    """What came of a look: the text of a page, or the fault of the file."""
+    """What came of a look: the text of a page with its verdict, or the fault of the file, with what there is to say of it."""
 
     page: bytes = b''
     fault: Optional[str] = None
+    explained: Sequence[str] = ()
+    verdict: Verdict = field(default_factory=dict)
     # whether the file was not read, and so is to be looked at again
     is_unread: bool = False
 
@@ -67,15 +71,27 @@ def serve(connection: Connection, words: argparse.Namespace, window: view.Window
 
 
 def draw(connection: Connection, words: argparse.Namespace, window: view.Window, number: int) -> Drawn:
+    text = b''
     try:
         text = system.read_bytes(words.system)
         connection.send(Step.READ)
         with source.run(words.program, words.system, text, source.HORIZON if window.horizon is None else window.horizon) as told:
-            return Drawn(view.draw(told, words, window, True, live=number).encode())
+            page = view.draw_page(told, words, window, live=number)
+            return Drawn(page.text.encode(), verdict=page.verdict)
     except Fault as fault:
-        return Drawn(fault=printable(fault))
+        return Drawn(fault=printable(fault), explained=explained(words, text))
     except Exception as error:
         return Drawn(fault=printable(f'{words.system}: it cannot be drawn: {type(error).__name__}: {error}'))
+
+
+def explained(words: argparse.Namespace, text: bytes) -> list[str]:
+    """What tools/explain says of a file behind its first line; nothing if the program has no fault to explain."""
+    try:
+        _, said = explain.answer_of(words.program, text)
+        fault = explaining.fault_of(said)
+        return [printable(line, explain.LONGEST_LINE) for line in explain.explanation(words.system, fault, text)[1:]] if fault else []
+    except Fault:
+        return []
 
 
 class Looker:

@@ -12,11 +12,11 @@ from __future__ import annotations
 import argparse
 import decimal
 import shlex
-from collections.abc import Sequence
 from dataclasses import dataclass
-from typing import Optional
+from typing import NamedTuple, Optional
 
 from . import lanes, options, output, packing, source
+from .changes import Verdict, verdict_of
 from .drawing import Frame, Picture
 from .faults import Fault
 from .packing import Packed
@@ -87,14 +87,14 @@ def window_of(words: argparse.Namespace, reads_rows: bool) -> Window:
     return Window(words.begin, end, horizon)
 
 
-def draw(told: Told, words: argparse.Namespace, window: Window, is_page: bool, live: Optional[int] = None) -> str:
-    """The text of a picture, or of a page; a live page has a number."""
-    asked = lanes.asked(told.system, words.threads, words.cores)
-    return draw_page(told, words, window, asked, live) if is_page else draw_picture(told, words, window, asked)
+def draw(told: Told, words: argparse.Namespace, window: Window, is_page: bool) -> str:
+    """The text of a picture, or of a page."""
+    return draw_page(told, words, window).text if is_page else draw_picture(told, words, window)
 
 
-def draw_picture(told: Told, words: argparse.Namespace, window: Window, asked: Sequence[str]) -> str:
+def draw_picture(told: Told, words: argparse.Namespace, window: Window) -> str:
     system, plotted = told.system, lanes.choose_budgets(told.system, words.budgets)
+    asked = lanes.asked(system, words.threads, words.cores)
     shown = Shown(system, frozenset(asked), window.begin, window.end, words.most or MOST, plotted)
     reading = read(told, shown)
     shown.close(reading, window.end)
@@ -117,7 +117,16 @@ def said_of(tally: Tally, reading: Reading, unit: Unit, begin: int, end: int) ->
     return under if (begin, end) == (0, reading.end) else f'{unit.text(begin)} to {unit.text(end)} of a run of {under}'
 
 
-def draw_page(told: Told, words: argparse.Namespace, window: Window, asked: Sequence[str], live: Optional[int]) -> str:
+class Page(NamedTuple):
+    """The text of a page, and what it says of the system."""
+
+    text: str
+    verdict: Verdict
+
+
+def draw_page(told: Told, words: argparse.Namespace, window: Window, live: Optional[int] = None) -> Page:
+    """Draws a page; a live one has a number."""
+    asked = lanes.asked(told.system, words.threads, words.cores)
     plotted = lanes.choose_budgets(told.system, words.budgets)
     budgets = () if words.budgets in ('auto', 'none') else plotted
     packed = Packed(told.system, window.begin, window.end, words.most or packing.MOST, budgets)
@@ -132,7 +141,7 @@ def draw_page(told: Told, words: argparse.Namespace, window: Window, asked: Sequ
         'chosen': sorted(packed.place[name] for name in choice.threads),
         'command': f'tools/view {printable(shlex.quote(str(words.system)))} --horizon {reading.end}{ticks}',
     }
-    return page(packed, unit, heading, Theme(words.theme), live)
+    return Page(page(packed, unit, heading, Theme(words.theme), live), verdict_of(packed, unit))
 
 
 def main() -> None:

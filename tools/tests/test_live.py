@@ -14,10 +14,10 @@ import tempfile
 import time
 import unittest
 from collections.abc import Callable
-from typing import Optional
+from typing import Any, Optional
 
 from worked import ONE, ONE_ROWS, TOOLS
-from mcsim_tools import live, looking
+from mcsim_tools import changes, live, looking
 from mcsim_tools.live import HELD
 
 SECONDS = 60
@@ -32,6 +32,19 @@ if grep -q hangs text; then echo $$ >hung; exec sleep 1000; fi
 cat rows
 '''
 LATER_ROWS = ONE_ROWS.replace('11 0 round A 1 11\n11 0 stop A done 1\n', '')
+
+
+class Changes(unittest.TestCase):
+    def test_the_worse_stands_first(self) -> None:
+        before: changes.Verdict = {'response of A': (9, '9'), 'missed by A': (3, '3'), 'lost at n': (2, '2')}
+        after: changes.Verdict = {'response of A': (12, '12'), 'missed by A': (0, '0'), 'response of B': (5, '5')}
+        self.assertEqual(changes.changes(before, after), [
+            (True, 'response of A: 12, was 9'), (False, 'missed by A: 0, was 3'), (False, 'lost at n: none, was 2')])
+
+    def test_few_are_listed(self) -> None:
+        many = [changes.Change(False, str(number)) for number in range(23)]
+        listed = changes.told(many)
+        self.assertEqual((len(listed), listed[-1]), (21, (False, 'and 3 more')))
 
 
 class Live(unittest.TestCase):
@@ -80,9 +93,13 @@ class Live(unittest.TestCase):
     def wait_for(self, picture: int, fault: Optional[str]) -> None:
         """Waits until the page tells this number and this fault."""
         until = time.monotonic() + SECONDS
-        while (state := json.loads(self.ask('/state')[1])) != {'picture': picture, 'fault': fault}:
+        while (state := self.state())['picture'] != picture or state['fault'] != fault:
             self.assertLess(time.monotonic(), until, state)
             time.sleep(0.02)
+
+    def state(self) -> dict[str, Any]:
+        state: dict[str, Any] = json.loads(self.ask('/state')[1])
+        return state
 
     def wait_for_refusal(self) -> None:
         """Waits until a request is closed without an answer: the server may not have taken all connections before it yet."""
@@ -120,9 +137,24 @@ class Live(unittest.TestCase):
         self.wait_for(2, None)
         self.assertIn('12 ticks, 8 rows: 0 missed, 1 overdue, 0 lost', self.ask()[1])
 
+    def test_what_a_save_changes_of_the_verdict(self) -> None:
+        self.wait_for(1, None)
+        self.assertEqual(self.state()['changes'], [])
+        self.save(ONE + '# saved\n', LATER_ROWS)
+        self.wait_for(2, None)
+        # the round that missed its deadline does not end now
+        self.assertEqual(self.state()['changes'], [[True, 'overdue: A: 1, was 0'], [False, 'missed by A: 0, was 1']])
+        self.save(ONE + '# saved again\n', LATER_ROWS)
+        self.wait_for(3, None)
+        self.assertEqual(self.state()['changes'], [])
+
     def test_a_fault_is_told_with_its_line_beside_the_last_good_picture(self) -> None:
         self.save(ONE.replace('priority', 'wrong'), ONE_ROWS)
         self.wait_for(1, f'{self.system}:6: unknown key at thread 1 ?')
+        line, mark, *facts = self.state()['explained']
+        self.assertIn('wrong = 5', line)
+        self.assertEqual(line[mark.index('^')], 'w')
+        self.assertIn('wrong is no key of a thread', facts[0])
         self.assertIn('12 ticks, 10 rows', self.ask()[1])
         self.system.unlink()
         self.wait_for(1, f'{self.system}: No such file or directory')
