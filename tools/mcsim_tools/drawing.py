@@ -3,14 +3,16 @@ from __future__ import annotations
 
 import collections
 import html
+from collections.abc import Collection
 from dataclasses import dataclass
 from typing import Optional
 
 from . import legend, style
 from .lanes import TOP, Lanes
+from .locks import locks_of
 from .reading import BLOCKED, HELD, LOST, MERGED, READY, RUNNING, STANDINGS, THROTTLED, WOKE, Post, Round, Stood
 from .scale import TICKS, Scale, Unit
-from .scene import LOSSES, MISSED, ROUNDS, Columns, Held, Scene, others_on
+from .scene import LOSSES, MISSED, ROUNDS, Columns, Held, Scene, Stay, others_on
 from .style import BAR, CORE, HEAD, PLOT, Theme
 from .system import System, Thread
 from .tally import NEVER, OVERDUE, Finding
@@ -121,6 +123,7 @@ class Picture:
         for one in scene.rounds:
             if one.thread.name in own:
                 own[one.thread.name] += self.round(one)
+        self.locks = locks_of((post.note, post.maker) for post in scene.posts)
         for post in scene.posts:
             self.post(post)
         for sent in scene.sent:
@@ -129,6 +132,7 @@ class Picture:
                 self.mark(maker.name, 'made', 'ink', sent.signal.made, f'signal of {maker.name} at {self.text(sent.signal.made)} to {sent.note}, still under way')
         self.bars += [f'<g class="C" data-core="{core}">{"".join(parts)}</g>' for core, parts in on.items()]
         self.bars += [f'<g class="T" data-name="{escaped(name)}">{"".join(parts)}</g>' for name, parts in own.items()]
+        self.bars += [self.stay(one) for one in scene.stays if one.server in self.lanes.server_at and self.is_seen(one.begin, one.end)]
         self.refills(scene.held)
         self.orders(scene)
         self.margin(findings)
@@ -156,6 +160,16 @@ class Picture:
         said = f'core {core}: {name} {self.span(stood.begin, stood.end)}'
         look = 'other' if colour is None else f'on c{colour}'
         return self.bar(look, begin, end, top, CORE, said, f' data-n="{escaped(name)}"')
+
+    def stay(self, one: Stay) -> str:
+        """Who is inside a server, and in a strip below who waits for it."""
+        name, colour, top = one.thread.name, self.lanes.colour.get(one.thread.name), self.lanes.server_at[one.server]
+        if one.is_inside and (min(one.end, self.end) - max(one.begin, self.begin)) * self.scale.tick > LETTER * len(name) + 6:
+            middle = (self.scale.x(max(one.begin, self.begin)) + self.scale.x(min(one.end, self.end))) / 2
+            self.labels.append(f'<text class="{style.name_look(colour)}" x="{number(middle)}" y="{top + 11}" text-anchor="middle">{escaped(name)}</text>')
+        said = f'server {one.server}: {name} {"is inside" if one.is_inside else "waits for it"} {self.span(one.begin, one.end)}'
+        look = ('inside' if one.is_inside else 'waits') + (' other' if colour is None else f' c{colour}')
+        return self.bar(look, one.begin, one.end, top if one.is_inside else top + BAR, BAR if one.is_inside else 5, said)
 
     def round(self, one: Round) -> list[str]:
         """The line of a response from the activation on, with what is beyond the deadline in red, and the signs at its ends."""
@@ -193,7 +207,7 @@ class Picture:
         if post.source:
             self.mark(thread.name, 'interrupt', 'bad' if post.outcome == LOST else 'ink', post.arrived, said)
         if post.outcome in (HELD, MERGED):
-            self.mark(thread.name, 'hold', 'soft', post.arrived, said)
+            self.mark(thread.name, 'free' if post.note in self.locks else 'hold', 'soft', post.arrived, said)
         elif post.outcome == LOST:
             self.mark(thread.name, 'lost', 'bad', post.arrived, said)
         if maker and maker.name in base and maker is not thread and post.made >= self.begin and post.arrived <= self.end:
@@ -220,6 +234,7 @@ class Picture:
         self.order_forms = ''.join(f'<path id="ol{core}" d="M0 0V{height}"/>' for core, height in heights.items())
 
     order_forms = ''
+    locks: Collection[str] = ()
 
     def margin(self, findings: list[Finding]) -> None:
         """Words beside the lanes of threads that are in default at the end."""
@@ -327,6 +342,7 @@ class Picture:
 
     def background(self) -> str:
         parts = [self.bar('core', self.begin, self.end, top, CORE) for top in self.lanes.core_at.values()]
+        parts += [self.bar('core', self.begin, self.end, top, BAR + 5) for top in self.lanes.server_at.values()]
         for thread in self.lanes.shown:
             top, name = self.lanes.base[thread.name] - BAR - HEAD, f' data-name="{escaped(thread.name)}"'
             parts.append(self.bar('lane', self.begin, self.end, top, HEAD + BAR + 8, more=name))
@@ -336,6 +352,7 @@ class Picture:
 
     def lane_names(self) -> str:
         parts = [f'<text class="b" x="8" y="{top + 14}">core {core}</text>' for core, top in self.lanes.core_at.items()]
+        parts += [f'<text x="17" y="{top + 12}">server {escaped(server)}</text>' for server, top in self.lanes.server_at.items()]
         for thread in self.lanes.shown:
             base, colour = self.lanes.base[thread.name], self.lanes.colour[thread.name]
             name = thread.name if len(thread.name) <= 22 else thread.name[:21] + '…'

@@ -1,7 +1,7 @@
 """Which lanes a picture has, and where: for each core one, and below it those of its threads by priority, each with its budget where it is plotted."""
 from __future__ import annotations
 
-from collections.abc import Collection, Iterable, Sequence
+from collections.abc import Collection, Iterable, Mapping, Sequence
 from dataclasses import dataclass, field
 from typing import Optional
 
@@ -21,6 +21,7 @@ class Lanes:
     core_at: dict[int, int] = field(default_factory=dict)
     base: dict[str, int] = field(default_factory=dict)
     plot_at: dict[str, int] = field(default_factory=dict)
+    server_at: dict[str, int] = field(default_factory=dict)
     colour: dict[str, int] = field(default_factory=dict)
     bottom: int = TOP
 
@@ -28,7 +29,8 @@ class Lanes:
         return [thread for thread in self.shown if thread.core == core]
 
 
-def lanes_of(system: System, threads: Collection[str], plotted: Collection[str]) -> Lanes:
+def lanes_of(system: System, threads: Collection[str], plotted: Collection[str], servers: Mapping[str, int]) -> Lanes:
+    """Returns the places of the lanes of threads, and of servers on these cores."""
     lanes, at = Lanes(), TOP
     for core, own in system.by_core().items():
         here = [thread for thread in own if thread.name in threads]
@@ -36,6 +38,10 @@ def lanes_of(system: System, threads: Collection[str], plotted: Collection[str])
             continue
         lanes.core_at[core] = at
         at += style.CORE + 5
+        for server, home in servers.items():
+            if home == core:
+                lanes.server_at[server] = at
+                at += style.SERVER
         for thread in here:
             lanes.colour[thread.name] = len(lanes.colour) % style.LOOKS_OF_THREADS
             lanes.base[thread.name] = at + style.HEAD + style.BAR

@@ -70,7 +70,7 @@ def items(drawn: Mapping[str, int], column_width: Optional[int]) -> list[Item]:
         (drawn.get('free'), Item('lock given back: it is free', sign('free', 'soft', BAR + 2))),
         (drawn.get('lost'), Item('lost: its bits are held already', sign('lost', 'bad', BAR + 1))),
         (drawn.get('order'), Item('order of SchedControl', sign('order', 'order', BAR - 1))),
-        (drawn.get('served'), Item('a server: who is inside, and below who waits', both(box('on c0', BAR, up=2), box('waits c1', 5, up=-8)))),
+        (drawn.get('inside'), Item('a server: who is inside, and below who waits', both(box('on c0', BAR, up=2), box('waits c1', 5, up=-8)))),
         (drawn.get('plot'), Item('budget: to be used now, coming back', both(box('use c0', 7, up=-3), box('come1', 7, up=4)))),
         (not is_single, Item(f'each column is {column_width:,} ticks, and shows shares of them' if column_width else '', lambda x, y: '')),
     ]
@@ -88,7 +88,7 @@ def of_page(packed: Packed, has_others: bool) -> dict[str, int]:
         'call': any(packed.queued.values()), 'up': rounds, 'down': has_deadlines, 'left out': True, 'resp': rounds, 'queued': outcomes.count(OUTCOMES.index(HELD)),
         'late': is_late, 'join': any(packed.posts[2::9]), 'interrupt': any(packed.posts[7::9]), 'hold': any(outcome in HELD_BACK and note not in locks for outcome, note in zip(outcomes, packed.posts[4::9])),
         'free': any(outcome in HELD_BACK and note in locks for outcome, note in zip(outcomes, packed.posts[4::9])),
-        'lost': outcomes.count(OUTCOMES.index(LOST)), 'order': len(packed.orders), 'plot': any(packed.held), 'served': any(packed.served.values()),
+        'lost': outcomes.count(OUTCOMES.index(LOST)), 'order': len(packed.orders), 'plot': any(packed.held), 'inside': any(packed.served.values()),
     }
 
 

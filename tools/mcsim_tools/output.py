@@ -9,7 +9,7 @@ import stat
 import sys
 import tempfile
 from collections.abc import Iterator, Sequence
-from typing import IO, Optional, Union
+from typing import IO, Optional, TextIO, Union, cast
 
 from .faults import Fault, why
 
@@ -128,3 +128,9 @@ def write(target: Target, text: str) -> None:
     """Writes a text to its target."""
     with written(target) as file:
         file.write(text)
+
+
+def write_bytes(target: pathlib.Path, data: bytes) -> None:
+    """Writes what is no text to its target."""
+    with written(target) as file:
+        cast(TextIO, file).buffer.write(data)

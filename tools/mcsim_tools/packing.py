@@ -7,12 +7,12 @@ from __future__ import annotations
 
 import array
 import base64
-import collections
 import sys
 import zlib
 from collections.abc import Collection, Iterable
 from typing import Optional
 
+from .locks import locks_of
 from .reading import BLOCKED, HELD, LOST, MERGED, READY, RUNNING, THROTTLED, WOKE, Holding, Post, Reading, Round, Stood, UnderWay
 from .scene import LOSSES, MISSED, ROUNDS, Columns
 from .system import Context, System, Thread
@@ -174,16 +174,10 @@ class Packed(Tally):
         return [self.threads[own[2]].core if own else -1 for own in self.served.values()]
 
     def locks(self) -> list[int]:
-        """The notifications that are used as locks: whoever waits for one signals it later, and others at most once, at the beginning."""
-        made = collections.Counter(zip(self.posts[4::9], self.posts[2::9]))
-        is_taken, is_none = set(), set()
-        for (note, maker), many in made.items():
-            is_waiter = maker > 0 and self.notes[note] in self.threads[maker - 1].waits
-            if is_waiter:
-                is_taken.add(note)
-            elif many > 1:
-                is_none.add(note)
-        return sorted(is_taken - is_none)
+        """The numbers of the notifications that are used as locks."""
+        makers = [None, *self.threads]
+        found = locks_of((self.notes[note], makers[maker]) for note, maker in zip(self.posts[4::9], self.posts[2::9]))
+        return sorted(self.note_place[note] for note in found)
 
     # ---- the arrays
 

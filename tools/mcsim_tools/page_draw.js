@@ -1,6 +1,6 @@
 // Draws lanes for a window of time as the text of SVG elements: single things, or shares of time by columns where they are too many.
 // A drawn thing says what it is in data-i: its kind, and where to find it. Its words are made when somebody points at it.
-const MANY = 5000, COLUMN = 2, JOINS = 160, CROWDED = 18, FEW = 4, LETTER = 6.6, NEAR = 8;
+const COLOURS = 6, MANY = 5000, COLUMN = 2, JOINS = 160, CROWDED = 18, FEW = 4, LETTER = 6.6, NEAR = 8;
 const HEIGHT = { [RUNNING]: BAR, [READY]: 7, [THROTTLED]: 8, [BLOCKED]: 1.6 };
 const SMALL = new Set(["up", "down", "hold", "lost", "end", "endlate"]), LEFT_OUT = new Set(["made", "down"]), ABOVE = new Set(["up", "down", "hold", "free", "lost"]);
 const escaped = text => String(text).replace(/[&<>"]/g, letter => ({ "&": "&amp;", "<": "&lt;", ">": "&gt;", "\"": "&quot;" })[letter]);
@@ -60,7 +60,7 @@ class Drawer {
   name(thread, a, b, y) {
     const from = Math.max(this.left, this.x(a)), to = Math.min(this.left + this.wide, this.x(b)), name = this.schedule.threads[thread].name;
     if (to - from <= LETTER * name.length + 6) return;
-    const look = this.lanes.has(thread) ? "n" + this.lanes.look(thread) % 6 : "small";
+    const own = this.lanes.look(thread), look = own === undefined ? "small" : own < COLOURS ? "n" + own : "nq";
     this.names.push(`<text class="${look}" x="${fixed((from + to) / 2)}" y="${y}" text-anchor="middle">${escaped(name)}</text>`);
   }
   coreColumns(row) {

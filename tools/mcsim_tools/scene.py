@@ -38,7 +38,17 @@ class Held(NamedTuple):
     is_used: bool
 
 
-Thing = Union[Stood, Round, Post, Sent, Ordered, Held]
+class Stay(NamedTuple):
+    """A thread was in a server from one moment to another, or waited for it."""
+
+    server: str
+    thread: Thread
+    begin: int
+    end: int
+    is_inside: bool
+
+
+Thing = Union[Stood, Round, Post, Sent, Ordered, Held, Stay]
 
 
 class Scene:
@@ -52,7 +62,10 @@ class Scene:
         self.sent: list[Sent] = []
         self.orders: list[Ordered] = []
         self.held: list[Held] = []
-        self.lists: dict[type[Thing], list[Any]] = {Stood: self.stood, Round: self.rounds, Post: self.posts, Sent: self.sent, Ordered: self.orders, Held: self.held}
+        self.stays: list[Stay] = []
+        self.lists: dict[type[Thing], list[Any]] = {
+            Stood: self.stood, Round: self.rounds, Post: self.posts, Sent: self.sent, Ordered: self.orders, Held: self.held, Stay: self.stays,
+        }
         self.count = 0
 
     @property
@@ -184,6 +197,14 @@ class Shown(Tally):
     def under_way(self, note: str, signal: UnderWay) -> None:
         if signal.maker and signal.maker.name in self.threads:
             self.keep(signal.made, signal.made, Sent(note, signal))
+
+    def in_server(self, server: str, thread: Thread, begin: int, end: int) -> None:
+        if thread.core in self.cores:
+            self.keep(begin, end, Stay(server, thread, begin, end, True))
+
+    def at_server(self, server: str, thread: Thread, begin: int, end: int) -> None:
+        if thread.core in self.cores:
+            self.keep(begin, end, Stay(server, thread, begin, end, False))
 
     def ordered(self, context: Context, moment: int) -> None:
         if self.scene.is_within(moment, moment) and len(self.scene.orders) < ORDERS:

@@ -9,7 +9,7 @@ import enum
 from collections.abc import Iterable
 from typing import Optional
 
-BAR, HEAD, LANE, CORE, PLOT = 14, 10, 33, 20, 22
+BAR, HEAD, LANE, CORE, PLOT, SERVER = 14, 10, 33, 20, 22, 24
 # of each thread of a core in turn: the colour in the light, in the dark, and of a name on it
 COLOURS = (
     ('#0072B2', '#1f77bd', '#fff'), ('#E69F00', '#E69F00', '#000'), ('#009E73', '#0fa57c', '#000'), ('#CC79A7', '#CC79A7', '#000'),
@@ -31,11 +31,12 @@ text{font:11px system-ui,-apple-system,"Segoe UI","DejaVu Sans",Arial,Helvetica,
 .late{fill:@RED@}.bad{fill:@RED@;stroke:@RED@}.badtext{fill:@RED@;font-weight:600}
 .order{fill:#fff;stroke:#1f2328;stroke-width:1.4}.orderline{stroke:#1f2328;stroke-dasharray:2 3;stroke-width:1}
 .come1{fill:#8c959f;fill-opacity:.55}.come2{fill:#8c959f;fill-opacity:.34}.come3{fill:#8c959f;fill-opacity:.2}.use{fill-opacity:.85}.waits{fill-opacity:.45}
+text.nq{fill:#000;stroke:#fff;stroke-width:3;paint-order:stroke}
 """
 DARK = """
 text{fill:#e6edf3}.small{fill:#9aa4af}.bg{fill:#12161b}.lane{fill:#1a2027}.core{fill:#252d36}.grid{stroke:#303841}
 .ink{fill:#e6edf3;stroke:#e6edf3}.resp,.queued{fill:#b1bac4}.soft,.order{fill:#12161b;stroke:#e6edf3}.join{stroke:#b1bac4}.orderline{stroke:#e6edf3}
-.hl{stroke:#9aa4af}.other{fill:#4b5663}.ql{stroke:#12161b}.late{fill:@RED@}.bad{fill:@RED@;stroke:@RED@}.badtext{fill:@RED@}
+.hl{stroke:#9aa4af}.other{fill:#4b5663}.ql{stroke:#12161b}text.nq{fill:#fff;stroke:#12161b}.late{fill:@RED@}.bad{fill:@RED@;stroke:@RED@}.badtext{fill:@RED@}
 """
 # after the colours of threads: what is hatched or grey whoever stands so
 AFTER = ''.join(f'.c{number}{{fill:url(#q{number})}}' for number in range(len(COLOURS), LOOKS_OF_THREADS)) + '.throttled{fill:url(#hatch)}.blocked{fill:#8c959f}'
@@ -81,7 +82,7 @@ def patterns(used: Iterable[int]) -> str:
 
 def name_look(colour: Optional[int]) -> str:
     """The class of a name that stands on a bar."""
-    return 'small' if colour is None else f'n{colour % len(COLOURS)}'
+    return 'small' if colour is None else f'n{colour}' if colour < len(COLOURS) else 'nq'
 
 
 def colours(place: int) -> str:

@@ -1,10 +1,10 @@
-"""view SYSTEM [--horizon N] [--from A --to B] -o FILE.svg|FILE.html
+"""view SYSTEM [--horizon N] [--from A --to B] -o FILE.svg|FILE.html|FILE.png|FILE.pdf
 
 Draws a schedule: for each core a lane, below it one for each of its threads, with how the thread stands, its activations, deadlines and
 responses, what was missed, held and lost, signals from lane to lane, orders, and what its context holds. It runs the program to the horizon, or
 reads the rows of a schedule of SYSTEM (--rows).
 
-An SVG is a picture by itself. An HTML page is one file that needs no network: it holds the schedule, shows lanes for the threads that are chosen on
+An SVG is a picture by itself; a browser of this machine, if there is one, makes a PNG or a PDF of it. An HTML page is one file that needs no network: it holds the schedule, shows lanes for the threads that are chosen on
 it, zooms to single events, and has the table of the threads and the findings. A window with more than --most things is drawn by columns, which show
 shares of time: nothing that was missed or lost is left out."""
 from __future__ import annotations
@@ -15,7 +15,7 @@ import shlex
 from dataclasses import dataclass
 from typing import NamedTuple, Optional
 
-from . import lanes, options, output, packing, source
+from . import lanes, options, output, packing, rendering, source
 from .changes import Verdict, verdict_of
 from .drawing import Frame, Picture
 from .faults import Fault
@@ -102,7 +102,7 @@ def draw_picture(told: Told, words: argparse.Namespace, window: Window) -> str:
     begin, end = shown.scene.begin, shown.scene.last
     under = said_of(shown, reading, unit, begin, end)
     under += f' (no lanes for {choice.left_out:,} threads: --threads, --cores, --lanes)' if choice.left_out else ''
-    own = lanes.lanes_of(system, choice.threads, plotted if shown.is_single else ())
+    own = lanes.lanes_of(system, choice.threads, plotted if shown.is_single else (), {stay.server: stay.thread.core for stay in shown.scene.stays})
     picture = Picture(system, own, begin, end, Frame(words.width, Theme(words.theme), unit), printable(words.system.stem), under)
     if shown.is_single:
         picture.draw_scene(shown.scene, shown.findings)
@@ -147,11 +147,15 @@ def draw_page(told: Told, words: argparse.Namespace, window: Window, live: Optio
 def main() -> None:
     words = Words(__doc__).takes_rows()
     add_looks(words)
-    words.writes('-o', '--output', required=True, metavar='FILE', help='a .svg or a .html')
+    words.writes('-o', '--output', required=True, metavar='FILE', help='a .svg or a .html, or a .png or a .pdf where there is a browser')
     asked = words.asked()
-    if asked.output.suffix not in ('.svg', '.html'):
-        raise Fault(f'{asked.output} is no .svg and no .html')
+    kind = asked.output.suffix
+    if kind not in ('.svg', '.html', *rendering.KINDS):
+        raise Fault(f'{asked.output} is no .svg, .html, .png or .pdf')
     window = window_of(asked, asked.rows is not None)
     with source.told(asked, window.horizon) as told:
-        text = draw(told, asked, window, asked.output.suffix == '.html')
-    output.write(asked.output, text)
+        text = draw(told, asked, window, kind == '.html')
+    if kind in rendering.KINDS:
+        output.write_bytes(asked.output, rendering.rendered(text, asked.output))
+    else:
+        output.write(asked.output, text)

@@ -6,6 +6,7 @@ import base64
 import collections
 import decimal
 import json
+import os
 import pathlib
 import re
 import subprocess
@@ -112,6 +113,19 @@ class SingleThings(unittest.TestCase):
         self.assertIn(('blocked', at(5), 16 * 34), bars(svg, 'H'))
         self.assertIn('H blocked 5 to 21: 16, its call waits for a server', [title.text for title in svg.iter(f'{SVG}title')])
         self.assertIn('blocked: waits for a signal or a server', text_of(svg, f"./{SVG}g[@id='legend']"))
+
+    def test_who_is_inside_a_server_has_a_band(self) -> None:
+        svg = drawn(TAKEN, TAKEN_ROWS, '--horizon', '22')
+        found = [(rect.attrib['class'], float(rect.attrib['x']), float(rect.attrib['width'])) for rect in svg.iter(f'{SVG}rect')
+                 if rect.get('class', '-').split()[0] in ('inside', 'waits') and rect.find(f'{SVG}title') is not None]
+        # L has the second lane; H waits from 5 until L leaves, and is inside from then on
+        self.assertEqual(sorted(found), [('inside c0', at(21), 34), ('inside c1', at(1), 20 * 34), ('waits c0', at(5), 16 * 34)])
+        self.assertIn('server v: H waits for it 5 to 21: 16', [title.text for title in svg.iter(f'{SVG}title')])
+
+    def test_a_free_lock_is_no_pending_signal(self) -> None:
+        text = ONE.replace('rounds = 1, deadline = 10, script = ["compute 5"]', 'script = ["compute 1", "signal n 1", "wait n"]').replace('thread =', 'note = [{ name = "n", core = 0 }]\nthread =')
+        rows = '0 0 release A\n0 0 run A\n2 0 signal A n 1\n2 0 hold n 1\n2 0 stop A spent 2 until 5\n'
+        self.assertIn(('free', at(2)), signs(drawn(text, rows, '--horizon', '12'), 'A'))
 
     def test_what_is_queued_stands_before_the_round(self) -> None:
         own = bars(drawn(PAIR, PAIR_ROWS, '--horizon', '12'), 'W')
@@ -340,7 +354,7 @@ class Tool(unittest.TestCase):
         self.refused('line 1 is no row of a schedule of this system: hello', 'one.toml', *rest, rows='hello\n')
         self.refused('none.toml: No such file or directory', 'none.toml', *rest)
         self.refused('.: Is a directory', '.', *rest)
-        self.refused('x.png is no .svg and no .html', 'one.toml', '--rows', '-', '-o', 'x.png')
+        self.refused('x.gif is no .svg, .html, .png or .pdf', 'one.toml', '--rows', '-', '-o', 'x.gif')
         self.refused('none/x.svg: No such file or directory', 'one.toml', '--rows', '-', '-o', 'none/x.svg')
         self.refused('--to 9 is beyond the horizon 5', 'one.toml', *rest, '--horizon', '5', '--to', '9')
         self.refused('--from 9 is not before the end, 9', 'one.toml', *rest, '--from', '9', '--to', '9')
@@ -381,6 +395,34 @@ class Tool(unittest.TestCase):
         program = self.program('cat >/dev/null; echo "mcsim: zero budget at context 1 budget" >&2; exit 1')
         self.refused('one.toml:5: zero budget at context 1 budget', 'one.toml', '--program', program, '-o', 'x.svg')
         self.refused('none: No such file or directory', 'one.toml', '--program', 'none', '-o', 'x.svg')
+
+    def browser(self, text: str) -> dict[str, str]:
+        """The environment of a machine whose browser is a script."""
+        file = self.folder / 'chromium'
+        file.write_text(f'#!/bin/sh\n{text}\n')
+        file.chmod(0o755)
+        return {**os.environ, 'PATH': f'{self.folder}:/usr/bin:/bin'}
+
+    def rendered(self, target: str, env: dict[str, str]) -> tuple[int, str]:
+        command = [sys.executable, str(TOOLS / 'view'), 'one.toml', '--rows', '-', '-o', target]
+        ran = subprocess.run(command, input=ONE_ROWS.lstrip(), capture_output=True, text=True, cwd=self.folder, env=env)
+        return ran.returncode, ran.stderr
+
+    def test_a_browser_makes_other_forms(self) -> None:
+        # it is given a page with the picture, and writes where it is told
+        script = 'for word; do case $word in --screenshot=*|--print-to-pdf=*) to=${word#*=};; file:*) page=${word#file://};; esac; done\n'
+        env = self.browser(script + 'grep -c "<svg " "$page" >"$to"')
+        for name in ('one.png', 'one.pdf'):
+            self.assertEqual(self.rendered(name, env), (0, ''))
+            self.assertEqual((self.folder / name).read_text(), '1\n')
+
+    def test_what_a_browser_does_not_draw_is_one_line(self) -> None:
+        env = self.browser('echo broken >&2; exit 3')
+        self.assertEqual(self.rendered('one.png', env), (2, f'view: one.png: {self.folder}/chromium ended with 3: broken\n'))
+        (self.folder / 'chromium').unlink()
+        said = 'a browser draws it, and none was found (chromium, chromium-browser, google-chrome, google-chrome-stable); a .svg needs none'
+        self.assertEqual(self.rendered('one.pdf', {**env, 'PATH': str(self.folder)}), (2, f'view: one.pdf: {said}\n'))
+        self.assertFalse((self.folder / 'one.png').exists() or (self.folder / 'one.pdf').exists())
 
     def test_a_program_that_breaks_off_leaves_no_picture(self) -> None:
         program = self.program('cat >/dev/null; echo "0 0 release A"; echo "mcsim: no memory" >&2; exit 4')
