@@ -28,6 +28,8 @@ from checks.program import browser, large, reading
 from checks.program.browser import Browser
 
 HORIZONS = (12, 60, 300)
+# the example that is used by keys alone
+BY_KEYS = 'overload_is_counted.toml'
 SYSTEMS = 12
 # all lanes are drawn, with every thing by itself; a lock that is free is held by nobody, as any word that nobody took
 COUNTED = """(() => {
@@ -264,6 +266,50 @@ def chosen(page: Browser, most: int = 12) -> list[str]:
     return found
 
 
+# the lanes in order, those that are pinned, and the cores that are folded
+LANES = "[...[view.rows, view.pins].map(rows => rows.list.filter(row => row.kind === 'thread').length), view.lanes.folded.size, view.hi - view.lo]"
+
+
+def by_keys(page: Browser) -> list[str]:
+    """What goes wrong where a page is used by keys alone: each changes what it should."""
+    page.value('view.all(), view.show()')
+    found, start = [], page.value(LANES)
+
+    def press(*keys: str) -> list[float]:
+        for key in keys:
+            text = {'text': key} if len(key) == 1 else {'text': '\r'} if key == 'Enter' else {}
+            for kind in ('keyDown', 'keyUp'):
+                page.call('Input.dispatchKeyEvent', type=kind, key=key, **text)
+        page.value(DRAWN)
+        lanes: list[float] = page.value(LANES)
+        return lanes
+
+    def focus(selector: str) -> None:
+        page.value(f"document.querySelector('{selector}').focus()")
+
+    if not press('+')[3] < start[3] or press('0') != start:
+        found.append('+ and 0 do not zoom')
+    focus('#main .head[data-thread]')
+    if press('Enter', 'Enter')[:2] != [start[0] - 1, 1]:
+        found.append('the menu of a lane does not pin it')
+    focus('#top .head[data-thread]')
+    if press('Enter', 'Enter') != start:
+        found.append('the menu of a lane does not free it')
+    focus('#main .head[data-thread]')
+    if press('Enter', 'ArrowDown', 'ArrowDown', 'ArrowDown', 'Enter')[0] != start[0] - 1:
+        found.append('the menu of a lane does not remove it')
+    name = page.value("view.schedule.threads[0].name")
+    if press('/', *name, 'Enter') != start:
+        found.append('the search does not bring a lane back')
+    page.value('document.activeElement.blur()')
+    focus('#main .head[data-core]')
+    if press('Enter', 'Enter')[:3] != [start[0] - 1, 0, 1]:
+        found.append('the menu of a core does not fold it')
+    if press('n') and page.value('findings.list.length') and page.value("document.querySelectorAll('#list [aria-current=true]').length") != 1:
+        found.append('n does not choose a finding')
+    return found + page.faults()
+
+
 def told(page: Browser, checker: pathlib.Path, system: pathlib.Path, horizon: int) -> list[str]:
     """How the table and the findings of a page differ from what mcscheck says of the same run."""
     ran = common.run([checker, system, '--horizon', str(horizon), '--format', 'json'])
@@ -351,6 +397,11 @@ class Trial:
         self.page.value('ready')
         counted: dict[str, Any] = self.page.value(COUNTED)
         self.counted += sum(many for kind, many in counted.items() if ' ' not in kind)
+        if system.name == BY_KEYS:
+            wrong = by_keys(self.page)
+            self.count.expect(f'{system.name} by keys: {wrong}', not wrong)
+            self.page.open((self.folder / 'page.html').as_uri())
+            self.page.value('ready')
         found = differences(counted, Expected(system.read_bytes(), text, horizon).count) + hands(self.page, horizon)
         return found + (told(self.page, self.checker, system, horizon) if self.checker else [])
 
