@@ -12,7 +12,8 @@ function fault(text, explained = []) {
 function change(found) {
   const mark = isWorse => node("b", { className: isWorse ? "worse" : "better" }, isWorse ? "worse " : "better ");
   $("changes").hidden = shown < 2;
-  $("changes").replaceChildren(...found.map(([isWorse, said]) => node("span", {}, mark(isWorse), said)), found.length ? "" : "the last save changed nothing of the verdict");
+  const items = found.map(([isWorse, said]) => node("span", {}, mark(isWorse), said));
+  $("changes").replaceChildren(...items, items.length ? "" : "the last save changed nothing of the verdict");
 }
 async function renew(text) {
   const page = new DOMParser().parseFromString(text, "text/html"), old = view;

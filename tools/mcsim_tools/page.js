@@ -5,7 +5,8 @@ const soon = () => { if (!due) due = requestAnimationFrame(() => { due = 0; view
 
 // shows what a page holds; `was` is a view whose window and lanes are kept
 async function begin(page, was) {
-  const data = JSON.parse(page.getElementById("data").textContent), schedule = new Schedule(data, await unpacked(page.getElementById("arrays").textContent));
+  const data = JSON.parse(page.getElementById("data").textContent);
+  const schedule = new Schedule(data, await unpacked(page.getElementById("arrays").textContent));
   overview = undefined;
   view = new View(schedule, was ? keptLanes(was, schedule) : data.chosen);
   $("name").textContent = data.name;
@@ -62,10 +63,12 @@ function release(v) {
 }
 // says what stands under the pointer
 function point(v) {
-  const hit = document.elementsFromPoint(v.clientX, v.clientY).map(element => element.closest("[data-i]")).find(element => element && $("draw").contains(element)), tip = $("tip");
+  const under = document.elementsFromPoint(v.clientX, v.clientY).map(element => element.closest("[data-i]"));
+  const hit = under.find(element => element && $("draw").contains(element));
+  const tip = $("tip");
   tip.style.display = hit ? "block" : "none";
   if (!hit) return;
-  tip.textContent = view.words(hit.dataset.i, view.at(place(v)));
+  tip.textContent = view.words.of(hit.dataset.i, view.at(place(v)));
   tip.style.left = Math.max(4, Math.min(v.clientX + 14, innerWidth - tip.offsetWidth - 8)) + "px";
   tip.style.top = Math.min(v.clientY + 16, innerHeight - tip.offsetHeight - 8) + "px";
 }
@@ -79,16 +82,27 @@ $("scroll").addEventListener("scroll", soon);
 
 // ---- the menu of a lane or a core
 
-function menuOf(head) {
+const menuOf = head => head.dataset.core === undefined ? menuOfLane(+head.dataset.thread) : menuOfCore(+head.dataset.core);
+function menuOfCore(core) {
+  const { lanes, schedule } = view;
+  const own = schedule.onCore[core];
+  const remove = threads => { for (const thread of threads) lanes.remove(thread); };
+  return [
+    [lanes.folded.has(core) ? "unfold" : "fold", () => lanes.fold(core)],
+    [`lanes for all ${own.length} threads of core ${core}`, () => { for (const thread of own) lanes.add(thread); }],
+    ["remove the lanes of this core", () => { lanes.cores.delete(core); remove(own); }],
+    ["remove the lanes of other cores", () => remove(lanes.shown.filter(thread => !own.includes(thread)))],
+  ];
+}
+function menuOfLane(thread) {
   const { lanes } = view;
-  if (head.dataset.core !== undefined) {
-    const core = +head.dataset.core, own = view.schedule.onCore[core];
-    return [[lanes.folded.has(core) ? "unfold" : "fold", () => lanes.fold(core)], [`lanes for all ${own.length} threads of core ${core}`, () => { for (const thread of own) lanes.add(thread); }],
-      ["remove the lanes of this core", () => { lanes.cores.delete(core); for (const thread of own) lanes.remove(thread); }], ["remove the lanes of other cores", () => { for (const thread of [...lanes.shown]) if (!own.includes(thread)) lanes.remove(thread); }]];
-  }
-  const thread = +head.dataset.thread;
-  return [[lanes.isPinned(thread) ? "unpin" : "pin above the others", () => lanes.pin(thread)], ["move up", () => lanes.move(thread, -1)], ["move down", () => lanes.move(thread, 1)],
-    ["remove this lane", () => lanes.remove(thread)], ["its next finding", () => nextOf(thread)]];
+  return [
+    [lanes.isPinned(thread) ? "unpin" : "pin above the others", () => lanes.pin(thread)],
+    ["move up", () => lanes.move(thread, -1)],
+    ["move down", () => lanes.move(thread, 1)],
+    ["remove this lane", () => lanes.remove(thread)],
+    ["its next finding", () => nextOf(thread)],
+  ];
 }
 function nextOf(thread) {
   const own = findings.list.map((finding, place) => finding.thread === thread ? place : -1).filter(place => place >= 0);
@@ -96,9 +110,11 @@ function nextOf(thread) {
 }
 function openMenu(head) {
   const box = head.querySelector(".hit").getBoundingClientRect(), menu = $("menu"), key = head.dataset.key;
-  menu.replaceChildren(...menuOf(head).map(([name, act]) => node("button", { role: "menuitem", onclick: () => { act(); view.arrange(); closeMenu(key); } }, name)));
+  const choose = act => () => { act(); view.arrange(); closeMenu(key); };
+  menu.replaceChildren(...menuOf(head).map(([name, act]) => node("button", { role: "menuitem", onclick: choose(act) }, name)));
   menu.hidden = false;
-  Object.assign(menu.style, { left: Math.min(box.left + 24, innerWidth - menu.offsetWidth - 8) + "px", top: Math.min(box.bottom, innerHeight - menu.offsetHeight - 8) + "px" });
+  menu.style.left = Math.min(box.left + 24, innerWidth - menu.offsetWidth - 8) + "px";
+  menu.style.top = Math.min(box.bottom, innerHeight - menu.offsetHeight - 8) + "px";
   menu.dataset.key = key;
   menu.firstChild.focus();
 }
@@ -120,24 +136,45 @@ addEventListener("pointerdown", v => { if (!v.target.closest("#menu")) $("menu")
 // ---- buttons and keys
 
 const middle = () => view.left + view.wide / 2;
+const scrollBy = pixels => { $("scroll").scrollTop += pixels; };
 const KEYS = {
-  "+": () => view.zoom(1.6, middle()), "-": () => view.zoom(1 / 1.6, middle()), "0": () => view.all(),
-  ArrowLeft: () => view.pan(-90), ArrowRight: () => view.pan(90), ArrowUp: () => { $("scroll").scrollTop -= LANE; }, ArrowDown: () => { $("scroll").scrollTop += LANE; },
-  PageUp: () => { $("scroll").scrollTop -= $("scroll").clientHeight; }, PageDown: () => { $("scroll").scrollTop += $("scroll").clientHeight; },
-  n: () => findings.step(1), p: () => findings.step(-1), "/": () => $("find").focus(), "?": () => $("keys").showModal(),
+  "+": () => view.zoom(1.6, middle()),
+  "-": () => view.zoom(1 / 1.6, middle()),
+  "0": () => view.all(),
+  ArrowLeft: () => view.pan(-90),
+  ArrowRight: () => view.pan(90),
+  ArrowUp: () => scrollBy(-LANE),
+  ArrowDown: () => scrollBy(LANE),
+  PageUp: () => scrollBy(-$("scroll").clientHeight),
+  PageDown: () => scrollBy($("scroll").clientHeight),
+  n: () => findings.step(1),
+  p: () => findings.step(-1),
+  "/": () => $("find").focus(),
+  "?": () => $("keys").showModal(),
 };
-for (const [id, key] of [["in", "+"], ["out", "-"], ["fit", "0"], ["next", "n"], ["last", "p"], ["help", "?"]]) $(id).onclick = () => KEYS[key]();
+const BUTTONS = { in: "+", out: "-", fit: "0", next: "n", last: "p", help: "?" };
+for (const id in BUTTONS) $(id).onclick = () => KEYS[BUTTONS[id]]();
 $("sig").onchange = () => view.show();
 $("budgets").onchange = () => { view.lanes.hasBudgets = $("budgets").checked; view.arrange(); };
+// whether a key belongs to what it is pressed on: a field, a menu, a list that scrolls
+function isTaken(v) {
+  if (v.ctrlKey || v.metaKey || v.altKey || v.target.closest?.("input, dialog, #menu")) return true;
+  return /^(Page|Arrow)/.test(v.key) && v.target.closest?.("#below");
+}
 addEventListener("keydown", v => {
   const head = v.target.closest?.(".head");
   if (head && (v.key === "Enter" || v.key === " ")) openMenu(head);
-  else if (v.ctrlKey || v.metaKey || v.altKey || v.target.closest?.("input, dialog, #menu") || !KEYS[v.key] || (v.key.startsWith("Page") || v.key.startsWith("Arrow")) && v.target.closest?.("#below")) return;
-  else KEYS[v.key]();
+  else if (KEYS[v.key] && !isTaken(v)) KEYS[v.key]();
+  else return;
   v.preventDefault();
 });
 const rowOf = v => v.target.closest("#threads tbody tr, #list .finding");
-$("below").addEventListener("mouseover", v => { const row = rowOf(v); if (row) { view.light = view.schedule.placeOf.get(row.dataset.name) ?? -1; view.showLight(); } });
+$("below").addEventListener("mouseover", v => {
+  const row = rowOf(v);
+  if (!row) return;
+  view.light = view.schedule.placeOf.get(row.dataset.name) ?? -1;
+  view.showLight();
+});
 
 // ---- the window of the browser
 

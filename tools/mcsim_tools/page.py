@@ -17,7 +17,7 @@ from .system import Thread
 
 HERE = pathlib.Path(__file__).resolve().parent
 # in the order in which the page runs them
-SCRIPTS = ('page_data.js', 'page_lanes.js', 'page_draw.js', 'page_view.js', 'page_overview.js', 'page_lists.js', 'page.js')
+SCRIPTS = ('page_data.js', 'page_lanes.js', 'page_draw.js', 'page_words.js', 'page_view.js', 'page_overview.js', 'page_lists.js', 'page.js')
 
 
 def escaped(text: object) -> str:

@@ -107,12 +107,15 @@ class Columns {
   }
   sumOf(name, thread) {
     const key = name + thread;
-    if (!this.sums.has(key)) this.sums.set(key, prefixes(this.schedule.numbers("column" + name, thread * this.many, (thread + 1) * this.many)));
+    const own = () => prefixes(this.schedule.numbers("column" + name, thread * this.many, (thread + 1) * this.many));
+    if (!this.sums.has(key)) this.sums.set(key, own());
     return this.sums.get(key);
   }
   // how much there is up to a time; within a column it is spread evenly
   upTo(name, thread, t) {
-    const sum = this.sumOf(name, thread), place = clamp((t - this.begin) / this.width, 0, this.many), k = Math.min(this.many - 1, Math.floor(place));
+    const sum = this.sumOf(name, thread);
+    const place = clamp((t - this.begin) / this.width, 0, this.many);
+    const k = Math.min(this.many - 1, Math.floor(place));
     return sum[k] + (sum[k + 1] - sum[k]) * (place - k);
   }
 }
@@ -138,7 +141,9 @@ class Schedule {
   }
   // the numbers of an array, or some of them
   numbers(name, from = 0, to = Infinity) {
-    const [at, many, wide] = this.places.get(name), last = Math.min(to, many), found = new Float64Array(Math.max(0, last - from));
+    const [at, many, wide] = this.places.get(name);
+    const last = Math.min(to, many);
+    const found = new Float64Array(Math.max(0, last - from));
     for (let byte = 0, scale = 1; byte < wide; byte++, scale *= 256) {
       const plane = at + byte * many + from;
       for (let i = 0; i < found.length; i++) found[i] += this.bytes[plane + i] * scale;
@@ -171,8 +176,10 @@ class Schedule {
     return this.onCore[core].reduce((sum, thread) => sum + this.columns.upTo("Run", thread, t), single);
   }
   countOf(thread, what, a, b) {
-    const rounds = this.rounds(thread), single = what === "Missed" ? rounds.countMissed(a, b) : what === "Rounds" ? rounds.countEnds(a, b) : this.countLost(thread, a, b);
-    return single + (this.columns && b > this.single ? Math.round(this.columns.upTo(what, thread, b) - this.columns.upTo(what, thread, Math.max(a, this.single))) : 0);
+    const rounds = this.rounds(thread);
+    const single = what === "Missed" ? rounds.countMissed(a, b) : what === "Rounds" ? rounds.countEnds(a, b) : this.countLost(thread, a, b);
+    if (!this.columns || b <= this.single) return single;
+    return single + Math.round(this.columns.upTo(what, thread, b) - this.columns.upTo(what, thread, Math.max(a, this.single)));
   }
   countLost(thread, a, b) { return countIn(this.posts.lost[thread], a, b); }
   missedOn(core, a, b) { return this.onCore[core].reduce((sum, thread) => sum + this.countOf(thread, "Missed", a, b), 0); }
@@ -243,12 +250,16 @@ class Stays {
 const LETTERS = [[1e9, "G"], [1e6, "M"], [1e3, "k"]];
 class Unit {
   constructor(schedule) { this.tick = schedule.tick; this.name = schedule.unit; }
-  bare(ticks) { return (this.tick === null ? ticks : Math.round(ticks * this.tick * 1e9) / 1e9).toLocaleString("en-US", { maximumFractionDigits: 9 }); }
+  bare(ticks) {
+    const number = this.tick === null ? ticks : Math.round(ticks * this.tick * 1e9) / 1e9;
+    return number.toLocaleString("en-US", { maximumFractionDigits: 9 });
+  }
   text(ticks) { return this.tick === null ? this.bare(ticks) : this.bare(ticks) + " " + this.name; }
   short(ticks) {
     if (this.tick !== null) return this.bare(ticks);
-    for (const [many, letter] of LETTERS) if (ticks >= 10 * many && ticks % (many / 10) === 0 || ticks >= many && ticks % many === 0) return ticks / many + letter;
-    return String(ticks);
+    const fits = ([many]) => ticks >= 10 * many && ticks % (many / 10) === 0 || ticks >= many && ticks % many === 0;
+    const [many, letter] = LETTERS.find(fits) ?? [1, ""];
+    return ticks / many + letter;
   }
   get suffix() { return this.tick === null ? "" : " " + this.name; }
 }

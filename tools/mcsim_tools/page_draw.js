@@ -2,7 +2,9 @@
 // A drawn thing says what it is in data-i: its kind, and where to find it. Its words are made when somebody points at it.
 const COLOURS = 6, MANY = 5000, COLUMN = 2, JOINS = 160, CROWDED = 18, FEW = 4, LETTER = 6.6, NEAR = 8;
 const HEIGHT = { [RUNNING]: BAR, [READY]: 7, [THROTTLED]: 8, [BLOCKED]: 1.6 };
-const SMALL = new Set(["up", "down", "hold", "lost", "end", "endlate"]), LEFT_OUT = new Set(["made", "down"]), ABOVE = new Set(["up", "down", "hold", "free", "lost"]);
+const SMALL = new Set(["up", "down", "hold", "lost", "end", "endlate"]);
+const LEFT_OUT = new Set(["made", "down"]);
+const ABOVE = new Set(["up", "down", "hold", "free", "lost"]);
 const escaped = text => String(text).replace(/[&<>"]/g, letter => ({ "&": "&amp;", "<": "&lt;", ">": "&gt;", "\"": "&quot;" })[letter]);
 const fixed = x => Math.round(x * 100) / 100;
 
@@ -14,7 +16,9 @@ class Drawer {
     this.a = view.lo; this.b = view.hi; this.left = view.left; this.wide = view.wide;
     this.scale = view.wide / (view.hi - view.lo);
     this.under = []; this.bars = []; this.signs = []; this.names = []; this.columnLanes = 0;
-    const counts = rows.map(row => this.count(row)), total = counts.reduce((sum, count) => sum + count, 0), each = total <= most ? Infinity : most / rows.length;
+    const counts = rows.map(row => this.count(row));
+    const total = counts.reduce((sum, count) => sum + count, 0);
+    const each = total <= most ? Infinity : most / rows.length;
     rows.forEach((row, place) => this.row(row, counts[place] <= each && this.b <= Math.max(this.schedule.single, this.a)));
     return this.under.join("") + this.bars.join("") + this.signs.join("") + `<g id="labels">${this.names.join("")}</g>`;
   }
@@ -27,7 +31,8 @@ class Drawer {
     if (row.kind === "core") return subtract(schedule.timeline(row.core).within(a, b));
     if (row.kind !== "thread") return 0;
     const track = schedule.track(row.thread), posts = schedule.posts;
-    return track.at(b) - track.at(a) + 5 * subtract(schedule.rounds(row.thread).within(a, b)) + posts.arrivedIn(row.thread, a, b).length + posts.madeIn(row.thread, a, b).length;
+    const signals = posts.arrivedIn(row.thread, a, b).length + posts.madeIn(row.thread, a, b).length;
+    return track.at(b) - track.at(a) + 5 * subtract(schedule.rounds(row.thread).within(a, b)) + signals;
   }
   row(row, isSingle) {
     if (row.kind === "core") this.core(row, isSingle);
@@ -35,7 +40,9 @@ class Drawer {
     else if (row.kind === "budget") this.budget(row);
     else this.server(row);
   }
-  back(look, top, high, more = "") { this.under.push(`<rect class="${look}" x="${this.left}" y="${top}" width="${fixed(this.wide)}" height="${high}"${more}/>`); }
+  back(look, top, high, more = "") {
+    this.under.push(`<rect class="${look}" x="${this.left}" y="${top}" width="${fixed(this.wide)}" height="${high}"${more}/>`);
+  }
   bar(look, a, b, top, high, id) {
     const from = Math.max(this.x(a), this.left), to = Math.min(this.x(b), this.left + this.wide);
     return `<rect class="${look}" x="${fixed(from)}" y="${fixed(top)}" width="${Math.max(.05, fixed(to - from))}" height="${high}" data-i="${id}"/>`;
@@ -52,20 +59,25 @@ class Drawer {
     const timeline = this.schedule.timeline(row.core), [first, after] = timeline.within(this.a, this.b), parts = [];
     for (let i = first; i < after; i++) {
       const thread = timeline.thread[i], a = timeline.begin[i], b = timeline.end[i];
-      parts.push(this.bar(this.lanes.has(thread) ? "on" + this.lanes.colour(thread) : "other", a, b, row.top, CORE, `s.${thread}.${timeline.segment[i]}`));
+      const look = this.lanes.has(thread) ? "on" + this.lanes.colour(thread) : "other";
+      parts.push(this.bar(look, a, b, row.top, CORE, `s.${thread}.${timeline.segment[i]}`));
       this.name(thread, a, b, row.top + 14);
     }
     return parts.join("");
   }
   name(thread, a, b, y) {
-    const from = Math.max(this.left, this.x(a)), to = Math.min(this.left + this.wide, this.x(b)), name = this.schedule.threads[thread].name;
+    const from = Math.max(this.left, this.x(a));
+    const to = Math.min(this.left + this.wide, this.x(b));
+    const name = this.schedule.threads[thread].name;
     if (to - from <= LETTER * name.length + 6) return;
     const own = this.lanes.look(thread), look = own === undefined ? "small" : own < COLOURS ? "n" + own : "nq";
     this.names.push(`<text class="${look}" x="${fixed((from + to) / 2)}" y="${y}" text-anchor="middle">${escaped(name)}</text>`);
   }
   coreColumns(row) {
     this.columnLanes++;
-    const own = this.lanes.shown.filter(thread => this.schedule.threads[thread].core === row.core), edges = this.edges(), stack = new Stack(this, edges, row.top + CORE, CORE);
+    const own = this.lanes.shown.filter(thread => this.schedule.threads[thread].core === row.core);
+    const edges = this.edges();
+    const stack = new Stack(this, edges, row.top + CORE, CORE);
     const rest = differences(edges.map(t => this.schedule.busy(row.core, t))), parts = [];
     for (const thread of own) {
       const ticks = differences(edges.map(t => this.schedule.ticks(thread, RUNNING, t)));
@@ -96,17 +108,29 @@ class Drawer {
       const standing = track.standing(i), high = HEIGHT[standing];
       if (!high) continue;
       const colour = standing === RUNNING || standing === READY ? this.lanes.colour(thread) : "";
-      parts.push(this.bar(this.schedule.standings[standing] + colour, track.begin[i], track.begin[i + 1], base - high, high, `s.${thread}.${i}`));
+      const look = this.schedule.standings[standing] + colour;
+      parts.push(this.bar(look, track.begin[i], track.begin[i + 1], base - high, high, `s.${thread}.${i}`));
     }
     return parts.join("");
   }
   roundBars(thread, base) {
-    const rounds = this.schedule.rounds(thread), [first, after] = rounds.within(this.a, this.b), parts = [], open = this.schedule.openOf.get(thread);
-    for (let i = first; i < after; i++) parts.push(this.response(rounds.activated(i), rounds.begun(i), rounds.end[i], rounds.isMissed(i) ? rounds.due(i) : Infinity, base, `r.${thread}.${i}`));
-    if (open && open.activated < this.b) parts.push(this.response(open.activated, open.begun, open.end, this.isOverdue(thread, open) ? open.activated + rounds.deadline : Infinity, base, `r.${thread}.open`));
+    const rounds = this.schedule.rounds(thread);
+    const [first, after] = rounds.within(this.a, this.b);
+    const parts = [];
+    const open = this.schedule.openOf.get(thread);
+    for (let i = first; i < after; i++) {
+      const due = rounds.isMissed(i) ? rounds.due(i) : Infinity;
+      parts.push(this.response(rounds.activated(i), rounds.begun(i), rounds.end[i], due, base, `r.${thread}.${i}`));
+    }
+    if (open && open.activated < this.b) parts.push(this.response(open.activated, open.begun, open.end, this.overdue(thread), base, `r.${thread}.open`));
     return parts.join("");
   }
-  isOverdue(thread, open) { const deadline = this.schedule.threads[thread].deadline; return deadline > 0 && open.end - open.activated >= deadline; }
+  // the deadline beyond which the open round of a thread is; infinity if it is not
+  overdue(thread) {
+    const open = this.schedule.openOf.get(thread);
+    const { deadline } = this.schedule.threads[thread];
+    return open && deadline > 0 && open.end - open.activated >= deadline ? open.activated + deadline : Infinity;
+  }
   response(activated, begun, end, due, base, id) {
     const parts = [], begin = Math.max(activated, begun), isIn = (a, b) => a < b && a < this.b && b > this.a;
     if (isIn(activated, begun)) parts.push(this.bar("queued", activated, begun, base + 3.3, 1.4, id));
@@ -118,19 +142,24 @@ class Drawer {
     const edges = this.edges(), stack = new Stack(this, edges, base, BAR);
     const parts = [RUNNING, READY, THROTTLED].map(standing => {
       const colour = standing === THROTTLED ? "" : this.lanes.colour(thread);
-      return stack.add(this.schedule.standings[standing] + colour, differences(edges.map(t => this.schedule.ticks(thread, standing, t))), `c.${thread}`);
+      const ticks = differences(edges.map(t => this.schedule.ticks(thread, standing, t)));
+      return stack.add(this.schedule.standings[standing] + colour, ticks, `c.${thread}`);
     });
-    const missed = this.counted(thread, "Missed", edges, base + 1.5, 5), lost = this.counted(thread, "Losses", edges, base - BAR - 6, 3), open = this.schedule.openOf.get(thread);
-    const late = open && this.isOverdue(thread, open) ? this.response(open.end, open.end, open.end, open.activated + this.schedule.threads[thread].deadline, base, `r.${thread}.open`) : "";
-    return parts.join("") + missed + lost + late;
+    const missed = this.counted(thread, "Missed", edges, base + 1.5, 5);
+    const lost = this.counted(thread, "Losses", edges, base - BAR - 6, 3);
+    const { b } = this.schedule;
+    return parts.join("") + missed + lost + this.response(b, b, b, this.overdue(thread), base, `r.${thread}.open`);
   }
   // red bars in the columns in which something is counted; neighbours are one bar
   counted(thread, what, edges, top, high) {
-    const parts = [], has = k => this.schedule.countOf(thread, what, edges[k], edges[k + 1] + (k === edges.length - 2 ? 1 : 0)) > 0;
+    const parts = [];
+    const has = k => this.schedule.countOf(thread, what, edges[k], edges[k + 1] + (k === edges.length - 2 ? 1 : 0)) > 0;
     for (let k = 0, first = -1; k < edges.length; k++) {
       const isIn = k < edges.length - 1 && has(k);
       if (isIn && first < 0) first = k;
-      if (!isIn && first >= 0) { parts.push(this.bar("late", edges[first], edges[k], top, high, `n.${thread}.${what}.${edges[first]}.${edges[k]}`)); first = -1; }
+      if (isIn || first < 0) continue;
+      parts.push(this.bar("late", edges[first], edges[k], top, high, ["n", thread, what, Math.round(edges[first]), Math.round(edges[k])].join(".")));
+      first = -1;
     }
     return parts.join("");
   }
@@ -138,15 +167,21 @@ class Drawer {
   // ---- signs
 
   marks(thread, base) {
-    const found = [...this.roundMarks(thread), ...this.postMarks(thread)].filter(mark => this.isSeen(mark.t)), above = found.filter(mark => ABOVE.has(mark.sign)).length;
+    const found = [...this.roundMarks(thread), ...this.postMarks(thread)].filter(mark => this.isSeen(mark.t));
+    const above = found.filter(mark => ABOVE.has(mark.sign)).length;
     const isCrowded = above > FEW && this.wide < this.crowded * above;
-    return found.filter(mark => !isCrowded || mark.look === "bad" || !LEFT_OUT.has(mark.sign)).map(mark => this.mark(mark, base, isCrowded)).join("");
+    const shown = found.filter(mark => !isCrowded || mark.look === "bad" || !LEFT_OUT.has(mark.sign));
+    return shown.map(mark => this.mark(mark, base, isCrowded)).join("");
   }
   mark({ sign, look, t, id }, base, isCrowded) {
-    return `<use class="m ${look}" href="#${sign}${isCrowded && SMALL.has(sign) ? "-s" : ""}" x="${fixed(this.x(t))}" y="${base}" data-i="${id}"/>`;
+    const form = isCrowded && SMALL.has(sign) ? sign + "-s" : sign;
+    return `<use class="${look}" href="#${form}" x="${fixed(this.x(t))}" y="${base}" data-i="${id}"/>`;
   }
   roundMarks(thread) {
-    const rounds = this.schedule.rounds(thread), [first, after] = rounds.within(this.a, this.b), found = [], open = this.schedule.openOf.get(thread);
+    const rounds = this.schedule.rounds(thread);
+    const [first, after] = rounds.within(this.a, this.b);
+    const found = [];
+    const open = this.schedule.openOf.get(thread);
     const add = (activated, due, isBad, id) => {
       found.push({ sign: "up", look: "ink", t: activated, id });
       if (rounds.deadline) found.push({ sign: "down", look: isBad ? "bad" : "ink", t: due, id });
@@ -158,20 +193,25 @@ class Drawer {
     }
     if (open) {
       const due = open.activated + rounds.deadline;
-      add(open.activated, due <= this.schedule.b ? due : Infinity, this.isOverdue(thread, open), `r.${thread}.open`);
+      add(open.activated, due <= this.schedule.b ? due : Infinity, this.overdue(thread) < Infinity, `r.${thread}.open`);
     }
     return found;
   }
   postMarks(thread) {
-    const posts = this.schedule.posts, found = posts.madeIn(thread, this.a, this.b).map(i => ({ sign: "made", look: "ink", t: posts.made[i], id: `p.${i}` }));
+    const posts = this.schedule.posts;
+    const found = posts.madeIn(thread, this.a, this.b).map(i => ({ sign: "made", look: "ink", t: posts.made[i], id: `p.${i}` }));
     for (const i of posts.arrivedIn(thread, this.a, this.b)) {
       const outcome = posts.outcome[i], t = posts.at[i], id = `p.${i}`;
       if (posts.source[i]) found.push({ sign: "irq", look: outcome === LOST ? "bad" : "ink", t, id });
       if (outcome === LOST) found.push({ sign: "lost", look: "bad", t, id });
       else if (outcome !== WOKE) found.push({ sign: this.isRelease(i) ? "free" : "hold", look: "soft", t, id });
     }
-    this.schedule.sent.forEach(([, maker, made], k) => { if (maker === thread) found.push({ sign: "made", look: "ink", t: made, id: `u.${k}` }); });
-    this.schedule.orders.forEach(([of, t], k) => { if (of === thread) found.push({ sign: "order", look: "order", t, id: `o.${k}` }); });
+    this.schedule.sent.forEach(([, maker, t], k) => {
+      if (maker === thread) found.push({ sign: "made", look: "ink", t, id: `u.${k}` });
+    });
+    this.schedule.orders.forEach(([of, t], k) => {
+      if (of === thread) found.push({ sign: "order", look: "order", t, id: `o.${k}` });
+    });
     return found;
   }
   // whether a signal gave a lock back for which nobody waits: it is free, and nothing is held up
@@ -188,7 +228,9 @@ class Drawer {
     return found.map(([i, top, low]) => this.join(i, top - BAR, low - BAR - (low > top ? HEAD - 1 : 2))).join("");
   }
   join(i, top, low) {
-    const begin = fixed(this.x(this.schedule.posts.made[i])), end = fixed(this.x(this.schedule.posts.at[i])), bend = (low - top) / 2;
+    const begin = fixed(this.x(this.schedule.posts.made[i]));
+    const end = fixed(this.x(this.schedule.posts.at[i]));
+    const bend = (low - top) / 2;
     return `<path class="join" d="M${begin} ${top}C${begin} ${top + bend} ${end} ${low - bend} ${end} ${low}" data-i="p.${i}"/>`;
   }
 
@@ -197,12 +239,16 @@ class Drawer {
   // below what can be used now, above it in greys what comes back later; the sum is the budget
   budget(row) {
     this.back("lane", row.top + 1, PLOT);
-    const paths = [[], [], [], []], held = this.schedule.held.of(row.thread), most = held.reduce((most, one) => Math.max(most, one.refills.reduce((sum, refill) => sum + refill[1], 0)), 1);
-    const first = firstAt(held.length, i => held[i].end > this.a), after = firstAt(held.length, i => held[i].begin >= this.b);
+    const paths = [[], [], [], []];
+    const held = this.schedule.held.of(row.thread);
+    const most = held.reduce((most, one) => Math.max(most, one.refills.reduce((sum, refill) => sum + refill[1], 0)), 1);
+    const first = firstAt(held.length, i => held[i].end > this.a);
+    const after = firstAt(held.length, i => held[i].begin >= this.b);
     if (after - first > 4 * this.wide) return;
     for (let i = first; i < after; i++) this.holding(held[i], row.top + 1 + PLOT, PLOT / most, paths);
     const looks = [`use${this.lanes.colour(row.thread)}`, "come1", "come2", "come3"];
-    this.bars.push(`<g class="H" data-i="b.${row.thread}">${paths.map((path, k) => path.length ? `<path class="${looks[k]}" d="${path.join("")}"/>` : "").join("")}</g>`);
+    const drawn = paths.map((path, k) => path.length ? `<path class="${looks[k]}" d="${path.join("")}"/>` : "");
+    this.bars.push(`<g class="H" data-i="b.${row.thread}">${drawn.join("")}</g>`);
   }
   holding(one, base, unit, paths) {
     const cuts = [one.begin, ...one.refills.map(([date]) => date).filter(date => one.begin < date && date < one.end), one.end];
@@ -212,8 +258,12 @@ class Drawer {
     }
   }
   holdingPiece(one, cut, begin, end, base, unit, paths) {
-    const now = one.refills.reduce((sum, [date, amount]) => date <= cut ? sum + amount : sum, 0), y = ticks => fixed(base - ticks * unit);
-    const left = one.isUsed ? now - (begin - one.begin) : now, right = one.isUsed ? now - (end - one.begin) : now, from = fixed(this.x(begin)), to = fixed(this.x(end));
+    const now = one.refills.reduce((sum, [date, amount]) => date <= cut ? sum + amount : sum, 0);
+    const y = ticks => fixed(base - ticks * unit);
+    const left = one.isUsed ? now - (begin - one.begin) : now;
+    const right = one.isUsed ? now - (end - one.begin) : now;
+    const from = fixed(this.x(begin));
+    const to = fixed(this.x(end));
     paths[0].push(`M${from} ${y(0)}V${y(left)}L${to} ${y(right)}V${y(0)}Z`);
     if (one.isUsed) paths[3].push(`M${from} ${y(left)}V${y(now)}H${to}V${y(right)}Z`);
     let level = now;

@@ -23,7 +23,9 @@ class Lanes {
   add(thread) {
     if (this.has(thread)) return;
     this.looks.set(thread, this.freeLook());
-    const own = this.schedule.threads[thread], after = this.shown.findIndex(other => this.schedule.threads[other].core > own.core || this.schedule.threads[other].core === own.core && other > thread);
+    const own = this.schedule.threads[thread];
+    const isAfter = other => other.core > own.core || other.core === own.core && this.schedule.placeOf.get(other.name) > thread;
+    const after = this.shown.findIndex(other => isAfter(this.schedule.threads[other]));
     this.shown.splice(after < 0 ? this.shown.length : after, 0, thread);
   }
   remove(thread) {
@@ -51,13 +53,18 @@ class Lanes {
     for (const thread of this.pinned) this.place(pins, thread);
     for (const core of this.coresShown()) {
       rows.add({ kind: "core", core }, CORE_LANE);
-      this.schedule.servers.forEach((_, server) => { if (this.schedule.serverCores[server] === core) rows.add({ kind: "server", server }, SERVER_LANE); });
-      if (!this.folded.has(core)) for (const thread of this.shown) if (this.schedule.threads[thread].core === core && !this.isPinned(thread)) this.place(rows, thread);
+      for (const [server, home] of this.schedule.serverCores.entries()) if (home === core) rows.add({ kind: "server", server }, SERVER_LANE);
+      if (!this.folded.has(core)) for (const thread of this.freeOn(core)) this.place(rows, thread);
       rows.bottom += 10;
     }
     return { pins, rows };
   }
-  coresShown() { return [...new Set([...this.cores, ...this.shown.map(thread => this.schedule.threads[thread].core)])].sort((one, two) => one - two); }
+  coresShown() {
+    const own = this.shown.map(thread => this.schedule.threads[thread].core);
+    return [...new Set([...this.cores, ...own])].sort((one, two) => one - two);
+  }
+  // the threads of a core that have lanes and are not pinned
+  freeOn(core) { return this.shown.filter(thread => this.schedule.threads[thread].core === core && !this.isPinned(thread)); }
   place(rows, thread) {
     rows.add({ kind: "thread", thread }, LANE);
     if (this.hasBudgets && this.schedule.held.has(thread)) rows.add({ kind: "budget", thread }, PLOT + 7);

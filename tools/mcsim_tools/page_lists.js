@@ -1,6 +1,7 @@
 // The table of threads, the findings, and the search over both.
 const FIRST = 100, HITS = 12;
 const BAR_PARTS = [[2, "run"], [1, "rdy"], [3, "thr"], [4, "blk"], [0, "non"], [5, "non"]];
+const BAR_KEYS = [["run", "running"], ["rdy", "ready"], ["thr", "throttled"], ["blk", "blocked"]];
 const node = (name, words, ...parts) => {
   const made = Object.assign(document.createElement(name), words);
   made.append(...parts);
@@ -8,23 +9,24 @@ const node = (name, words, ...parts) => {
 };
 const counted = many => many.toLocaleString("en-US");
 
-// The columns of the table: a heading, what it says, what is sorted by, and what stands in a cell.
+// The columns of the table: a heading, what it means, what is sorted by, what stands in a cell, and whether that is wrong.
 const TABLE = unit => [
-  ["thread", "its name", thread => thread.name, thread => thread.name],
-  ["core", "its core", thread => thread.core, thread => thread.core],
-  ["prio", "its priority", thread => thread.prio, thread => thread.prio],
+  ["thread", "its name", thread => thread.name],
+  ["core", "its core", thread => thread.core],
+  ["prio", "its priority", thread => thread.prio],
   ["budget", "budget and period of its context" + unit.suffix, thread => thread.budget, thread => `${unit.bare(thread.budget)}/${unit.bare(thread.period)}`],
   ["granted", "utilisation: budget over period", thread => thread.budget / thread.period, thread => percent(thread.budget / thread.period)],
   ["used", "ticks run, of all", thread => thread.used, thread => percent(thread.used)],
   ["rounds", "rounds (jobs) that ended", thread => thread.rounds, thread => counted(thread.rounds)],
-  ["response" + unit.suffix, "the maximum response time of this run, from the activation on", thread => thread.rounds ? thread.greatest : -1, thread => thread.rounds ? unit.bare(thread.greatest) : "–"],
-  ["deadline" + unit.suffix, "its deadline", thread => thread.deadline, thread => thread.deadline ? unit.bare(thread.deadline) : "–"],
-  ["margin" + unit.suffix, "deadline less greatest response", thread => thread.margin ?? Infinity, thread => thread.margin === null ? "–" : unit.bare(thread.margin), thread => thread.margin !== null && thread.margin < 0],
-  ["missed", "rounds that ended beyond their deadline", thread => thread.missed, thread => counted(thread.missed), thread => thread.missed > 0],
+  ["response" + unit.suffix, "the maximum response time of this run, from the activation on", thread => thread.response ?? -1, thread => known(unit, thread.response)],
+  ["deadline" + unit.suffix, "its deadline", thread => thread.deadline, thread => known(unit, thread.deadline || null)],
+  ["margin" + unit.suffix, "deadline less maximum response", thread => thread.margin ?? Infinity, thread => known(unit, thread.margin), thread => thread.margin < 0],
+  ["missed", "rounds that ended beyond their deadline", thread => thread.missed, thread => counted(thread.missed), thread => thread.missed],
   ["open", "at the end", thread => thread.open, thread => thread.open || "–", thread => thread.open],
-  ["lost", "signals whose bits were held already", thread => thread.lost, thread => counted(thread.lost), thread => thread.lost > 0],
+  ["lost", "signals whose bits were held already", thread => thread.lost, thread => counted(thread.lost), thread => thread.lost],
   ["merged", "signals that added bits to a held word", thread => thread.merged, thread => counted(thread.merged)],
 ];
+const known = (unit, ticks) => ticks === null ? "–" : unit.bare(ticks);
 const percent = share => (100 * share).toFixed(1) + "%";
 
 class Table {
@@ -33,16 +35,23 @@ class Table {
     this.columns = TABLE(view.unit);
     this.sorted = 10; this.isRising = false; this.most = FIRST;
     const all = Math.max(1, view.schedule.end);
-    this.threads = view.schedule.threads.map((thread, place) => ({ ...thread, place, used: thread.stood[RUNNING] / all, margin: thread.deadline && thread.rounds ? thread.deadline - thread.greatest : null }));
+    this.threads = view.schedule.threads.map((thread, place) => {
+      const response = thread.rounds ? thread.greatest : null;
+      const margin = thread.deadline && thread.rounds ? thread.deadline - thread.greatest : null;
+      return { ...thread, place, response, margin, used: thread.stood[RUNNING] / all };
+    });
     if (!this.threads.some(thread => thread.missed)) { this.sorted = 1; this.isRising = true; }
     $("filter").oninput = $("wrong").onchange = () => this.show();
     this.show();
   }
   // the threads that are asked for, in order; those that are alike stand core by core
   rows() {
-    const words = $("filter").value.toLowerCase().split(/\s+/).filter(Boolean), key = this.columns[this.sorted][2], sign = this.isRising ? 1 : -1;
+    const words = $("filter").value.toLowerCase().split(/\s+/).filter(Boolean);
+    const key = this.columns[this.sorted][2];
+    const sign = this.isRising ? 1 : -1;
     const said = thread => `${thread.name} core ${thread.core} ${thread.context} ${thread.open}`.toLowerCase();
-    const kept = this.threads.filter(thread => words.every(word => said(thread).includes(word)) && (!$("wrong").checked || thread.missed || thread.open || thread.lost));
+    const isAsked = thread => !$("wrong").checked || thread.missed || thread.open || thread.lost;
+    const kept = this.threads.filter(thread => words.every(word => said(thread).includes(word)) && isAsked(thread));
     const compare = (one, two) => one < two ? -sign : one > two ? sign : 0;
     return kept.sort((one, two) => compare(key(one), key(two)) || one.place - two.place);
   }
@@ -55,12 +64,15 @@ class Table {
     $("shown").textContent = rows.length === this.threads.length ? "" : `${counted(rows.length)} of ${counted(this.threads.length)}`;
   }
   head() {
-    const cells = this.columns.map(([name, title], place) => {
-      const cell = node("th", { title, scope: "col" }, node("button", { onclick: () => this.sort(place) }, name + (place !== this.sorted ? "" : this.isRising ? " ▴" : " ▾")));
-      if (place === this.sorted) cell.setAttribute("aria-sort", this.isRising ? "ascending" : "descending");
-      return cell;
-    });
-    return node("thead", {}, node("tr", {}, ...cells, node("th", { scope: "col", className: "bar" }, ...["run:running", "rdy:ready", "thr:throttled", "blk:blocked"].flatMap(key => [node("i", { className: "key " + key.slice(0, 3) }), key.slice(4)]))));
+    const cells = this.columns.map(([name, title], place) => this.heading(name, title, place));
+    const keys = BAR_KEYS.map(([look, word]) => node("span", { className: "nowrap" }, node("i", { className: "key " + look }), word));
+    return node("thead", {}, node("tr", {}, ...cells, node("th", { scope: "col", className: "bar" }, ...keys)));
+  }
+  heading(name, title, place) {
+    const sign = place !== this.sorted ? "" : this.isRising ? " ▴" : " ▾";
+    const cell = node("th", { title, scope: "col" }, node("button", { onclick: () => this.sort(place) }, name + sign));
+    if (sign) cell.setAttribute("aria-sort", this.isRising ? "ascending" : "descending");
+    return cell;
   }
   sort(place) {
     this.isRising = place === this.sorted ? !this.isRising : place < 3;
@@ -69,8 +81,9 @@ class Table {
     $("threads").querySelectorAll("thead button")[place].focus();
   }
   row(thread) {
-    const cells = this.columns.map(([, , , text, isBad], place) => node(place ? "td" : "th", { className: isBad?.(thread) ? "bad" : "" }, place ? String(text(thread)) : this.name(thread)));
-    const made = node("tr", {}, ...cells, this.bar(thread));
+    const [, ...columns] = this.columns;
+    const cells = columns.map(([, , key, text = key, isBad]) => node("td", { className: isBad?.(thread) ? "bad" : "" }, String(text(thread))));
+    const made = node("tr", {}, node("th", { scope: "row" }, this.name(thread)), ...cells, this.bar(thread));
     made.dataset.name = thread.name;
     made.dataset.thread = thread.place;
     return made;
@@ -107,7 +120,8 @@ class Findings {
     $("list").replaceChildren(...items);
   }
   item(finding, place) {
-    const made = node("button", { className: "finding", onclick: () => this.go(place) }, node("b", {}, finding.kind), ` ${this.view.unit.text(finding.end)} ${finding.name}: ${finding.said}`);
+    const rest = ` ${this.view.unit.text(finding.end)} ${finding.name}: ${finding.said}`;
+    const made = node("button", { className: "finding", onclick: () => this.go(place) }, node("b", {}, finding.kind), rest);
     made.dataset.place = place;
     made.dataset.name = finding.thread < 0 ? "" : this.view.schedule.threads[finding.thread].name;
     return made;
@@ -145,13 +159,25 @@ class Search {
     this.at = 0;
     this.show();
   }
+  // what has these words in its name: each with what it is, and what is done when it is chosen
   *all(words) {
-    const { schedule, unit } = this.view, rank = name => name.toLowerCase().startsWith(words) ? 0 : 1, found = [];
-    schedule.threads.forEach((thread, place) => { if (thread.name.toLowerCase().includes(words)) found.push([thread.name, `thread, core ${thread.core}` + (thread.missed ? `, ${counted(thread.missed)} missed` : ""), () => this.view.bring(place)]); });
-    for (let core = 0; core < schedule.cores; core++) if (`core ${core}`.includes(words)) found.push([`core ${core}`, `${schedule.onCore[core].length} threads`, () => this.view.bringCore(core)]);
-    schedule.servers.forEach((name, server) => { if (name.toLowerCase().includes(words)) found.push([name, "server", () => this.view.bringCore(schedule.serverCores[server])]); });
-    yield* found.sort((one, two) => rank(one[0]) - rank(two[0]) || one[0].length - two[0].length).slice(0, HITS - 4);
-    for (const [place, finding] of this.findings.list.entries()) if (this.findings.text(finding).toLowerCase().includes(words)) yield [`${finding.kind} ${finding.name}`, unit.text(finding.end), () => this.findings.go(place)];
+    const rank = name => name.toLowerCase().startsWith(words) ? 0 : 1;
+    const compare = (one, two) => rank(one) - rank(two) || one.length - two.length || one.localeCompare(two, "en", { numeric: true });
+    const found = [...this.threads(), ...this.cores(), ...this.servers()].filter(([name]) => name.toLowerCase().includes(words));
+    yield* found.sort((one, two) => compare(one[0], two[0])).slice(0, HITS - 4);
+    for (const [place, finding] of this.findings.list.entries()) {
+      if (!this.findings.text(finding).toLowerCase().includes(words)) continue;
+      yield [`${finding.kind} ${finding.name}`, this.view.unit.text(finding.end), () => this.findings.go(place)];
+    }
+  }
+  threads() {
+    const what = thread => `thread, core ${thread.core}` + (thread.missed ? `, ${counted(thread.missed)} missed` : "");
+    return this.view.schedule.threads.map((thread, place) => [thread.name, what(thread), () => this.view.bring(place)]);
+  }
+  cores() { return this.view.schedule.onCore.map((own, core) => [`core ${core}`, `${own.length} threads`, () => this.view.bringCore(core)]); }
+  servers() {
+    const { servers, serverCores } = this.view.schedule;
+    return servers.map((name, server) => [name, "server", () => this.view.bringCore(Math.max(0, serverCores[server]))]);
   }
   show() {
     const items = this.hits.map(([name, what, go], place) => {
@@ -165,8 +191,11 @@ class Search {
     $("find").setAttribute("aria-activedescendant", items.length ? "hit" + this.at : "");
   }
   key(v) {
-    if (v.key === "ArrowDown" || v.key === "ArrowUp") { this.at = clamp(this.at + (v.key === "ArrowDown" ? 1 : -1), 0, this.hits.length - 1); this.show(); v.preventDefault(); }
-    else if (v.key === "Enter" && this.hits[this.at]) { this.hits[this.at][2](); this.close(); }
+    if (v.key === "ArrowDown" || v.key === "ArrowUp") {
+      this.at = clamp(this.at + (v.key === "ArrowDown" ? 1 : -1), 0, this.hits.length - 1);
+      this.show();
+      v.preventDefault();
+    } else if (v.key === "Enter" && this.hits[this.at]) { this.hits[this.at][2](); this.close(); }
     else if (v.key === "Escape") this.close();
   }
   close() { this.hits = []; this.show(); }

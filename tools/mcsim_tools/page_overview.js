@@ -13,15 +13,23 @@ class Overview {
   get schedule() { return this.view.schedule; }
   get strip() { return STRIPS.find(([cores]) => this.schedule.cores <= cores)[1]; }
   x(t) { return this.view.left + (t - this.schedule.a) / this.view.span * this.view.wide; }
-  at(x) { return clamp(this.schedule.a + (x - this.view.left) / this.view.wide * this.view.span, this.schedule.a, this.schedule.a + this.view.span); }
+  at(x) {
+    const { a } = this.schedule;
+    return clamp(a + (x - this.view.left) / this.view.wide * this.view.span, a, a + this.view.span);
+  }
 
   // all strips; only after the width or the colours have changed
   draw() {
-    const { left, wide, right } = this.view, ratio = devicePixelRatio || 1, across = left + wide + right, high = this.strip * this.schedule.cores + 4;
+    const { left, wide, right } = this.view;
+    const ratio = devicePixelRatio || 1;
+    const across = left + wide + right;
+    const high = this.strip * this.schedule.cores + 4;
     Object.assign(this.canvas, { width: across * ratio, height: high * ratio });
     Object.assign(this.canvas.style, { width: across + "px", height: high + "px" });
     Object.assign($("window").style, { height: high + "px" });
-    const pen = this.canvas.getContext("2d"), style = getComputedStyle(document.documentElement), colour = name => style.getPropertyValue(name).trim();
+    const pen = this.canvas.getContext("2d");
+    const style = getComputedStyle(document.documentElement);
+    const colour = name => style.getPropertyValue(name).trim();
     pen.scale(ratio, ratio);
     pen.font = `${LABELS}px system-ui,sans-serif`;
     this.colours = { busy: colour("--run"), back: colour("--lane"), soft: colour("--soft"), red: colour("--red") };
@@ -30,7 +38,10 @@ class Overview {
     this.showWindow();
   }
   drawCore(pen, core, top) {
-    const { left, wide } = this.view, columns = Math.max(1, Math.floor(wide / 2)), high = this.strip - (this.strip > 5 ? 2 : 1), step = this.view.span / columns;
+    const { left, wide } = this.view;
+    const columns = Math.max(1, Math.floor(wide / 2));
+    const high = this.strip - (this.strip > 5 ? 2 : 1);
+    const step = this.view.span / columns;
     const every = Math.ceil((LABELS + 2) / this.strip);
     pen.fillStyle = this.colours.soft;
     if (core % every === 0) pen.fillText(`core ${core}`, 8, top + Math.max(high, LABELS) - 2);
@@ -61,7 +72,8 @@ class Overview {
     pen.fillStyle = this.colours.busy;
     let before = this.schedule.busy(core, this.schedule.a);
     for (let k = 0; k < columns; k++) {
-      const now = this.schedule.busy(core, this.schedule.a + (k + 1) * step), share = clamp((now - before) / step, 0, 1);
+      const now = this.schedule.busy(core, this.schedule.a + (k + 1) * step);
+      const share = clamp((now - before) / step, 0, 1);
       pen.globalAlpha = isLow ? share * .75 : .6;
       if (share > .002) pen.fillRect(edge(k), isLow ? top : top + high * (1 - share), edge(k + 1) - edge(k), isLow ? high : high * share);
       before = now;
@@ -80,9 +92,11 @@ class Overview {
     for (let k = 0; k < columns.many; k++) if (sum[k + 1] > sum[k]) yield columns.begin + (k + .5) * columns.width;
   }
   tell() {
-    const { a, b, cores } = this.schedule, share = core => Math.round(100 * (this.schedule.busy(core, b) - this.schedule.busy(core, a)) / this.view.span);
+    const { a, b, cores } = this.schedule;
+    const share = core => Math.round(100 * (this.schedule.busy(core, b) - this.schedule.busy(core, a)) / this.view.span);
     const busy = Array.from({ length: cores }, (_, core) => share(core)), most = busy.indexOf(Math.max(...busy));
-    this.canvas.setAttribute("aria-label", `How busy each of ${cores} cores is over the whole run, with ${this.schedule.summary}. The busiest is core ${most} with ${busy[most]} %.`);
+    const busiest = `The busiest is core ${most} with ${busy[most]} %.`;
+    this.canvas.setAttribute("aria-label", `How busy each of ${cores} cores is over the whole run, with ${this.schedule.summary}. ${busiest}`);
   }
   showWindow() {
     const from = this.x(this.view.lo), to = this.x(this.view.hi);
@@ -95,7 +109,8 @@ class Overview {
   move(v) {
     const core = clamp(Math.floor((v.offsetY - 2) / this.strip), 0, this.schedule.cores - 1);
     this.canvas.title = `core ${core}: ${this.schedule.onCore[core].length} threads`;
-    if (this.from !== undefined && Math.abs(v.offsetX - this.from) > 4) this.view.window(...[this.at(this.from), this.at(v.offsetX)].sort((one, two) => one - two));
+    if (this.from === undefined || Math.abs(v.offsetX - this.from) <= 4) return;
+    this.view.window(this.at(Math.min(this.from, v.offsetX)), this.at(Math.max(this.from, v.offsetX)));
   }
   release(v) {
     const isClick = this.from !== undefined && Math.abs(v.offsetX - this.from) <= 4;

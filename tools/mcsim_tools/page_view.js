@@ -1,7 +1,15 @@
-// The window of time in view, the axis, the names of the lanes, and what is said of a drawn thing.
-const NS = "http://www.w3.org/2000/svg", APART = 70, AXIS = 24, NARROW = 640, SLIM = 104, LEFT = 176, RIGHT = 64, WIDEST_TICK = 60, NARROWEST = 120;
-const OUTCOMES = ["wakes", "is held for", "is merged into the word for", "is lost: its bits were there already, for"];
-const STOPPED_BY = { yield: "after its yield", spent: "its budget is spent", wake: "woken before its budget is back" };
+// The window of time in view, the axis, and the names of the lanes.
+const NS = "http://www.w3.org/2000/svg";
+const APART = 70;
+const AXIS = 24;
+const NARROW = 640;
+const SLIM = 104;
+const LEFT = 176;
+const RIGHT = 64;
+const WIDEST_TICK = 60;
+const NARROWEST = 120, SPARE = 40;
+
+const DEFAULTS = { overdue: "overdue", "never activated": "never" };
 
 class View {
   constructor(schedule, chosen) {
@@ -9,6 +17,7 @@ class View {
     this.unit = new Unit(schedule);
     this.lanes = new Lanes(schedule, chosen);
     this.drawer = new Drawer(schedule, this.lanes);
+    this.words = new Words(schedule, this.unit, this);
     this.lo = schedule.a; this.hi = Math.max(schedule.b, schedule.a + 1);
     this.cursor = null; this.light = -1; this.isPrinting = false; this.frames = 0;
     this.arrange();
@@ -23,15 +32,18 @@ class View {
 
   // after lanes or the width have changed
   arrange() {
-    const room = $("draw").clientWidth, longest = Math.max(0, ...this.lanes.shown.map(thread => this.label(thread).length));
+    const room = $("draw").clientWidth;
+    const longest = Math.max(0, ...this.lanes.shown.map(thread => this.label(thread).length));
     this.isSlim = room < NARROW;
     this.left = this.isSlim ? SLIM : clamp(28 + 6.2 * longest, LEFT, 300);
     this.right = this.isSlim ? 10 : RIGHT;
     this.wide = Math.max(NARROWEST, Math.min(room - this.left - this.right, WIDEST_TICK * this.span));
     Object.assign(this, this.lanes.layout());
     const clip = `<clipPath id="clip"><rect x="${this.left - 6}" y="-50" width="${this.wide + 12}" height="${this.rows.bottom + 500}"/></clipPath>`;
-    this.fill($("top"), AXIS + (this.pins.list.length ? this.pins.bottom : 0), `<defs>${clip}</defs><g id="axis"></g><g transform="translate(0 ${AXIS})"><g id="pinned" clip-path="url(#clip)"></g>${this.heads(this.pins)}</g>`);
-    this.fill($("main"), this.rows.bottom + 4, `<g id="grid"></g><g clip-path="url(#clip)"><g id="plot"></g><g id="joins"></g><g id="cursor"></g></g>${this.heads(this.rows)}<g id="margin">${this.margin()}</g>`);
+    const pinned = `<g transform="translate(0 ${AXIS})"><g id="pinned" clip-path="url(#clip)"></g>${this.heads(this.pins)}</g>`;
+    const plot = '<g id="grid"></g><g clip-path="url(#clip)"><g id="plot"></g><g id="joins"></g><g id="cursor"></g></g>';
+    this.fill($("top"), AXIS + (this.pins.list.length ? this.pins.bottom : 0), `<defs>${clip}</defs><g id="axis"></g>${pinned}`);
+    this.fill($("main"), this.rows.bottom + 4, `${plot}${this.heads(this.rows)}<g id="margin">${this.margin()}</g>`);
     this.show();
   }
   fill(svg, high, text) {
@@ -50,28 +62,38 @@ class View {
     if (row.kind === "core") return this.coreHead(row);
     if (row.kind === "thread") return this.threadHead(row);
     if (row.kind === "server") return `<text x="17" y="${row.top + 12}">${escaped(this.clip("server " + this.schedule.servers[row.server]))}</text>`;
-    return this.isSlim ? "" : `<text class="small" x="${this.left - 8}" y="${row.top + 11}" text-anchor="end">budget ${this.unit.text(this.schedule.threads[row.thread].budget)}</text>`;
+    const said = `budget ${this.unit.text(this.schedule.threads[row.thread].budget)}`;
+    return this.isSlim ? "" : `<text class="small" x="${this.left - 8}" y="${row.top + 11}" text-anchor="end">${said}</text>`;
   }
   coreHead({ core, top }) {
-    const isFolded = this.lanes.folded.has(core), { a, b } = this.schedule, busy = Math.round(100 * (this.schedule.busy(core, b) - this.schedule.busy(core, a)) / this.span);
-    const said = `core ${core}, ${busy} % busy, ${this.schedule.onCore[core].length} threads, ${this.schedule.missedOn(core, a, b + 1)} missed`;
-    return this.button(`c${core}`, `data-core="${core}" aria-expanded="${!isFolded}"`, said, top, CORE, `<text class="b" x="8" y="${top + 14}">${isFolded ? "▸" : "▾"} core ${core}</text>`);
+    const { a, b } = this.schedule;
+    const isFolded = this.lanes.folded.has(core);
+    const busy = Math.round(100 * (this.schedule.busy(core, b) - this.schedule.busy(core, a)) / this.span);
+    const missed = this.schedule.missedOn(core, a, b + 1);
+    const said = `core ${core}, ${busy} % busy, ${this.schedule.onCore[core].length} threads, ${missed} missed`;
+    const text = `<text class="b" x="8" y="${top + 14}">${isFolded ? "▸" : "▾"} core ${core}</text>`;
+    return this.button(`c${core}`, `data-core="${core}" aria-expanded="${!isFolded}"`, said, top, CORE, text);
   }
   threadHead({ thread, top }) {
-    const own = this.schedule.threads[thread], said = `${own.name}, core ${own.core}, ${this.label(thread)}, ${own.rounds} rounds, ${own.missed} missed` + (own.open ? `, ${own.open}` : "");
+    const { name, core, rounds, missed, open } = this.schedule.threads[thread];
+    const said = `${name}, core ${core}, ${this.label(thread)}, ${rounds} rounds, ${missed} missed` + (open ? `, ${open}` : "");
+    const colour = `<rect class="${this.lanes.colour(thread)}" x="8" y="${top + 5}" width="4" height="${BAR + 9}"/>`;
+    const pin = this.lanes.isPinned(thread) ? "⚲ " : "";
+    const first = `<text x="17" y="${top + (this.isSlim ? 22 : 16)}">${pin}${escaped(this.clip(name))}</text>`;
     const second = this.isSlim ? "" : `<text class="small" x="17" y="${top + 29}">${this.label(thread)}</text>`;
-    const text = `<rect class="${this.lanes.colour(thread)}" x="8" y="${top + 5}" width="4" height="${BAR + 9}"/><text x="17" y="${top + (this.isSlim ? 22 : 16)}">${this.lanes.isPinned(thread) ? "⚲ " : ""}${escaped(this.clip(own.name))}</text>`;
-    return this.button(`t${thread}`, `data-thread="${thread}"`, said, top, HEAD + BAR + 8, text + second);
+    return this.button(`t${thread}`, `data-thread="${thread}"`, said, top, HEAD + BAR + 8, colour + first + second);
   }
   button(key, more, said, top, high, text) {
-    return `<g class="head" role="button" tabindex="0" data-key="${key}" ${more} aria-label="${escaped(said)}"><rect class="hit" x="1" y="${top}" width="${this.left - 8}" height="${high}"/>${text}</g>`;
+    const hit = `<rect class="hit" x="1" y="${top}" width="${this.left - 8}" height="${high}"/>`;
+    return `<g class="head" role="button" tabindex="0" data-key="${key}" ${more} aria-label="${escaped(said)}">${hit}${text}</g>`;
   }
   clip(name) { const most = this.isSlim ? 12 : 24; return name.length <= most ? name : name.slice(0, most - 1) + "…"; }
   // words beside the lanes of threads that are in default at the end
   margin() {
     if (this.isSlim) return "";
-    const said = { overdue: "overdue", "never activated": "never" }, word = row => said[this.schedule.threads[row.thread].open];
-    return this.rows.list.filter(row => row.kind === "thread" && word(row)).map(row => `<text class="badtext" x="${this.left + this.wide + 6}" y="${row.top + HEAD + BAR + 3}">${word(row)}</text>`).join("");
+    const x = this.left + this.wide + 6;
+    const word = row => row.kind === "thread" && DEFAULTS[this.schedule.threads[row.thread].open];
+    return this.rows.list.filter(word).map(row => `<text class="badtext" x="${x}" y="${row.top + HEAD + BAR + 3}">${word(row)}</text>`).join("");
   }
 
   // ---- what is in view
@@ -80,7 +102,8 @@ class View {
     const began = performance.now(), { a, b } = this.schedule, span = clamp(this.hi - this.lo, this.least, this.span);
     this.lo = clamp(this.lo, a, Math.max(a, a + this.span - span));
     this.hi = this.lo + span;
-    const seen = this.rows.seen(this.isPrinting ? -1 : $("scroll").scrollTop - 40, this.isPrinting ? Infinity : $("scroll").scrollTop + $("scroll").clientHeight + 40);
+    const { scrollTop, clientHeight } = $("scroll");
+    const seen = this.isPrinting ? this.rows.list : this.rows.seen(scrollTop - SPARE, scrollTop + clientHeight + SPARE);
     $("plot").innerHTML = this.drawer.draw(seen, this, this.isPrinting ? Infinity : undefined);
     this.columnLanes = this.drawer.columnLanes;
     $("joins").innerHTML = this.joins();
@@ -96,7 +119,9 @@ class View {
   }
   joins() {
     if (!$("sig").checked || this.columnLanes > this.rows.list.length / 2) return "";
-    const base = new Map(this.rows.list.filter(row => row.kind === "thread").map(row => [row.thread, row.top + HEAD + BAR])), lines = this.drawer.joins(base);
+    const lanes = this.rows.list.filter(row => row.kind === "thread");
+    const base = new Map(lanes.map(row => [row.thread, row.top + HEAD + BAR]));
+    const lines = this.drawer.joins(base);
     this.hidesSignals = lines === null;
     return lines ?? "";
   }
@@ -127,10 +152,15 @@ class View {
     for (const lane of document.querySelectorAll("#draw .lane")) lane.classList.toggle("hi", lane.dataset.name === name);
   }
   tellWhere() {
-    const { detail, b } = this.schedule, lo = Math.max(0, Math.floor(this.lo)), hi = Math.min(b, Math.ceil(this.hi));
-    $("where").textContent = `${this.unit.text(Math.round(this.lo))} to ${this.unit.text(Math.round(this.hi))}` + (this.hidesSignals && $("sig").checked ? " (zoom in for signals)" : "");
+    const { detail, b, command } = this.schedule;
+    const lo = Math.max(0, Math.floor(this.lo));
+    const hi = Math.min(b, Math.ceil(this.hi));
+    const hint = this.hidesSignals && $("sig").checked ? " (zoom in for signals)" : "";
+    $("where").textContent = `${this.unit.text(Math.round(this.lo))} to ${this.unit.text(Math.round(this.hi))}${hint}`;
     $("blunt").hidden = detail === null || this.hi <= detail;
-    if (!$("blunt").hidden) $("blunt").textContent = `From ${this.unit.text(detail)} on this page has shares of time only. This window singly: ${this.schedule.command} --from ${lo} --to ${hi} -o part.html`;
+    if ($("blunt").hidden) return;
+    const advice = `This window singly: ${command} --from ${lo} --to ${hi} -o part.html`;
+    $("blunt").textContent = `From ${this.unit.text(detail)} on this page has shares of time only. ${advice}`;
   }
 
   // ---- moving
@@ -175,59 +205,4 @@ class View {
     if (row.top < scrollTop || row.top + row.high > scrollTop + clientHeight) $("scroll").scrollTop = row.top - clientHeight / 3;
     this.show();
   }
-
-  // ---- what is said of a drawn thing
-
-  span_(a, b) { return `${this.unit.text(a)} to ${this.unit.text(b)}: ${this.unit.text(b - a)}`; }
-  words(id, t) {
-    const [kind, ...rest] = id.split("."), numbers = rest.map(Number), names = this.schedule.threads;
-    if (kind === "s") return this.standingWords(...numbers);
-    if (kind === "r") return this.roundWords(numbers[0], rest[1]);
-    if (kind === "p") return this.postWords(numbers[0]);
-    if (kind === "c" || kind === "t") return this.shareWords(numbers[0], t);
-    if (kind === "k") return this.coreWords(numbers[0], t);
-    if (kind === "n") return `${names[numbers[0]].name} ${this.unit.text(Math.round(+rest[2]))} to ${this.unit.text(Math.round(+rest[3]))}: ${this.countWords(numbers[0], rest[1], +rest[2], +rest[3])}`;
-    if (kind === "b") return `${names[numbers[0]].name}: what context ${names[numbers[0]].context} holds: in colour what it may use now, in grey what comes back, the first below`;
-    if (kind === "o") return `order for context ${this.schedule.orders[numbers[0]][2]} at ${this.unit.text(this.schedule.orders[numbers[0]][1])}`;
-    if (kind === "u") return `signal of ${names[this.schedule.sent[numbers[0]][1]].name} at ${this.unit.text(this.schedule.sent[numbers[0]][2])} to ${this.schedule.sent[numbers[0]][0]}, still under way`;
-    return this.serverWords(rest[0], numbers[1], numbers[2]);
-  }
-  standingWords(thread, i) {
-    const track = this.schedule.track(thread), standing = track.standing(i), why = track.why(i);
-    const said = `${this.schedule.threads[thread].name} ${this.schedule.standings[standing]} ${this.span_(track.begin[i], track.begin[i + 1])}`;
-    if (standing === THROTTLED) return `${said}, ${STOPPED_BY[why] ?? "after a stop by " + why}`;
-    return standing === BLOCKED && why === "call" ? `${said}, its call waits for a server` : said;
-  }
-  roundWords(thread, place) {
-    const rounds = this.schedule.rounds(thread), { name, deadline } = this.schedule.threads[thread], unit = this.unit, due = deadline ? `, deadline ${unit.text(deadline)}` : "";
-    if (place === "open") {
-      const { activated, end } = this.schedule.openOf.get(thread), late = end - activated - deadline;
-      return `${name}: a round that is open since ${unit.text(activated)}${due}` + (deadline && late >= 0 ? `: overdue by ${unit.text(late)}` : "");
-    }
-    const i = +place, activated = rounds.activated(i), begun = rounds.begun(i), late = rounds.response[i] - deadline;
-    return `${name} round ${rounds.number[i]}: ${unit.text(activated)} to ${unit.text(rounds.end[i])}, response ${unit.text(rounds.response[i])}${due}`
-      + (begun > activated ? `; it was queued until ${unit.text(begun)}` : "") + (rounds.isMissed(i) ? `: missed by ${unit.text(late)}` : "");
-  }
-  postWords(i) {
-    const { posts, notes, sources, threads, locks } = this.schedule, unit = this.unit, to = posts.to[i] ? threads[posts.to[i] - 1].name : "nobody";
-    const maker = posts.maker[i] ? threads[posts.maker[i] - 1].name : "core " + posts.core[i], what = posts.source[i] ? `interrupt of ${sources[posts.source[i] - 1]}` : `signal of ${maker}`;
-    return `${what} at ${unit.text(posts.made[i])} to ${notes[posts.note[i]]}, badge ${posts.badge[i]}` + (posts.at[i] > posts.made[i] ? `, arrives at ${unit.text(posts.at[i])}` : "") + (locks.includes(posts.note[i]) && posts.outcome[i] === HELD ? ": the lock is free" : `: ${OUTCOMES[posts.outcome[i]]} ${to}`);
-  }
-  shareWords(thread, t) {
-    const { name } = this.schedule.threads[thread], [a, b] = this.pixel(t), share = standing => Math.round(100 * (this.schedule.ticks(thread, standing, b) - this.schedule.ticks(thread, standing, a)) / (b - a));
-    return `${name} about ${this.unit.text(Math.round(t))}: running ${share(RUNNING)} %, ready ${share(READY)} %, throttled ${share(THROTTLED)} %, blocked ${share(BLOCKED)} %`;
-  }
-  coreWords(core, t) {
-    const [a, b] = this.pixel(t);
-    return `core ${core} about ${this.unit.text(Math.round(t))}: busy ${Math.round(100 * (this.schedule.busy(core, b) - this.schedule.busy(core, a)) / (b - a))} %`;
-  }
-  countWords(thread, what, a, b) {
-    const many = this.schedule.countOf(thread, what, a, b).toLocaleString("en-US");
-    return what === "Missed" ? `${many} of ${this.schedule.countOf(thread, "Rounds", a, b).toLocaleString("en-US")} rounds missed` : `${many} signals lost`;
-  }
-  serverWords(what, server, i) {
-    const stays = this.schedule.server(what, server);
-    return `server ${this.schedule.servers[server]}: ${this.schedule.threads[stays.thread[i]].name} ${what === "served" ? "is inside" : "waits for it"} ${this.span_(stays.begin[i], stays.end[i])}`;
-  }
-  pixel(t) { const half = 1.5 / this.scale; return [Math.max(this.schedule.a, t - half), Math.min(this.schedule.b, t + half)]; }
 }
