@@ -79,7 +79,8 @@ def draw(connection: Connection, words: argparse.Namespace, window: view.Window,
             page = view.draw_page(told, words, window, live=number)
             return Drawn(page.text.encode(), verdict=page.verdict)
     except Fault as fault:
-        return Drawn(fault=printable(fault), explained=explained(words, text))
+        # nothing is run for a file that was not read
+        return Drawn(fault=printable(fault), explained=explained(words, text) if text else ())
     except Exception as error:
         return Drawn(fault=printable(f'{words.system}: it cannot be drawn: {type(error).__name__}: {error}'))
 

@@ -18,8 +18,8 @@ from .scene import LOSSES, MISSED, ROUNDS, Columns
 from .system import Context, System, Thread
 from .tally import Finding, Tally
 
-# things that a page holds at most, and states of budgets among them
-MOST, MOST_HELD = 4_000_000, 40_000
+# things that a page holds at most, which take some 4 bytes each, so that it has less than 10 MB; and states of budgets
+MOST, MOST_HELD = 1_600_000, 40_000
 # findings that a page lists
 LISTED = 20_000
 ORDERS = 2000

@@ -46,7 +46,8 @@ def data(packed: Packed, unit: Unit, heading: Mapping[str, Any]) -> dict[str, An
     return {
         **heading, 'a': packed.begin, 'b': packed.end, 'detail': packed.detail, 'tick': None if unit.tick is None else float(unit.tick), 'unit': unit.name,
         'cores': packed.system.cores, 'threads': [thread_words(packed, thread) for thread in packed.threads], 'standings': STANDINGS,
-        'notes': packed.notes, 'sources': packed.sources, 'servers': packed.servers, 'serverCores': packed.server_cores(), 'locks': packed.locks(),
+        'notes': packed.notes, 'sources': packed.sources, 'servers': packed.servers, 'serverCores': packed.server_cores(),
+        'chains': [[name, place[thread]] for name, thread in packed.system.chains.items()], 'locks': packed.locks(),
         'findings': [[one.kind, one.core, one.begin, one.end, one.name, place[one.thread.name] if one.thread else -1, one.said(unit)] for one in packed.findings],
         'more': packed.left_out, 'summary': packed.summary(),
         'open': [[place[one.thread.name], one.activated, one.begun, one.end] for one in packed.open_rounds],

@@ -143,7 +143,7 @@ class Findings {
   step(by) { if (this.list.length) this.go((this.at + by + this.list.length + (this.at < 0 && by < 0 ? 1 : 0)) % this.list.length); }
 }
 
-// A search over threads, cores, servers and findings.
+// A search over threads, cores, servers, chains and findings.
 class Search {
   constructor(view, findings) {
     this.view = view;
@@ -163,7 +163,7 @@ class Search {
   *all(words) {
     const rank = name => name.toLowerCase().startsWith(words) ? 0 : 1;
     const compare = (one, two) => rank(one) - rank(two) || one.length - two.length || one.localeCompare(two, "en", { numeric: true });
-    const found = [...this.threads(), ...this.cores(), ...this.servers()].filter(([name]) => name.toLowerCase().includes(words));
+    const found = [...this.threads(), ...this.cores(), ...this.servers(), ...this.chains()].filter(([name]) => name.toLowerCase().includes(words));
     yield* found.sort((one, two) => compare(one[0], two[0])).slice(0, HITS - 4);
     for (const [place, finding] of this.findings.list.entries()) {
       if (!this.findings.text(finding).toLowerCase().includes(words)) continue;
@@ -178,6 +178,10 @@ class Search {
   servers() {
     const { servers, serverCores } = this.view.schedule;
     return servers.map((name, server) => [name, "server", () => this.view.bringCore(Math.max(0, serverCores[server]))]);
+  }
+  chains() {
+    const { chains, threads } = this.view.schedule;
+    return chains.map(([name, thread]) => [name, `chain, ends in ${threads[thread].name}`, () => this.view.bring(thread)]);
   }
   show() {
     const items = this.hits.map(([name, what, go], place) => {

@@ -62,7 +62,7 @@ class Overview {
     }
     const most = Math.max(...counts.values());
     for (const [x, many] of counts) {
-      pen.globalAlpha = .4 + .6 * many / most;
+      pen.globalAlpha = .7 + .3 * many / most;
       pen.fillRect(x, top, 2, high);
     }
   }
