@@ -156,8 +156,11 @@ class Live(unittest.TestCase):
         self.assertEqual(line[mark.index('^')], 'w')
         self.assertIn('wrong is no key of a thread', facts[0])
         self.assertIn('12 ticks, 10 rows', self.ask()[1])
+        (self.folder / 'text').unlink()
         self.system.unlink()
         self.wait_for(1, f'{self.system}: No such file or directory')
+        # nothing is run for a file that is not there
+        self.assertEqual((self.state()['explained'], (self.folder / 'text').exists()), ([], False))
         self.save(ONE, ONE_ROWS)
         self.wait_for(2, None)
 
