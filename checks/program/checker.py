@@ -136,6 +136,10 @@ def cases_of_words(folder: pathlib.Path) -> Iterator[Case]:
     first = ['--allow-lost', 'tock', '--allow-lost', 'one', '--allow-lost', 'two']
     yield Case('the first unknown name', first, NOTES, NOTHING, exactly(unknown('one', 'the nearest is tock')), 2)
     yield Case('a name where there is none', ['--allow-lost', 'tick'], EMPTY, NOTHING, exactly(unknown('tick', 'there is none')), 2)
+    # a name has at most 32 bytes, so none is near to a text of more than twice as many, which is refused at once
+    for length, said in ((64, 'the nearest is tick'), (65, 'there is none'), (100_000, 'there is none')):
+        name = 'x' * length
+        yield Case(f'a name of {length} bytes', ['--allow-lost', name], NOTES, NOTHING, exactly(unknown(name, said)), 2)
     for word in ('--help', '-h'):
         yield Case(word, [word], b'', begins(b'', b'Usage: mcscheck [OPTIONS] [FILE]'), NOTHING, 0)
 
