@@ -12,7 +12,7 @@ import re
 import signal
 import subprocess
 import sys
-from collections.abc import Iterable, Iterator, Sequence
+from collections.abc import Iterable, Iterator, Mapping, Sequence
 from typing import Any, NamedTuple, NoReturn, Union
 
 TOP = pathlib.Path(__file__).resolve().parent.parent
@@ -88,6 +88,12 @@ class Count:
         self.add(passed=int(good), failed=int(not good))
         if not good:
             print(f'failed: {what}', flush=True)
+
+    def expect_all(self, seen: Mapping[str, int], wanted: Sequence[str]) -> None:
+        """Writes how often random systems showed each of these, and expects each at least once."""
+        print(', '.join(f'{what} {seen[what]}' for what in wanted))
+        for what in wanted:
+            self.expect(f'no system shows: {what}', seen[what] > 0)
 
     def skip(self, what: str) -> None:
         print(f'skipped: {what}', flush=True)

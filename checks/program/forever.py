@@ -198,9 +198,7 @@ def main() -> None:
     trial.seen.clear()
     for number in range(words.systems):
         trial.agrees(*random_system(f'{words.seed} {number}'))
-    print(', '.join(f'{what} {many}' for what, many in trial.seen.items()))
-    for what in SEEN:
-        trial.count.expect(f'no system shows: {what}', trial.seen[what] > 0)
+    trial.count.expect_all(trial.seen, SEEN)
     trial.count.end()
 
 

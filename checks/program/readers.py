@@ -134,9 +134,7 @@ def main() -> None:
     for number in range(words.systems):
         rng = random.Random(f'readers {words.seed} {number}')
         trial.look(f'{words.seed}-{number}', text_of(verdicts.tables_of(rng)), rng.choice(HORIZONS))
-    print(', '.join(f'{what} {trial.seen[what]}' for what in SEEN))
-    for what in SEEN:
-        trial.count.expect(f'no system shows: {what}', trial.seen[what] > 0)
+    trial.count.expect_all(trial.seen, SEEN)
     trial.count.end()
 
 

@@ -93,9 +93,7 @@ def main() -> None:
     for number in range(words.systems):
         rng = random.Random(f'rules {words.seed} {number}')
         trial.look(f'{words.seed}-{number}', random_text(rng), rng.choice(HORIZONS))
-    print(', '.join(f'{what} {trial.seen[what]}' for what in SEEN))
-    for what in SEEN:
-        trial.count.expect(f'no system shows: {what}', trial.seen[what] > 0)
+    trial.count.expect_all(trial.seen, SEEN)
     trial.count.end()
 
 

@@ -354,9 +354,7 @@ def main() -> None:
         rng = random.Random(f'{words.seed} {number}')
         text = text_of(tables_of(rng))
         trial.agrees(System(f'{words.seed}-{number}', text, rng.choice([0, 1, 10, 60, 60, 200, 200, 400])), rng)
-    print(', '.join(f'{what} {trial.seen[what]}' for what in SEEN))
-    for what in SEEN:
-        trial.count.expect(f'no system shows: {what}', trial.seen[what] > 0)
+    trial.count.expect_all(trial.seen, SEEN)
     trial.count.end()
 
 
