@@ -1,4 +1,4 @@
--- The turn of one core at one moment: the end of the tick, arrivals, orders, releases, and the choice.
+-- The turn of one core at one moment: the end of the tick, interrupts, arrivals, orders, releases, and the choice.
 use Rattle.std.specs.Prelude.{ℕ, ◌+◌, ◌-◌, Bool, ◌==◌, ◌&&◌, not, nat_lt, if◌then◌else◌, List, [], ◌∷◌, ◌++◌, map, filter, Option, Some, None}
 use Rattle.std.specs.List.{slice_get}
 use Rattle.mcs_ticks.specs.Queue.{Discipline, by_priority}
