@@ -17,7 +17,7 @@ use Rattle.mcs_ticks.specs.declared.sink.FlowFault.TheVariants as fault
 use Rattle.mcs_team.specs.Flow.{AreAtClocks, FailsFrom, IsClear, IsGivenBetween, Waits}
 use Rattle.mcs_team.proofs.Giving.{given-append}
 
--- turns that are left, and one more where not all was given
+-- turns that are left, and one more if rows are left to give
 abbrev pub rounds_left : Table → ℕ → ℕ → ℕ
 rounds_left desk reached end = turns_left desk + cond (reached == end) 0 1
 
