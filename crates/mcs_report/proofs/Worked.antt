@@ -144,7 +144,7 @@ runs_three_ticks = refl
 may_run_four_ticks_by_six : demand_of depletes 0 6 ≡ 4
 may_run_four_ticks_by_six = refl
 
--- a whole slice for each period is every tick, and more where the last period has not ended
+-- a whole slice for each period is every tick, and more if the last period has not ended
 may_run_always : demand_of (one_core (context 4 4 ∷ []) (thread 0 5 1 0 (Compute 9 ∷ []) ∷ [])) 0 7 ≡ 8
 may_run_always = refl
 
@@ -201,7 +201,7 @@ counts_its_own_threads :
     ≡ opened 1 0 ∷ record (opened 1 9) { report = report 3 1 4 4 4 0 0 0 0 } ∷ []
 counts_its_own_threads = refl
 
--- each core counts the rows of its own turns, and together they report the schedule
+-- each core counts the rows of its turns, and together they report the schedule
 abbrev tallies_by_core : List CoreTally
 tallies_by_core =
     core_tally_of two_cores 0 6 (rows_within two_cores 0 0 7) ∷ core_tally_of two_cores 1 6 (rows_within two_cores 1 0 7) ∷ []
