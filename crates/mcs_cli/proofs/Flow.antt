@@ -71,7 +71,8 @@ refused-through a b c xs rest ys (Ok u) p e q = tt
 refused-through a b c xs rest ys (Err f) p e q =
     prefix-then a b c (xs ++ ys) ys (subst (λ l. AppendsBefore a b (xs ++ ys) (l ++ ys)) e (before-longer a b xs rest ys p)) q
 
--- A sink, what its target has, what waits, and the line of a row; what stays in it after each row, and after each that it takes.
+-- A sink, what its target has, what waits, and the line of a row; what stays in it after each row,
+-- and after each that it takes.
 module _ {S : Type 0} (takes : S → Row → Bool → S → Type 0) (contents : S → Option (List ℕ)) (text : S → List ℕ)
     (line : Row → List ℕ) (Kept Working : S → Type 0)
     (step : (s t : S) (row : Row) (taken : Bool) → Kept s → takes s row taken t →

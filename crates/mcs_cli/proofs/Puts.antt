@@ -1,4 +1,5 @@
--- Lines that are put behind those that wait: those of several rows at once are as if the rows had been given one by one.
+-- Lines that are put behind those that wait: those of several rows at once are as if the rows had
+-- been given one by one.
 use Rattle.std.proofs.Common.{◌≡◌, ◌≢◌, ◌∙◌, ◌++◌, ℕ, suc, Bool, true, false, List, [], ◌∷◌, Option, inl, inr, length, refl, sym, ap, subst, append_assoc, append-nil, arith}
 use Rattle.std.specs.Prelude.{fold, IfSome, IsSome}
 use Rattle.mcs_ticks.specs.declared.row.Row.{Row}

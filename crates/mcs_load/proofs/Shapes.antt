@@ -17,7 +17,8 @@ waits_at xs k = is_wait (Some (get_or xs k items.Yield))
 abbrev pub on_at : List Item → ℕ → Bool
 on_at xs k = is_on (get_or xs k items.Yield)
 
--- an item that is a wait directly before one that begins a handler, the first item only for the first step
+-- an item that is a wait directly before one that begins a handler, the first item only for the
+-- first step
 pub record HasPair (firsts : List Item) (k : ℕ) : Type 0 where
   pub j : ℕ
   pub within : j + 1 < length firsts

@@ -162,7 +162,8 @@ no_budget_of_a_slice : answer (file (codes "version = 2\ncores = 1\ndelay = 1\n[
 unfolding load_on_literals
 no_budget_of_a_slice = refl
 
--- in version 3 a context that says no mode has bandwidth mode, and one that is round robin the other one
+-- in version 3 a context that says no mode has bandwidth mode, and one that is round robin the
+-- other one
 mode_by_default_in_version_3 : answer (file (codes "version = 3\ncores = 1\ndelay = 1\n[[context]]\nname = \"d\"\ncore = 0\nbudget = 9\nperiod = 20\n"))
     ≡ Ok (record {
       cores = 1;
@@ -246,7 +247,8 @@ handlers : answer (file (codes "version = 3\ncores = 1\ndelay = 1\n[[context]]\n
 unfolding load_on_literals
 handlers = refl
 
--- a call becomes the steps before the first handler and those of the handlers that have a bit of its badge
+-- a call becomes the steps before the first handler and those of the handlers that have a bit of
+-- its badge
 a_call_becomes_the_steps_of_its_badge : answer (file (codes "version = 3\ncores = 1\ndelay = 1\n[[context]]\nname = \"d\"\ncore = 0\nbudget = 9\nperiod = 20\n[[server]]\nname = \"v\"\ncore = 0\npriority = 40\nscript = [\"compute 4\", \"on 1\", \"yield\", \"on 6\", \"compute 7\"]\n[[thread]]\nname = \"D\"\ncontext = \"d\"\npriority = 5\nscript = [\"call v 2\", \"compute 1\"]\n"))
     ≡ Ok (record {
       cores = 1;

@@ -14,7 +14,7 @@ use Rattle.mcs_load.specs.Keys.{key_name}
 use Rattle.mcs_load.specs.Checks.{Checked, ◌>>=◌, reads}
 use Rattle.mcs_load.specs.Words.{must_at, must_in, if_there, is_in_range, number_or, whole_number, number_with_default, item_count, each}
 
--- each number of a list is above the one before
+-- the minimum of the next number: one more than the last of these, or 0
 abbrev pub least_after : List ℕ → ℕ
 least_after numbers = fold (λ least number. number + 1) 0 numbers
 
@@ -85,7 +85,7 @@ module _ (pace : Pace) (many : ℕ) where
 abbrev pub dates_of : Pace → List ℕ → Dates
 dates_of pace offsets = record { many = length offsets; beats = beats_from pace (length offsets) 0 offsets }
 
--- the dates of the source with this number, if earlier sources have this many numbers in `at`
+-- the dates of the source with this number, given how many numbers earlier sources have in `at`
 unfoldable pub read_dates : ℕ → ℕ → At → Members → Checked Dates
 read_dates number taken at row = do
   period ← whole_number at key.Period 1 (2 ^ 40) row

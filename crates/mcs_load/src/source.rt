@@ -204,7 +204,8 @@ fn offsets(
     read_values(alloc, found, at, taken, period)
 }
 
-/// How many of `count` dates belong to entry `k` of `many`. 0 means no end; `None` means no date.
+/// How many of `count` dates belong to entry `k` of `many`. A count of 0 means no end; `None` means
+/// that it has no date.
 fn share(count: u64, many: usize, k: usize) -> Option<u64>
     requires { k < many }
     ensures { result ≡ share count many k }

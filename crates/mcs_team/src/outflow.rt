@@ -185,7 +185,6 @@ impl<W: Relay> Outflow<W> {
         self.reached == self.end
     }
 
-    /// The time before which all rows were written.
     pub(crate) fn reached(&self) -> Tick
         ensures { result ≡ self.now.reached }
     {
@@ -320,7 +319,7 @@ impl<W: Relay> Outflow<W> {
         Ok(())
     }
 
-    /// Writes all rows before the earliest of the times up to which the cores' rows were added.
+    /// Writes all rows before the earliest of the cores' `pasts`.
     pub(crate) fn pour<B: Run>(&mut self, out: &mut <W::Part as Part>::Out) -> Result<(), Refused>
         requires well_formed { IsWellFormed B.system }
         requires end { self.old.end ≡ B.horizon + 1 }

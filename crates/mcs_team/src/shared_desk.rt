@@ -160,12 +160,10 @@ impl<B: Run, S: Collector + Drop> SharedDesk<B, S> {
         self.idle > 0 && !self.is_full() && !self.pace.is_over() && self.desk.can_lend()
     }
 
-    /// Counts a thread that begins to wait for a piece.
     pub(crate) fn rest(&mut self) {
         self.idle = self.idle.saturating_add(1);
     }
 
-    /// Counts a thread that has stopped waiting.
     pub(crate) fn wake(&mut self) {
         self.idle = self.idle.saturating_sub(1);
     }
@@ -254,7 +252,6 @@ impl<B: Run, S: Collector + Drop> SharedDesk<B, S> {
         self.begun = true;
     }
 
-    /// Whether a thread has begun to work.
     pub(crate) fn has_begun(&self) -> bool {
         self.begun
     }

@@ -33,7 +33,6 @@ struct Basket<B: Run, S: Collector + Drop> {
 }
 
 impl<B: Run, S: Collector + Drop> Basket<B, S> {
-    /// Returns an empty basket for `cores` cores.
     fn new(alloc: Global, cores: usize) -> Result<Basket<B, S>, NoMemory> {
         let rooms = Vec::with_capacity(alloc, cores)?;
         let told = Vec::with_capacity(alloc, cores)?;

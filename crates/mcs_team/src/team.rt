@@ -238,7 +238,6 @@ pub(crate) struct Pace {
 }
 
 impl Pace {
-    /// Returns the state before the first piece.
     pub(crate) fn new() -> Pace {
         Pace {
             span: FIRST,
@@ -263,7 +262,6 @@ impl Pace {
         self.back > 0
     }
 
-    /// Whether pieces were not worth their cost.
     pub(crate) fn is_over(&self) -> bool {
         self.over
     }

@@ -136,12 +136,10 @@ impl<B: Run, S: Collector + Drop> Telling<B, S> {
         })
     }
 
-    /// The amount recorded, by the collector's measure.
     pub(crate) fn size(&self) -> usize {
         self.told.size()
     }
 
-    /// Returns the collector.
     pub(crate) fn into_told(self) -> S
         ensures { S.holds result (rows_between B.system self.core self.first self.past) }
     {
@@ -175,7 +173,6 @@ impl<B: Run, S: Collector + Drop> Tellings<B, S> {
         Some(telling)
     }
 
-    /// Puts back the collector of a core.
     pub(crate) fn put(&mut self, telling: Telling<B, S>) {
         let core = telling.core().0;
         if core < self.slots.len() {
@@ -248,7 +245,7 @@ pub(crate) struct Errand<B: Run, S: Collector + Drop> {
     ghost ours: { piece.system ≡ B.system },
 }
 
-/// A piece of the run that has been run, with its rows and their number.
+/// A piece that was run, with its core's collector and the number of rows that it made.
 #[derive(Drop)]
 pub(crate) struct Told<B: Run, S: Collector + Drop> {
     pub(crate) done: Done<Nothing>,

@@ -47,7 +47,6 @@ impl Sink for Kept {
 }
 
 impl Kept {
-    /// Returns a sink without rows.
     pub(crate) fn new(alloc: Global) -> Kept
         ensures { result.rows.items ≡ [] }
     {
@@ -62,14 +61,11 @@ impl Kept {
 ///
 /// The contract promises three bounds:
 /// - A thread whose context no order names runs at most its budget for each period that begins
-///   before
-/// the horizon. The first period begins at time 0.
+///   before the horizon. The first period begins at time 0.
 /// - If that context is in bandwidth mode, the thread runs at most its budget in any interval of
-///   one
-/// period below the horizon.
+///   one period below the horizon.
 /// - At each time of the run each context has its whole budget in force, in refills that neither
-///   touch
-/// nor overlap, or in a slice.
+///   touch nor overlap, or in a slice.
 ///
 /// Errors: `NoMemory` if an allocation failed.
 pub fn simulate_alone(alloc: Global, system: Arc<System>, horizon: Tick) -> Result<Whole, SimFault>
@@ -136,8 +132,7 @@ pub fn simulate<R: Threads + Wait + Sync, G: Gate + Sync>(
 ///
 /// Each view shows the whole budget in force at that time:
 /// - A sporadic context has at most `2 + extra` refills that neither touch nor overlap. Their
-///   amounts
-/// sum to the budget, and they span at most the period.
+///   amounts sum to the budget, and they span at most the period.
 /// - A round robin context has 1 to its budget left.
 /// - Ticks in use are ticks of the head. They are 0 unless the context's thread runs.
 ///
