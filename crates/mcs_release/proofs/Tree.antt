@@ -5,7 +5,7 @@ use Rattle.std.proofs.lemmas.Grind.{common_steps}
 use Rattle.std.proofs.lemmas.List.{get_or-drop, get_or_past, drop-set-lt, drop-set-add, length-drop}
 use Rattle.mcs_release.specs.stored.Least.{empty, leaves, least, least_child, IsLeast}
 
--- the least is no more than any, and is one of them
+-- the minimum is at most each number, and is one of them
 pub least-lower : (xs : List ℕ) (i : ℕ) → least xs ≤ get_or xs i empty
 least-lower [] i = omega arith
 least-lower (x ∷ xs) zero = omega arith
@@ -37,7 +37,7 @@ module _ (inner : ℕ) (nodes : List ℕ) (tree : IsLeast inner nodes) where
     | inr ne ↦ omega (arith, child-least nodes node, tree.each (node / 4 + 2) (omega arith) (omega arith), root-lower n (node / 4 + 2) (omega arith) (omega arith) (omega arith))
   ]
 
-  -- .. and none is less than the least of the numbers of all places
+  -- .. and every node is at least the minimum of the numbers of all places
   leaves-lower : (n node : ℕ) → 4 * inner + 4 ≤ node + n → 3 ≤ node → least (leaves inner nodes) ≤ get_or nodes node empty
   leaves-lower zero node few from = omega (arith, get_or_past nodes node empty (omega (arith, tree.size)), least-le-empty (leaves inner nodes))
   leaves-lower (suc n) node few from =
@@ -61,7 +61,7 @@ module _ (inner : ℕ) (nodes : List ℕ) (tree : IsLeast inner nodes) where
         | inr none ↦ omega (arith, lower)
       ]
 
--- a node changes: the least of the children of any other than its parent is as it was
+-- if a node changes, the minimum of children changes only at its parent
 child-other : (nodes : List ℕ) (j p x : ℕ) → 3 ≤ p → p ≢ j / 4 + 2 → least_child (set nodes j x) p ≡ least_child nodes p
 child-other nodes j p x inner apart = grind (arith, common_steps)
 
