@@ -114,7 +114,8 @@ all_fields : histogram_of 3 (9 ∷ 1 ∷ []) ≡ record { limit = 3; count = 2; 
 unfolding doublings
 all_fields = refl
 
--- ---- what is told: of 260, 300 and 1000 the place of 50 percent is 2, and the bucket of 300 ends at 303
+-- ---- the reported percentile: of 260, 300 and 1000 the rank of 50 percent is 2, and the bucket of
+-- 300 ends at 303
 told_50 : told_percentile 50 (300 ∷ 260 ∷ 1000 ∷ []) ≡ Some 303
 unfolding doublings
 told_50 = refl

@@ -130,7 +130,7 @@ in_order-top : (x : Reverse Numbered) (heap : List (Reverse Numbered)) → IsApa
 in_order-top x heap apart below =
     enter-first x (in_order heap) (λ y k. top_earlier x y (below_top y (λ z. lt_by_cmp late_cmp x z ≡ false) heap below (from_in_order y heap k)) (apart-first x y heap apart (from_in_order y heap k)))
 
--- .. and an element with a greater number enters where mail is put
+-- .. and an element with a greater number enters at the place of `put`
 earlier_greater : (x y : Reverse Numbered) → y.0.number < x.0.number → is_earlier x y ≡ is_before (mail_of x.0) (mail_of y.0)
 earlier_greater x y h = grind (arith, nat_tests)
 

@@ -152,8 +152,8 @@ fn prepare(ring: &mut VecDeque<Mail>, late: &mut Late) -> Result<(), NoMemory>
     Ok(())
 }
 
-/// Allocates room in the ring for the late mail and `n` more. It asks for the late mail once more,
-/// so many puts share the cost.
+/// Allocates room in the ring for the late mail and `n` more. It also asks for the late mail once
+/// more, which spreads the cost over many puts.
 fn make_room(ring: &mut VecDeque<Mail>, late: usize, n: usize) -> Result<(), NoMemory>
     requires { deque_len ring.old + late ≤ deque_capacity ring.old }
     ensures items { ring.new.items ≡ ring.old.items }
