@@ -124,7 +124,8 @@ dates_in_use = refl
 slice_has_no_dates : consumed_from (Charge 3 1 ∷ Unblock 50 ∷ Charge 2 1 ∷ []) round_robin ≡ []
 slice_has_no_dates = refl
 
--- what views show of a budget of 10 in 100 with two refills: 7 ticks from 3 on and 3 from 100 on, of whose head 2 are in use
+-- views of a budget of 10 in 100 with two refills, 7 ticks from 3 on and 3 from 100 on; 2 ticks of
+-- the head are in use
 abbrev seen : ℕ → ContextView
 seen using = record { context = 0; refills = record { begins = 3; amount = 7 } ∷ record { begins = 100; amount = 3 } ∷ []; left = None; using = using }
 

@@ -95,7 +95,8 @@ impl Context {
     }
 
     /// Charges ticks of the head. Sporadic: they return a period later, and a head of fewer than
-    /// `min_budget` ticks joins the refills after it. Round-robin: an exhausted slice is full again.
+    /// `min_budget` ticks joins the refills after it. Round-robin: an exhausted slice is full
+    /// again.
     #[inline(always)]
     pub fn charge(&mut self, ticks: u64, min_budget: u64)
         requires some { 1 ≤ ticks }
@@ -229,7 +230,6 @@ impl Context {
     }
 }
 
-/// Returns a copy of all refills.
 fn all_refills(alloc: Global, refills: &Refills) -> Result<Vec<Refill>, NoMemory>
     ensures { IfOk result (λ list. list.items ≡ refills_of refills.now.dates) }
 {

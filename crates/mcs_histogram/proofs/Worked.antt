@@ -55,7 +55,8 @@ greatest_number : bucket 18446744073709551615 ≡ 3775
 unfolding doublings
 greatest_number = refl
 
--- ---- percentiles: of 15, 20, 35, 40 and 50 the places of 5, 30, 40, 50 and 100 percent are 1, 2, 2, 3 and 5
+-- ---- percentiles: among 15, 20, 35, 40 and 50 the ranks of 5, 30, 40, 50 and 100 percent are 1,
+-- 2, 2, 3 and 5
 five : List ℕ
 five = 35 ∷ 20 ∷ 15 ∷ 50 ∷ 40 ∷ []
 

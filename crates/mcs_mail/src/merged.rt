@@ -16,7 +16,7 @@ use std::marker::Model;
 pub(crate) struct Merged {
     /// in order of delivery, with capacity for the late mail too
     ring: VecDeque<Mail>,
-    /// mail that was put when the last of the ring is delivered after it
+    /// mail put out of order: it is delivered before the last of the ring
     late: Late,
 }
 
@@ -50,8 +50,7 @@ impl Merged {
         }
     }
 
-    /// Puts mail after all mail that is not delivered after it. If memory runs out, the mail is
-    /// handed back and the list is unchanged. A put succeeds if `spare` is not 0.
+    /// Puts mail, with the results of `Mailbox::put`.
     pub(crate) fn put(&mut self, mail: Mail) -> Result<(), (Mail, NoMemory)>
         ensures ok { OnOk result (self.new.mails ≡ put mail self.old.mails) }
         ensures handed_back { IfErr result (λ back. back.0 ≡ mail) }
@@ -69,7 +68,7 @@ impl Merged {
         }
     }
 
-    /// Allocates room for `n` more puts; succeeds if `spare` is already `n`. The mail is unchanged.
+    /// Allocates room for `n` more puts; succeeds if `spare` is already `n`.
     pub(crate) fn reserve(&mut self, n: usize) -> Result<(), NoMemory>
         ensures mails { self.new.mails ≡ self.old.mails }
         ensures spare { OnOk result (n ≤ self.new.spare) }

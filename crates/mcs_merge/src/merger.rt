@@ -134,7 +134,7 @@ impl<P: Part> Merger<P> {
         }
     }
 
-    /// Gives all rows that the first part of this core has at its first moment.
+    /// Gives the first moment of this core, and updates its head.
     fn pour(&mut self, core: usize, out: &mut P::Out) -> Result<(), Refused>
         requires within { core < length self.old }
         requires some { IsSome (first_of P.first (parts_of core self.old)) }
@@ -153,7 +153,6 @@ impl<P: Part> Merger<P> {
     }
 }
 
-/// Returns a line for each part.
 fn waiting_of<P: Part>(alloc: Global, parts: Vec<P>) -> Result<Vec<Waiting<P>>, NoMemory>
     ensures { IfOk result (λ cores. cores.items ≡ map (λ part. part ∷ []) parts.items) }
 {
@@ -164,7 +163,6 @@ fn waiting_of<P: Part>(alloc: Global, parts: Vec<P>) -> Result<Vec<Waiting<P>>, 
     Ok(cores)
 }
 
-/// Returns the heads of all cores.
 fn heads_of<P: Part>(alloc: Global, cores: &[Waiting<P>]) -> Result<Heads, NoMemory>
     requires few { length cores.now ≤ 64 }
     requires in_line { (core : ℕ) → core < length cores.now → IsInLine P.first (parts_of core cores.now) }
@@ -175,7 +173,6 @@ fn heads_of<P: Part>(alloc: Global, cores: &[Waiting<P>]) -> Result<Heads, NoMem
     Ok(heads)
 }
 
-/// Updates the head of each core.
 fn set_heads<P: Part>(heads: &mut Heads, cores: &[Waiting<P>])
     requires few { length cores.now ≤ 64 }
     requires enough { length cores.now ≤ length heads.old }
@@ -189,7 +186,6 @@ fn set_heads<P: Part>(heads: &mut Heads, cores: &[Waiting<P>])
     }
 }
 
-/// Returns the head of a core.
 fn head_at<P: Part>(cores: &[Waiting<P>], core: usize) -> Head
     requires within { core < length cores.now }
     requires few { core < 64 }
@@ -249,7 +245,6 @@ fn pour_sweep<P: Part>(
     Ok(poured)
 }
 
-/// Appends a part to those of a core.
 fn add_to<P: Part>(
     cores: &mut [Waiting<P>],
     core: usize,

@@ -52,8 +52,7 @@ impl<P: Part> Waiting<P> {
         self.front.next()
     }
 
-    /// Appends a part, and returns a used-up part, if there is one. It allocates memory only if
-    /// rows wait; if memory runs out, the part is handed back.
+    /// Appends a part, with the results of `Merger::add`.
     pub(crate) fn add(&mut self, part: P) -> Result<Option<P>, (P, NoMemory)>
         ensures added { (out : P.Out) (rows more : List Row) → Hold P.holds out self.old rows → P.holds out part more
             → OnOk result (Hold P.holds out self.new (rows ++ more)) }

@@ -126,7 +126,6 @@ impl Line {
         }
     }
 
-    /// Takes out a waiter.
     fn remove(&mut self, places: &mut [Place], one: &Waiter)
         requires some { 0 < self.old.len }
         requires thread { one.now.thread < length places.old }

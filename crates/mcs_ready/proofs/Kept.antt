@@ -26,7 +26,7 @@ names-other : (next : List ℕ) (y v x : ℕ) → x ≢ y → names_one (set nex
 names-other next y v x ne = rw (get_or-set_other next y x v no_thread ne) refl
 
 module _ (words words' lasts next next' : List ℕ) (p last : ℕ) (threads : List ℕ) where
-  -- one line is changed, its threads are these now, and its priority is marked by whether there is one
+  -- one line changes to these threads, and its priority is marked if and only if it has one
   IsKept-changed : IsKept words lasts next → p < 256 → length next' ≡ length next →
       all_threads next' (set lasts p last) ≡ set (all_threads next lasts) p threads →
       ((q : ℕ) → has words' q ≡ (if q == p then is_some_in threads else has words q)) →

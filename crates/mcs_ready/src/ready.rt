@@ -8,7 +8,7 @@ use mcs_ticks::{NoMemory, Queued, ThreadId};
 use std::alloc::Global;
 use std::marker::Model;
 
-/// Represents no thread: the last of an empty line, and the next of a thread that is not held.
+/// The number of no thread: the last of an empty line, and the next of a thread that is not held.
 const NONE: ThreadId = ThreadId(usize::MAX);
 
 /// The ready threads of one core, each with its priority. Contracts see the queue by priority,

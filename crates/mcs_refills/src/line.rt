@@ -118,7 +118,6 @@ impl Line {
     }
 }
 
-/// Replaces the last refill of a ring.
 fn replace_last(ring: &mut HeapCircularBuffer<Refill>, refill: Refill)
     requires some { 1 ≤ length ring.old.items }
     ensures { ring.new ≡ buffer (take (length ring.old.items - 1) ring.old.items ++ refill ∷ []) ring.old.capacity }

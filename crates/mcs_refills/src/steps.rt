@@ -75,8 +75,8 @@ pub fn gather(refills: &mut Line, min_budget: u64)
     refills.set_first(head);
 }
 
-/// Charges the first ticks of the head, which return a period later, then ensures `min_budget` at
-/// the head. An only refill that is exhausted is overwritten.
+/// Charges the first ticks of the head, as `Refills::charge` does. An only refill that is exhausted
+/// is overwritten.
 #[inline(always)]
 pub fn charge_list(refills: &mut Line, period: u64, max_refills: usize, ticks: u64, min_budget: u64)
     requires kept { IsKept refills.old.items period max_refills }
@@ -98,7 +98,7 @@ pub fn charge_list(refills: &mut Line, period: u64, max_refills: usize, ticks: u
     }
 }
 
-/// Charges part of a list; at least one refill remains after the charge.
+/// Charges ticks and leaves at least one refill besides those that return.
 #[inline(never)]
 fn charge_part(refills: &mut Line, period: u64, max_refills: usize, ticks: u64, min_budget: u64)
     requires kept { IsKept refills.old.items period max_refills }
@@ -119,8 +119,7 @@ fn charge_part(refills: &mut Line, period: u64, max_refills: usize, ticks: u64, 
     gather(refills, min_budget);
 }
 
-/// Unblocks at `t`: a head whose moment has come moves to `t`, and the refills that it reaches join
-/// it.
+/// Unblocks at `t`, as `Refills::unblock` does.
 pub fn unblock_list(refills: &mut Line, t: u64)
     requires apart { AreApart refills.old.items }
     requires early { last_end refills.old.items < 2 ^ 63 }
@@ -142,8 +141,7 @@ pub fn unblock_list(refills: &mut Line, t: u64)
     refills.set_first(Refill { begins: t, amount });
 }
 
-/// Applies an order at `t`: the head begins at `t` or later and has at most the budget. The missing
-/// ticks become one refill that ends a period after the head begins.
+/// Applies an order at `t`, as `Refills::reorder` does.
 pub fn reconfigure_list(refills: &mut Line, t: u64, budget: u64, period: u64)
     requires room { 2 ≤ refills.old.capacity }
     requires within { budget < period }

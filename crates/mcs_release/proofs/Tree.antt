@@ -1,4 +1,5 @@
--- A tree of least numbers: its root is the least of all, and a number that changes changes the nodes on its way to the root alone.
+-- A tree of minima: its root is the minimum of all, and a change of a number changes only the nodes
+-- on its way to the root.
 use Rattle.std.proofs.Common.{◌≡◌, ℕ, zero, suc, ◌+◌, ◌-◌, ◌*◌, ◌/◌, ◌<◌, ◌≤◌, ◌≢◌, List, [], ◌∷◌, length, get_or, set, refl, sym, ap, ◌∙◌, inl, inr, arith, get_or-set_other, length-set, min}
 use Rattle.std.proofs.lemmas.Bool.{cases_eq, cases_lt}
 use Rattle.std.proofs.lemmas.Grind.{common_steps}
@@ -70,7 +71,8 @@ child-lowered : (nodes : List ℕ) (j p x : ℕ) → 3 ≤ p → p ≡ j / 4 + 2
     least_child (set nodes j x) p ≡ min (least_child nodes p) x
 child-lowered nodes j p x inner parent within less = grind (arith, common_steps)
 
--- the number of a place was lowered, and each node from it up to this one: only the parent of this one may be too great
+-- the number of a place was lowered, and each node from it up to this one: only the parent of this
+-- one may be too great
 pub record IsRising (inner : ℕ) (start nodes : List ℕ) (place node number : ℕ) : Type 0 where
   pub size : length nodes ≡ 4 * inner + 4
   pub low : 3 ≤ node
@@ -124,8 +126,8 @@ module _ (inner : ℕ) (start nodes : List ℕ) (place node number : ℕ) (risin
     placed = drop-set-lt (inner + 3) nodes (node / 4 + 2) number (omega (arith, rising.high)) ∙ rising.placed;
   }
 
--- the number of a place was taken away, and each node from it up to this one made the least of its children again: the parent of this
--- one may be too little
+-- the place was emptied, and each node from it up to this one is the minimum of its children again:
+-- only the parent of this one may be too small
 pub record IsClearing (inner : ℕ) (start nodes : List ℕ) (place node : ℕ) : Type 0 where
   pub size : length nodes ≡ 4 * inner + 4
   pub low : 3 ≤ node

@@ -137,7 +137,6 @@ impl Script {
     }
 }
 
-/// Whether these items form a script.
 fn is_script(items: &[Item]) -> bool
     ensures { IsTrue result ↔ IsScript items.now }
 {
@@ -177,7 +176,6 @@ fn first_taken(items: &[Item], from: usize, word: u32) -> Option<usize>
     None
 }
 
-/// Returns the badges of all handlers.
 fn badges_of(items: &[Item]) -> u32
     ensures { result ≡ badges_of items.now }
 {

@@ -11,7 +11,6 @@ use mcs_control::{Config, Order};
 use mcs_script::{Item, Script};
 use mcs_ticks::{ContextId, CoreId, Limits, NoteId};
 
-/// A thing with a name.
 trait Named {
     ghost name: { Self → List ℕ };
 
@@ -176,15 +175,15 @@ fn has_numbers(thread: &ThreadPart) -> bool
 impl SystemParts {
     /// Whether the system is well formed (profile M):
     ///
-    /// - counts and numbers are in range;
+    /// - counts and numbers are in range, and refer to things that exist;
     /// - names are 1 to 32 characters of `A-Z a-z 0-9 _ -`, and distinct within each kind;
     /// - each configuration passes its check with the system's `min_budget`, and a round-robin
     ///   context has mode `Sporadic`;
     /// - no two threads have the same context;
     /// - a thread waits only on notifications, and enters only servers, of its core;
     /// - an order keeps the kind of its context;
-    /// - no two links have the same pair of cores;
-    /// - each server is free at first;
+    /// - a link goes from one core to another, and no pair has two;
+    /// - signals and sources post on notifications, not on servers; each server is free at first;
     /// - the dates of a source within a period rise.
     ///
     /// Allocates no memory. Names and beats are compared in pairs, in time quadratic in their

@@ -35,7 +35,6 @@ fn six_cores(alloc: Global) -> Result<Merger<RowPart<Vec<Row>>>, Fail>
     Ok(Merger::new(alloc, Vec::from_array(alloc, parts)?)?)
 }
 
-/// Adds a part of a core.
 fn add_part(
     merger: &mut Merger<RowPart<Vec<Row>>>,
     core: usize,
@@ -50,7 +49,6 @@ fn add_part(
     }
 }
 
-/// Adds rows of a core.
 fn add(
     alloc: Global,
     merger: &mut Merger<RowPart<Vec<Row>>>,

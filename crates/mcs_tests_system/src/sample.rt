@@ -242,7 +242,6 @@ fn chains(alloc: Global, sample: Sample) -> Result<Vec<ChainPart>, Fail> {
     Ok(vec![in alloc; first, second]?)
 }
 
-/// Returns a link with this delay in ticks.
 pub(crate) fn link(maker: usize, home: usize, delay: u64) -> Link {
     Link {
         maker: CoreId(maker),

@@ -2,8 +2,7 @@ ghost use Rattle.std.specs.Prelude.{ℕ};
 
 use std::marker::Model;
 
-/// The number of a core, from 0. Contracts see this number; the other types of this file are seen
-/// alike.
+/// The number of a core, from 0. Contracts see the number, as for the other types of this file.
 #[derive(Clone, Copy, Debug, PartialEq, Eq, PartialOrd, Ord)]
 pub struct CoreId(pub usize);
 

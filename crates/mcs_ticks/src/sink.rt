@@ -36,7 +36,7 @@ impl Sink for Vec<Row> {
     }
 }
 
-/// Ensures that one more row fits, if the list is full.
+/// Ensures room for one more row. Fails only if memory runs out.
 #[inline(always)]
 fn make_room(rows: &mut Vec<Row>) -> Result<(), Refused>
     ensures items { rows.new.items ≡ rows.old.items }
@@ -48,8 +48,7 @@ fn make_room(rows: &mut Vec<Row>) -> Result<(), Refused>
     Ok(())
 }
 
-/// Grows the list by room for at least one row. It is a separate call, which keeps the code for
-/// each row short.
+/// Allocates room for at least one more row. A separate call keeps the code for each row short.
 #[inline(never)]
 fn grow(rows: &mut Vec<Row>) -> Result<(), Refused>
     ensures items { rows.new.items ≡ rows.old.items }

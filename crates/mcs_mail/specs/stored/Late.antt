@@ -1,5 +1,5 @@
--- Mail in order of delivery in a ring, and late mail. Mail is late if it was put when the last of
--- the ring is delivered after it.
+-- Mail in order of delivery in a ring, and late mail. Mail is late if it was put out of order: it
+-- is delivered before the last of the ring.
 use Rattle.std.specs.Prelude.{◌≡◌, ℕ, ◌+◌, ◌≤◌, Bool, true, false, nat_lt, if◌then◌else◌, List, [], ◌∷◌, length, Option, Some, None}
 use Rattle.mcs_mail.specs.declared.mail.Mail.{Mail}
 use Rattle.mcs_mail.specs.Box.{first_arrival, is_before, IsIn, IsOrdered}
