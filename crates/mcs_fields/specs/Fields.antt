@@ -10,7 +10,7 @@ use Rattle.mcs_fields.specs.declared.cell.Cell.TheVariants as cell
 abbrev pub Text : Type 0
 Text = List ℕ
 
--- a number, a negative number by its distance below 0, a name, or empty
+-- a number, the negative of a number, a name, or empty
 pub data Value : Type 0 where
   amount : ℕ → Value
   below : ℕ → Value
@@ -36,7 +36,7 @@ abbrev pub parts_text : Bool → List Text → Text
 parts_text later [] = 10 ∷ []
 parts_text later (part ∷ parts) = comma_if later ++ (part ++ parts_text true parts)
 
--- the negative number n below 0
+-- the negative of n
 abbrev pub below_zero : ℕ → ℤ
 below_zero n = neg_ℤ (pos n)
 

@@ -9,7 +9,7 @@ use mcs_ticks::NoMemory;
 #[derive(Clone, Copy, Debug, PartialEq, Eq)]
 pub enum Cell<'a> {
     Number(u64),
-    /// A negative number, given by its distance below 0.
+    /// The negative of this number.
     Below(u64),
     /// A name of the system, or a word of this program: letters, digits, `_` and `-`.
     Name(&'a str),
@@ -38,8 +38,8 @@ pub(crate) fn append_number(text: &mut Vec<u8>, number: u64) -> Result<(), NoMem
     Ok(())
 }
 
-/// Appends the negative number `-number`, or `0` for 0. If memory runs out, a first part of it may
-/// have been appended.
+/// Appends the negative of a number: `-` and its digits, or `0` for 0. If memory runs out, a first
+/// part of it may have been appended.
 pub fn append_below(text: &mut Vec<u8>, number: u64) -> Result<(), NoMemory>
     ensures ok { OnOk result (text.new.items ≡ text.old.items ++ below_text number) }
     ensures kept { StartsWith text.new.items text.old.items }

@@ -11,8 +11,8 @@ doublings value = count_by (λ k. nat_le (2 ^ k) value) (range_with_len 7 57)
 abbrev pub width : ℕ → ℕ
 width value = 2 ^ doublings value
 
--- the number of its bucket, from 0 in rising order: after the width doubled, 64 more than that of
--- half the value
+-- the number of its bucket, from 0 in rising order: if the width was doubled, 64 more than the
+-- bucket of half the value
 abbrev pub bucket : ℕ → ℕ
 bucket value = 64 * doublings value + value / width value
 

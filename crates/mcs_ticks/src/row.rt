@@ -9,7 +9,7 @@ pub enum Why {
     Yield,
     /// It waits on a notification whose word is 0.
     Wait,
-    /// It calls a server that another thread holds.
+    /// It calls a server that is not free.
     Call,
     /// It finished its last round.
     Done,
@@ -67,8 +67,8 @@ pub enum What {
         note: NoteId,
         word: u32,
     },
-    /// A round of the thread ended: its number, from 1, and its response time, from its start to
-    /// its end.
+    /// A round of the thread ended: its number, from 1, and its response time, from its beginning
+    /// to its end.
     Round {
         thread: ThreadId,
         number: u64,
