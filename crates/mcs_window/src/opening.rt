@@ -7,7 +7,7 @@ use mcs_system::System;
 use mcs_ticks::{CoreId, Limits, NoMemory, Row};
 use std::alloc::Global;
 
-/// The first state of each core.
+/// Returns the initial state of each core.
 pub(crate) fn opening_states(alloc: Global, system: &System) -> Result<Vec<CoreState>, NoMemory>
     ensures { IfOk result (λ states. AreOpening system.now system.now.cores states.items) }
 {
@@ -20,7 +20,7 @@ pub(crate) fn opening_states(alloc: Global, system: &System) -> Result<Vec<CoreS
     Ok(states)
 }
 
-/// For each core the delays of the signals to it, by their makers.
+/// Returns the delays of the signals to each core, by their makers.
 pub(crate) fn delay_rows(
     alloc: Global,
     system: &System,
@@ -35,7 +35,7 @@ pub(crate) fn delay_rows(
     Ok(rows)
 }
 
-/// As many empty boxes.
+/// Returns an empty box for each core.
 pub(crate) fn empty_boxes(alloc: Global, cores: usize) -> Result<Vec<Mailbox>, NoMemory>
     ensures { IfOk result (λ boxes. AreEmptyBoxes cores boxes.items) }
 {
@@ -46,7 +46,7 @@ pub(crate) fn empty_boxes(alloc: Global, cores: usize) -> Result<Vec<Mailbox>, N
     Ok(boxes)
 }
 
-/// As many empty lists of rows.
+/// Returns an empty list of rows for each core.
 pub(crate) fn empty_rows(alloc: Global, cores: usize) -> Result<Vec<Vec<Row>>, NoMemory>
     ensures { IfOk result (λ rows. AreEmptyRows cores rows.items) }
 {
