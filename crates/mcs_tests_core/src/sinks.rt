@@ -11,7 +11,7 @@ use std::alloc::Global;
 use std::process::Abort;
 use std::test::Fail;
 
-/// `DEPLETES` with a deadline that the job misses: it takes 11 ticks, 5 of them running.
+/// `DEPLETES` with a deadline that the round misses: it takes 11 ticks, 5 of them running.
 const TOO_LATE: &str = r#"
 version = 1
 cores = 1

@@ -94,7 +94,7 @@ fn ends_at(
     Ok(())
 }
 
-/// The thread is released and runs at 0, 5 and 10, is exhausted at 2 and 7, and ends its job and
+/// The thread is released and runs at 0, 5 and 10, is exhausted at 2 and 7, and ends its round and
 /// stops at 11. A stretch takes a turn even if there are rows enough before it.
 #[test]
 fn stretches_end_by_their_rows(rt: HostRuntime) -> Result<(), Fail> {

@@ -97,7 +97,7 @@ fn far_apart_rows() -> [(u64, usize, What); 13] {
     ]
 }
 
-/// The first job of a thread ends.
+/// The first round of a thread ends.
 fn ends(thread: ThreadId, response: u64) -> What {
     What::Round {
         thread,

@@ -20,7 +20,7 @@ pub(crate) enum Step {
     /// The numbers of signals for other cores that the stretch of a core made, and that arrived at
     /// it.
     Mail(usize, usize, usize),
-    /// A core's stretch is that of a thread's first job, with this response time and end. The
+    /// A core's stretch is that of a thread's first round, with this response time and end. The
     /// core's clock is the next moment.
     Round(usize, u64, u64),
     /// A core's stretch comes back.
@@ -160,7 +160,7 @@ fn has_mail(done: Option<&Done>, out: usize, arrived: usize) -> bool {
     }
 }
 
-/// Whether a row is the end of a thread's first job, with this response time, at this moment.
+/// Whether a row is the end of a thread's first round, with this response time, at this moment.
 fn ends_round(row: &Row, took: u64, moment: u64) -> bool {
     match row.what {
         What::Round {
@@ -172,7 +172,7 @@ fn ends_round(row: &Row, took: u64, moment: u64) -> bool {
     }
 }
 
-/// Whether a stretch has four rows, with the end of a thread's first job as the third, the clock
+/// Whether a stretch has four rows, with the end of a thread's first round as the third, the clock
 /// one moment later, and no mail.
 fn is_round(done: Option<&Done>, took: u64, moment: u64) -> bool {
     match done {
