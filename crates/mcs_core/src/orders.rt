@@ -16,7 +16,7 @@ use mcs_control::Order;
 use mcs_ticks::{FlowFault, Sink, What, Why};
 
 impl Local {
-    /// Charges the running thread, and then gives its context the order's configuration.
+    /// The thread that runs is charged, and then its context takes the order's configuration.
     #[inline(always)]
     fn charge_and_apply(&mut self, here: &Here<'_>, order: Order, chosen: Chosen)
         requires well_formed { IsWellFormed here.now.system.now }
