@@ -43,10 +43,10 @@ opening_state system c =
       failed = false;
     }
 
--- the state is one of a core of this system: its threads, contexts and notifications are those of
--- the system and its own ones agree, as do the threads' contexts and places, the kinds, the orders
--- and the delays; no budget in force is below the minimum. A state that has failed need not meet
--- this
+-- the state is one of a core of this system: its threads, contexts and notifications, those of them
+-- that are its own, the threads' contexts and places, the kinds, the orders and the delays agree
+-- with the system; no budget in force is below the minimum. After a failure only number and clock
+-- have to be in range
 pub record Fits (system : System) (state : State) : Type 0 where
   pub known : state.number < system.cores
   pub early : state.clock ≤ 2 ^ 40 + 1

@@ -110,7 +110,6 @@ impl Alarm {
     }
 }
 
-/// Returns the initial alarms of a core.
 pub(crate) fn alarms_of(
     alloc: Global,
     system: &SystemParts,
@@ -180,7 +179,6 @@ impl Alarms {
     }
 }
 
-/// A block of the alarms.
 fn block(alarms: &[Alarm], b: usize) -> &[Alarm]
     requires { 64 * b < length alarms.now }
     ensures { result.now ≡ block b alarms.now }
@@ -260,7 +258,6 @@ fn first_ringing(alarms: &[Alarm], moment: Tick) -> Option<usize>
     None
 }
 
-/// The soonest date.
 fn first_date(alarms: &[Alarm]) -> Soonest
     ensures { result ≡ first_date alarms.now }
 {

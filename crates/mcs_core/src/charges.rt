@@ -15,7 +15,6 @@ use mcs_ticks::{ContextId, NoMemory, ThreadId, Tick};
 use std::alloc::Global;
 
 impl Local {
-    /// Charges the context of the thread.
     pub(crate) fn charge(&mut self, system: &SystemParts, thread: ThreadId, ticks: u64)
         requires part { thread < length system.now.threads }
         requires has { has_context (thread_part system.now thread).context self.old ≡ true }
@@ -71,7 +70,6 @@ impl Local {
         self.contexts.head_amount(system.thread(thread).context)
     }
 
-    /// Wakes the thread of a context.
     pub(crate) fn wake_context(&mut self, context: ContextId, moment: Tick)
         requires own { has_context context self.old ≡ true }
         requires soon { moment ≤ 2 ^ 40 }

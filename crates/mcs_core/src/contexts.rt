@@ -30,7 +30,6 @@ impl Model for Contexts {
 }
 
 impl Contexts {
-    /// Charges a context.
     pub(crate) fn charge(&mut self, number: ContextId, ticks: u64, min_budget: u64)
         requires own { is_own number self.old ≡ true }
         requires some { 1 ≤ ticks }
@@ -71,7 +70,6 @@ impl Contexts {
         }
     }
 
-    /// Wakes the thread of a context.
     pub(crate) fn wake(&mut self, number: ContextId, moment: Tick)
         requires own { is_own number self.old ≡ true }
         requires soon { moment ≤ 2 ^ 40 }
@@ -148,7 +146,6 @@ impl Contexts {
         Contexts { contexts }
     }
 
-    /// A context, if the core holds it.
     pub(crate) fn get(&self, number: ContextId) -> Option<&Context>
         requires known { number < length self.now }
         ensures { option_map (λ kept. kept.context) (option_copied result) ≡ get_or self.now number None }

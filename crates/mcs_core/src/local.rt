@@ -56,7 +56,6 @@ impl Model for Local {
 }
 
 impl Local {
-    /// Sets the standing of the thread.
     pub(crate) fn stand(&mut self, thread: ThreadId, standing: Standing)
         requires { thread < length self.old.threads }
         ensures { self.new ≡ stands thread standing self.old }
@@ -144,7 +143,6 @@ impl Local {
         }
     }
 
-    /// The state of a thread of the core.
     pub(crate) fn thread(&self, thread: ThreadId) -> Thread
         requires { thread < length self.now.threads }
         ensures { result ≡ thread_of self.now thread }
@@ -175,7 +173,6 @@ impl Local {
             .wait(note, thread, self.threads[thread.0].place.priority)
     }
 
-    /// The word of a notification.
     pub(crate) fn word(&self, note: NoteId) -> u32
         requires { note < length self.now.notes }
         ensures { result ≡ (note_of self.now note).word }

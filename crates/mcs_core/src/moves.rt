@@ -10,7 +10,6 @@ use mcs_system::SystemParts;
 use mcs_ticks::{FlowFault, Sink, ThreadId, What};
 
 impl Local {
-    /// The current item of the thread.
     pub(crate) fn item_of(&self, system: &SystemParts, thread: ThreadId) -> Option<Item>
         requires known { thread < length self.now.threads }
         requires part { thread < length system.now.threads }

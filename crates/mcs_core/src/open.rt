@@ -107,7 +107,6 @@ fn opening_context(
     Ok(Some(context))
 }
 
-/// Boxes a context, if there is one.
 fn boxed(alloc: Global, context: Option<Context>) -> Result<Option<Box<Context>>, NoMemory>
     ensures { IfOk result (λ kept. unboxed kept ≡ context) }
 {

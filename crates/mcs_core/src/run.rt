@@ -13,7 +13,6 @@ use mcs_system::System;
 use mcs_ticks::{FlowFault, Measured, NoMemory, Row, Sink, Soonest, Tick};
 
 impl CoreState {
-    /// Whether the clock is before a moment.
     fn is_before(&self, to: Tick) -> bool
         ensures { IsTrue result ↔ (self.now.clock < to) }
     {

@@ -87,7 +87,6 @@ impl CoreState {
         self.local.views(alloc, system.parts())
     }
 
-    /// The core itself.
     pub(crate) fn local(&self) -> &Local
         ensures { result.now ≡ self.now.core }
     {

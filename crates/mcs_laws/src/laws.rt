@@ -104,8 +104,8 @@ pub fn contexts_are_shown()
 /// A law of the clock, for a round robin context and a range of moments in which no order for it
 /// comes before the last one. The charges in the rows and what is left after them sum to what was
 /// left before and the budget in force before them for each slice used up. These charges sum to
-/// that budget between two full slices. An order at the last moment comes after the charge; orders
-/// at other moments do not matter.
+/// that budget between one full slice and the next. An order at the last moment comes after the
+/// charge; orders at other moments do not matter.
 pub fn slices_are_spent_over_time()
     ensures told { (system : System) → IsWellFormed system → SchedulesTellCharges system }
     ensures charges { (system : System) → IsWellFormed system → SlicesAreCharged system }

@@ -14,8 +14,8 @@ ghost use Rattle.mcs_server_laws.specs.Interrupts.{TurnsTellDates, SchedulesTell
 
 /// A law of the clock: each interrupt is posted. The turn of a core emits an `interrupt` row for
 /// each beat of the core with a date at the moment, and no other. The moments of a source's
-/// interrupts in a schedule are therefore its dates up to the horizon. The next row is that of its
-/// badge: it woke a thread, or the notification holds it.
+/// interrupts in a schedule are therefore its dates up to the horizon. The row right after an
+/// interrupt is that of its badge: it woke a thread, or the notification holds it.
 pub fn interrupts_are_posted()
     ensures turns { (system : System) → IsWellFormed system → TurnsTellDates system }
     ensures schedules { (system : System) → IsWellFormed system → SchedulesTellDates system }

@@ -6,8 +6,8 @@ use mcs_team::{Open, report};
 use std::process::Abort;
 use std::test::Fail;
 
-/// The report of a thread that ran for `ran` ticks and ended one round with this response time, or no
-/// round if it is 0.
+/// The report of a thread that ran for `ran` ticks and ended one round with this response time, or
+/// no round if it is 0.
 fn ran(ran: u64, response: u64) -> ThreadReport {
     ThreadReport {
         ran,

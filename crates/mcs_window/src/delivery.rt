@@ -51,7 +51,6 @@ fn make_room_for(mailbox: &mut Mailbox, more: usize) -> Result<(), NoMemory>
     mailbox.reserve(more)
 }
 
-/// The number of signals for each core.
 fn counts_for(system: &System, signals: &[Mail]) -> [usize; 64]
     ensures { (c : ℕ) → c < 64 → slice_index result c ≡ count_for system.now c signals.now }
 {

@@ -14,7 +14,6 @@ use crate::slot::Slot;
 use mcs_ticks::{Collector, CoreId, Tick};
 
 impl<S: Collector> Desk<S> {
-    /// The next busy moment of a core that is not lent.
     fn next_busy(&self, core: CoreId) -> Option<Tick>
         requires known { core < self.now.system.cores }
         requires here { loan_of self.now core ≡ None }

@@ -9,7 +9,6 @@ use mcs_mail::{Mail, Mailbox};
 use mcs_ticks::NoMemory;
 use std::mem;
 
-/// Whether the clocks are the same.
 pub(crate) fn same_front(one: &Front, other: &Front) -> bool
     ensures { IsTrue result ↔ one.now ≡ other.now }
 {
@@ -33,7 +32,6 @@ pub(crate) fn make_own_room<S: Append>(
     told.make_room(more)
 }
 
-/// Takes the first mail.
 fn take_first(mailbox: &mut Mailbox) -> Option<Mail>
     ensures first { mailbox.old.mails ≡ option_to_list result ++ mailbox.new.mails }
     ensures none { IfNone result (mailbox.old.mails ≡ []) }

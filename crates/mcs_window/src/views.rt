@@ -22,7 +22,6 @@ pub(crate) trait Stands {
 
     ghost state: { Self → State };
 
-    /// The views of the core's contexts, in file order.
     fn views(&self, alloc: Global, system: &System) -> Result<Vec<ContextView>, NoMemory>
         requires { Fits system.now (state self.now) }
         ensures { IfOk result (λ views. views.items ≡ views_of system.now (state self.now).core) };
