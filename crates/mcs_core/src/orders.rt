@@ -16,7 +16,7 @@ use mcs_control::Order;
 use mcs_ticks::{FlowFault, Sink, What, Why};
 
 impl Local {
-    /// The thread that runs is charged, and then its context takes the order's configuration.
+    /// Charges the running thread, and then applies the order's configuration to its context.
     #[inline(always)]
     fn charge_and_apply(&mut self, here: &Here<'_>, order: Order, chosen: Chosen)
         requires well_formed { IsWellFormed here.now.system.now }
