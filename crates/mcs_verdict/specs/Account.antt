@@ -110,7 +110,7 @@ told_from standing moment what account =
 abbrev pub told : ℕ → What → Account → Account
 told moment what account = told_from (settled (Some what) account.standing) moment what account
 
--- a round begins at `began`, or none is under way; nothing is counted yet
+-- a round begins at `began`, or no round is under way; no tick is counted yet
 abbrev pub begins : Option ℕ → Account → Account
 begins began account = record account { begun = began; active = None; stood = no_ticks }
 

@@ -33,8 +33,8 @@ abbrev pub handled : ℕ → List Item → ℕ
 handled bits [] = bits
 handled bits (item ∷ items) = handled (if ends_handler (slice_get items 0) then bits else bit_or bits (badges_in item)) items
 
--- The bits that leave something to do after the first item, a wait. A word needs one of them; None
--- if every word leaves something to do.
+-- The bits that leave something to do after the first item, a wait: a word needs one of them. If
+-- every word leaves something to do, this is None.
 abbrev pub called_for : List Item → Option ℕ
 called_for items = if ends_handler (slice_get items 1) then Some (handled 0 (drop 1 items)) else None
 
