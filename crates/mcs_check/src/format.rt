@@ -85,14 +85,15 @@ static TABLE: [&str; 26] = [
     "ticks_done",
 ];
 
-/// Whether rows of two kinds are asked for.
+/// Whether rows of two kinds are asked for as CSV.
 pub(crate) fn is_mixed(format: Format, show: Show) -> bool
     ensures { result ≡ is_mixed format show }
 {
     matches!((format, show), (Format::Csv, Show::Both))
 }
 
-/// Appends the first line of CSV; other formats have none. After a refusal the text is as it was.
+/// Appends the first line of CSV; other formats have none. If memory runs out the text is
+/// unchanged.
 pub(crate) fn put_head(text: &mut Vec<u8>, format: Format, show: Show) -> Result<(), NoMemory>
     ensures ok { OnOk result (text.new.items ≡ text.old.items ++ head_text format show) }
     ensures err { OnErr result (text.new.items ≡ text.old.items) }
@@ -106,7 +107,7 @@ pub(crate) fn put_head(text: &mut Vec<u8>, format: Format, show: Show) -> Result
     }
 }
 
-/// Appends the line of what is shown. After a refusal the text is as it was.
+/// Appends the line of what is shown. If memory runs out the text is unchanged.
 pub(crate) fn put_shown(
     alloc: Global,
     text: &mut Vec<u8>,
@@ -124,7 +125,7 @@ pub(crate) fn put_shown(
     }
 }
 
-/// Appends the line of a finding. After a refusal the text is as it was.
+/// Appends the line of a finding. If memory runs out the text is unchanged.
 pub(crate) fn put_found_as(
     alloc: Global,
     text: &mut Vec<u8>,
@@ -142,7 +143,7 @@ pub(crate) fn put_found_as(
     }
 }
 
-/// Appends the line of a round that ended. After a refusal the text is as it was.
+/// Appends the line of a job. If memory runs out the text is unchanged.
 fn put_job_as(
     alloc: Global,
     text: &mut Vec<u8>,
@@ -160,7 +161,7 @@ fn put_job_as(
     }
 }
 
-/// Appends the line of a row of the schedule. After a refusal the text is as it was.
+/// Appends the line of a row of the schedule. If memory runs out the text is unchanged.
 fn put_row_as(
     alloc: Global,
     text: &mut Vec<u8>,
@@ -178,7 +179,7 @@ fn put_row_as(
     }
 }
 
-/// Appends the line of a hint; CSV has none. After a refusal the text is as it was.
+/// Appends the line of a hint; CSV has none. If memory runs out the text is unchanged.
 pub(crate) fn put_hint_as(
     alloc: Global,
     text: &mut Vec<u8>,
@@ -226,7 +227,7 @@ fn put_hint_object(
     }
 }
 
-/// Appends the line of counts; CSV has none. After a refusal the text is as it was.
+/// Appends the line of the counts; CSV has none. If memory runs out the text is unchanged.
 pub(crate) fn put_counts_as(
     alloc: Global,
     text: &mut Vec<u8>,
