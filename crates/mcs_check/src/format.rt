@@ -1,4 +1,4 @@
-//! The lines of what is shown, in each format.
+//! The lines of what is shown, in each format. If memory runs out, a call leaves the text unchanged.
 ghost use Rattle.std.specs.Prelude.{◌≡◌, ◌++◌, OnOk, OnErr};
 ghost use Rattle.mcs_fields.specs.Fields.{object_text};
 ghost use Rattle.mcs_check.specs.Fields.{hint_fields};
@@ -92,8 +92,7 @@ pub(crate) fn is_mixed(format: Format, show: Show) -> bool
     matches!((format, show), (Format::Csv, Show::Both))
 }
 
-/// Appends the first line of CSV; other formats have none. If memory runs out the text is
-/// unchanged.
+/// Appends the first line of CSV; other formats have none.
 pub(crate) fn put_head(text: &mut Vec<u8>, format: Format, show: Show) -> Result<(), NoMemory>
     ensures ok { OnOk result (text.new.items ≡ text.old.items ++ head_text format show) }
     ensures err { OnErr result (text.new.items ≡ text.old.items) }
@@ -107,7 +106,7 @@ pub(crate) fn put_head(text: &mut Vec<u8>, format: Format, show: Show) -> Result
     }
 }
 
-/// Appends the line of what is shown. If memory runs out the text is unchanged.
+/// Appends the line of what is shown.
 pub(crate) fn put_shown(
     alloc: Global,
     text: &mut Vec<u8>,
@@ -125,7 +124,7 @@ pub(crate) fn put_shown(
     }
 }
 
-/// Appends the line of a finding. If memory runs out the text is unchanged.
+/// Appends the line of a finding.
 pub(crate) fn put_found_as(
     alloc: Global,
     text: &mut Vec<u8>,
@@ -143,7 +142,7 @@ pub(crate) fn put_found_as(
     }
 }
 
-/// Appends the line of a job. If memory runs out the text is unchanged.
+/// Appends the line of a job.
 fn put_job_as(
     alloc: Global,
     text: &mut Vec<u8>,
@@ -161,7 +160,7 @@ fn put_job_as(
     }
 }
 
-/// Appends the line of a row of the schedule. If memory runs out the text is unchanged.
+/// Appends the line of a row of the schedule.
 fn put_row_as(
     alloc: Global,
     text: &mut Vec<u8>,
@@ -179,7 +178,7 @@ fn put_row_as(
     }
 }
 
-/// Appends the line of a hint; CSV has none. If memory runs out the text is unchanged.
+/// Appends the line of a hint; CSV has none.
 pub(crate) fn put_hint_as(
     alloc: Global,
     text: &mut Vec<u8>,
@@ -227,7 +226,7 @@ fn put_hint_object(
     }
 }
 
-/// Appends the line of the counts; CSV has none. If memory runs out the text is unchanged.
+/// Appends the line of the counts; CSV has none.
 pub(crate) fn put_counts_as(
     alloc: Global,
     text: &mut Vec<u8>,

@@ -2,7 +2,7 @@
 
 use std::alloc::Global;
 
-/// The system calls for threads, and the allocator.
+/// The runtime for threads, and the allocator.
 #[derive(Drop)]
 pub(crate) struct Machine<'a, H> {
     pub(crate) rt: &'a H,

@@ -61,11 +61,12 @@ pub fn check_with<H: Files + Threads + Wait + Sync, S: Source, T: Target, P: Pro
 
 /// Reads a system, simulates it, and writes what the options ask to be shown of its schedule;
 /// returns the counts.
-/// - Lines come as the rows do. Findings are followed by those at the horizon and by hints, then by
-///   the figures if they are asked for; jobs are followed by neither. Text and JSON end with the
-///   counts. The bytes are the same for every number of workers. Neither device may have failed
-///   before; a device is blamed only if it has failed. After `Mixed`, `Read`, `Load` and `Unknown`
-///   no byte was written, after `Sim` and `Write` a prefix.
+///
+/// Lines come as the rows do. Findings are followed by those at the horizon and by hints, then by
+/// the figures if they are asked for; jobs are followed by neither. Text and JSON end with the
+/// counts. The bytes are the same for every number of workers. Neither device may have failed
+/// before; a device is blamed only if it has failed. After `Mixed`, `Read`, `Load` and `Unknown` no
+/// byte was written, after `Sim` and `Write` a prefix.
 pub fn check<H: Threads + Wait + Sync, S: Source, T: Target, P: Progress>(
     rt: &H,
     alloc: Global,

@@ -75,12 +75,13 @@ pub fn explain_with<H: Files + Threads + Wait + Sync, S: Source, T: Target, P: P
 }
 
 /// Reads a system, simulates it twice, and writes why the round that is asked about took so long.
-/// - The rows of its core come first. They begin at its activation, or when its thread began to
-///   wait for the word that began it, and end with the round or at the horizon. Then come the
-///   round's times, how long each thread ran meanwhile, and how long the core was idle. The bytes
-///   are the same for every number of workers. Neither device may have failed before; a device is
-///   blamed only if it has failed. After `Mixed`, `Read`, `Load`, `NoThread` and `NoRound` no byte
-///   was written, after `Sim` and `Write` a prefix.
+///
+/// The rows of its core come first. They begin at its activation, or when its thread began to wait
+/// for the word that began it, and end with the round or at the horizon. Then come the round's
+/// times, how long each thread ran meanwhile, and how long the core was idle. The bytes are the
+/// same for every number of workers. Neither device may have failed before; a device is blamed only
+/// if it has failed. After `Mixed`, `Read`, `Load`, `NoThread` and `NoRound` no byte was written,
+/// after `Sim` and `Write` a prefix.
 pub fn explain<H: Threads + Wait + Sync, S: Source, T: Target, P: Progress>(
     rt: &H,
     alloc: Global,

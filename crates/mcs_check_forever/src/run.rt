@@ -65,11 +65,12 @@ pub fn foretell_with<H: Files, S: Source, T: Target, P: Progress>(
 
 /// Reads a system, searches for a repetition up to the horizon, and writes the result of each
 /// closed set of cores; returns the verdict.
-/// - A closed set is one that no core outside it signals. Its lines say from which time on it
-///   repeats, with which period, and its findings for ever; without a repetition, its findings so
-///   far. One thread searches, whatever the option `workers`. Neither device may have failed
-///   before; a device is blamed only if it has failed. After `Write` a prefix was written, after
-///   any other fault no byte.
+///
+/// A closed set is one that no core outside it signals. Its lines say from which time on it
+/// repeats, with which period, and its findings for ever; without a repetition, its findings so
+/// far. One thread searches, whatever the option `workers`. Neither device may have failed before;
+/// a device is blamed only if it has failed. After `Write` a prefix was written, after any other
+/// fault no byte.
 pub fn foretell<S: Source, T: Target, P: Progress>(
     alloc: Global,
     source: &mut S,

@@ -24,8 +24,8 @@ use std::alloc::Global;
 use std::marker::Model;
 
 /// The figures kept of a schedule's rows so far: for each thread of its rounds, for each
-/// notification of lost and merged signals. All memory is taken when the table is made, at most 18
-/// kB a thread; a row takes constant time and none.
+/// notification of lost and merged signals. All memory is taken when the table is made, at most
+/// 18 kB a thread; a row takes constant time.
 #[derive(Drop)]
 pub struct Table {
     horizon: Tick,

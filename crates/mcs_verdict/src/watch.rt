@@ -22,8 +22,7 @@ use std::alloc::Global;
 use std::marker::Model;
 
 /// The state that is kept of a schedule's rows so far: the account of each thread and the word of
-/// each notification. All memory is taken when the watch is made; a row takes constant time and
-/// none.
+/// each notification. All memory is taken when the watch is made; a row takes constant time.
 #[derive(Drop)]
 pub struct Watch {
     pub(crate) accounts: Vec<Account>,

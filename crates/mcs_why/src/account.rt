@@ -13,7 +13,7 @@ use std::alloc::Global;
 use std::marker::Model;
 
 /// Counts how long each thread ran on a core in a span, and how long the core was idle. All memory
-/// is taken when the account is made, a count for each thread; a row takes constant time and none.
+/// is taken when the account is made, a count for each thread; a row takes constant time.
 #[derive(Drop)]
 pub struct Account {
     core: CoreId,
