@@ -4,7 +4,7 @@ ghost use Rattle.mcs_check.specs.stored.ByCore.{together};
 
 use mcs_verdict::Finding;
 
-/// The numbers of findings, by kind. Each is exact up to 2^64 - 1, at which it stays.
+/// The numbers of findings, by kind. They saturate at 2^64 - 1.
 #[derive(Clone, Copy, Debug, PartialEq, Eq)]
 pub struct Counts {
     /// Deadline misses: rounds whose response was above the deadline.

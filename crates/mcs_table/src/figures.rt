@@ -11,7 +11,7 @@ pub enum Margin {
 }
 
 /// The rounds of a thread that ended (jobs). A response is in ticks, from the round's activation to
-/// its end. Counts are exact up to 2^64 - 1, at which they stay.
+/// its end. Counts saturate at 2^64 - 1.
 #[derive(Clone, Copy, Debug, PartialEq, Eq)]
 pub struct Rounds {
     /// Number of rounds that ended.
@@ -46,8 +46,8 @@ pub struct Share {
     pub used: u64,
 }
 
-/// Coalesced signals of a notification, which came while no thread waited on it. Counts are exact
-/// up to 2^64 - 1, at which they stay.
+/// Coalesced signals of a notification, which came while no thread waited on it. Counts saturate at
+/// 2^64 - 1.
 #[derive(Clone, Copy, Debug, PartialEq, Eq)]
 pub struct Signals {
     /// Lost activations: signals that changed nothing, since their bits were pending.

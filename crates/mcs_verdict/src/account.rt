@@ -21,7 +21,7 @@ pub(crate) struct Account {
     pub standing: Standing,
     /// When the thread began to stand as `standing` says.
     pub since: Tick,
-    /// When the round that is under way began; `None` if no round is.
+    /// When the round under way began; `None` between rounds.
     pub begun: Option<Tick>,
     /// When the latest round that a word began was activated.
     pub called: Option<Tick>,
@@ -93,8 +93,8 @@ impl Account {
         }
     }
 
-    /// How the thread stood in the round that began at `begun`, up to `moment`. No row since
-    /// `since` may have changed how it stands.
+    /// How the thread stood in the round that began at `begun`, up to `moment`, if no row changed
+    /// that after `since`.
     pub(crate) fn stood_since(&self, begun: Option<Tick>, moment: Tick) -> Stood
         ensures { all_kept self.now + moment < 2 ^ 64 → result ≡ stood_since begun moment self.now.standing self.now }
     {
@@ -109,8 +109,7 @@ impl Account {
         }
     }
 
-    /// How the thread stood from time 0 up to `moment`. No row since `since` may have changed how
-    /// it stands.
+    /// How the thread stood from time 0 up to `moment`, if no row changed that after `since`.
     pub(crate) fn total_at(&self, moment: Tick) -> Stood
         ensures { all_kept self.now + moment < 2 ^ 64 → result ≡ total_at moment self.now.standing self.now }
     {
@@ -121,7 +120,7 @@ impl Account {
     }
 
     /// When the thread was first ready or running in the round that began at `begun`, up to
-    /// `moment`. No row since `since` may have changed how it stands.
+    /// `moment`, if no row changed how it stands after `since`.
     fn active_since(&self, begun: Option<Tick>, moment: Tick) -> Option<Tick>
         ensures { result ≡ active_since begun moment self.now.standing self.now }
     {
@@ -136,7 +135,7 @@ impl Account {
         }
     }
 
-    /// When the round that is under way was activated, if it was before `moment`.
+    /// When the round under way was activated, if it was before `moment`.
     pub(crate) fn activated_since(&self, moment: Tick) -> Option<Tick>
         ensures { result ≡ activated_since moment self.now }
     {
@@ -193,7 +192,7 @@ impl Account {
         }
     }
 
-    /// Ends the round that is under way. The next one began at `begun`, if it already has.
+    /// Ends the round under way. `begun` is when the next one began, if it has begun.
     fn end(&mut self, begun: Option<Tick>)
         ensures { self.new ≡ ends begun self.old }
     {

@@ -16,8 +16,8 @@ pub struct Job {
     pub response: u64,
     /// The time from its activation to its beginning; 0 if it was activated later.
     pub queued: u64,
-    /// Times that a thread of higher priority preempted it since it began. The count is exact up to
-    /// 2^64 - 1, at which it stays.
+    /// Times that a thread of higher priority preempted it since it began. The count saturates at
+    /// 2^64 - 1.
     pub preemptions: u64,
     /// How the thread stood from the round's beginning to its end.
     pub stood: Stood,
