@@ -69,7 +69,7 @@ pub back : {T : Type 0} (xs ys : List T) → xs ++ ys ≡ [] → ys ≡ []
 back [] ys e = e
 back (x ∷ xs) ys e = cc
 
--- of the lines of numbers, one more where there is one
+-- the lines of one number more: another line, if it has one
 module _ {T : Type 0} (tell : ℕ → Option T) where
   one : (n : ℕ) (o : Option T) → tell n ≡ o → filter_map tell (n ∷ []) ≡ if_some o
   one n None e = simp e
@@ -97,7 +97,7 @@ module _ {T : Type 0} (tell : ℕ → Option T) where
       let same : k ≡ n = omega (arith, l, more) in
       ap tell same ∙ nothing (tell n) now
 
-  -- where no line is told, there is none for any number
+  -- an empty list of lines has no line for any number
   pub none-told : (n : ℕ) → filter_map tell (range_with_len 0 n) ≡ [] → (k : ℕ) → k < n → tell k ≡ None
   none-told zero e k l = absurd (omega (arith, l))
   none-told (suc n) e k l =
