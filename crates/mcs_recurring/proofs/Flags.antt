@@ -1,4 +1,4 @@
--- What rows did, flag by flag.
+-- The flags of rows, one by one.
 use Rattle.std.proofs.Common.{◌≡◌, ◌≢◌, ℕ, zero, suc, ◌+◌, ◌<◌, Bool, true, false, ◌||◌, List, [], ◌∷◌, ◌++◌, length, map, get_or, set, replicate, refl, sym, ap, ◌∙◌, Option, Some, None, arith}
 use Rattle.std.specs.Prelude.{◌==◌}
 use Rattle.std.specs.List.{list_any, range_with_len}
@@ -84,7 +84,7 @@ module _ (test : ℕ → What → Bool) (n : ℕ) where
         by None e = none-more e
         by (Some y) e = some-more y e
 
--- whom a row does something to
+-- the thread or the notification to which a row does something
 whose-ended : (x : ℕ) (what : What) → ends_round x what ≡ is_some_of (ended_by what) x
 whose-ended x (row.Round y number response) = refl
 whose-ended x (row.Stop y cause k until) = refl

@@ -36,7 +36,8 @@ module _ (source note badge period : ℕ) (some : 1 ≤ period) where
   abbrev with_date : Option ℕ → ℕ → Alarm
   with_date date left = record { source = source; note = note; badge = badge; date = date; period = period; left = left }
 
-  -- dates without end: the next one is a multiple of the period behind the first one, and no more than a period away from when the first has come
+  -- dates without end: the next date is the first plus a multiple of the period. It is at most a
+  -- period away once the first has come
   abbrev endless : ℕ → Alarm
   endless date = with_date (Some date) never
 
@@ -105,7 +106,7 @@ module _ (source note badge period : ℕ) (some : 1 ≤ period) where
       (same-multiple first from m a.k b.k a.low (near first a.k from begun a.high) b.low (near first b.k (from + m * period) (omega (arith, begun)) b.high))
       ∙ sym (ap (later_alarm (m * period)) a.is)
 
-  -- so many dates after the first one: when the last has come there is none any more
+  -- n dates after the first one: once the last has come there is no next one
   abbrev over : Alarm
   over = with_date None 0
 

@@ -237,9 +237,9 @@ impl Search {
     }
 
     /// Returns by how much a group of cores is later than before the kept moment, if this holds:
-    /// - the kept moment is later than all orders,
+    /// - the kept moment is later than all orders;
     /// - the group's cores, the signals under way to them and their sources' next dates are those
-    ///   before the kept moment, but later,
+    ///   before the kept moment, but later;
     /// - no date lags that was compared with the current time meanwhile.
     ///
     /// If no core outside the group signals one in it, it then recurs, for ever. `None` says

@@ -1,4 +1,5 @@
--- The rows of a turn tell its signals, part by part; so the rows before a moment tell what is under way then.
+-- The signals of a turn are those of its rows, part by part. The rows before a moment therefore
+-- show the signals under way then.
 use Rattle.std.proofs.Common.{◌≡◌, ℕ, ◌+◌, Bool, true, false, cond, List, [], ◌∷◌, ◌++◌, Option, Some, None, refl, sym, ap, ◌∙◌, arith}
 use Rattle.std.specs.Prelude.{◌==◌, nat_lt, filter, filter_map}
 use Rattle.std.specs.List.{cons_option, slice_get}
