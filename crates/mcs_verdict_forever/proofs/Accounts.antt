@@ -1,4 +1,5 @@
--- A row that comes later makes of a later account what the row makes of the account, but later, and tells the same of it.
+-- A later row changes a later account as the row changes the account, and has the same finding,
+-- later.
 use Rattle.std.proofs.Common.{◌≡◌, ℕ, ◌+◌, ◌-◌, max, Bool, true, false, cond, ◌&&◌, refl, sym, ap, ◌∙◌, Option, Some, None, option_map, arith}
 use Rattle.std.specs.Prelude.{nat_lt}
 use Rattle.std.proofs.lemmas.Bool.Decides.{nat_tests}
@@ -59,7 +60,7 @@ module _ (shift : Shift) where
       by true = refl
       by false = refl
 
-  -- what is kept of a round that began then
+  -- the account of a round that began then
   active-later : (begun : Option ℕ) (m : ℕ) (s : Standing) (a : Account) →
       active_since (later_moment d begun) (m + d) s (later a) ≡ later_moment d (active_since begun m s a)
   active-later None m s a = refl
@@ -69,7 +70,7 @@ module _ (shift : Shift) where
   stood-later None m s a = refl
   stood-later (Some from) m s a = ap (λ n. counted s n a.stood) (past-later m from a.since d)
 
-  -- neither asks for the ticks from moment 0 on
+  -- neither depends on the ticks from time 0 on
   active-bare : (begun : Option ℕ) (m : ℕ) (s : Standing) (a : Account) → active_since begun m s (bare a) ≡ active_since begun m s a
   active-bare None m s a = refl
   active-bare (Some from) m s a = refl
@@ -182,7 +183,7 @@ module _ (shift : Shift) where
       by None = refl
       by (Some from) = refl
 
-  -- a row more: what it makes does not depend on the ticks from moment 0 on
+  -- one row more: its effect does not depend on the ticks from time 0 on
   seen-bare : (set m : ℕ) (what : What) (a : Account) → bare (seen_own set m what (bare a)) ≡ bare (seen_own set m what a)
   seen-bare set m (row.Got x note word) a = bare-given m set word a
   seen-bare set m (row.Round x number response) a = refl
