@@ -21,7 +21,7 @@ or-false true = refl
 or-false false = refl
 
 module _ (system : System) (test : Option Finding → Bool) where
-  -- more rows have no fewer
+  -- more rows have no smaller count
   no-fewer : (rows past : List Row) → times system test past ≤ times system test (past_of past rows)
   no-fewer [] past = omega arith
   no-fewer (r ∷ rows) past =

@@ -42,7 +42,7 @@ module _ (sets : List (List Bool)) (groups : List Group) (is : groups ≡ groups
       let within : i < length (firsts sets) = omega (arith, l, many-groups) in
       kept-below (is_first sets) (length sets) 0 (length sets) 0 (omega arith) i within
 
-  -- the sets of the groups are least sets that no core outside signals
+  -- the sets of the groups are closed: no core outside signals one of them
   pub groups-closed : (system : System) → AreLeastClosed system sets → AreClosed system groups
   groups-closed system closed i d l =
       let P : Group → Type 0 = λ group. IsClosed system (has group.set) in

@@ -1,4 +1,4 @@
--- The numbers below one, and one more.
+-- The numbers below n, and one more.
 use Rattle.std.proofs.Common.{◌≡◌, ℕ, zero, suc, ◌+◌, ◌<◌, ◌≤◌, ◌⊎◌, inl, inr, Bool, true, false, ◌||◌, List, [], ◌∷◌, ◌++◌, map, Option, Some, None, cond, refl, sym, ap, ◌∙◌, append_assoc, arith}
 use Rattle.std.specs.List.{filter, filter_map, list_any, range_with_len}
 use Rattle.std.proofs.lemmas.Bool.{cases_lt}
@@ -22,7 +22,7 @@ any-at p n =
     ap (list_any p) (range-more n) ∙ list_any-append p (range_with_len 0 n) (n ∷ [])
     ∙ ap (λ b. list_any p (range_with_len 0 n) || b) (or-false (p n))
 
--- one more number passes no test either
+-- if no number below n passes the test, and n fails it, none below n + 1 passes
 pub none-more : (p : ℕ → Bool) (n : ℕ) → list_any p (range_with_len 0 n) ≡ false → p n ≡ false → list_any p (range_with_len 0 (n + 1)) ≡ false
 none-more p n before now = any-at p n ∙ ap (λ b. b || p n) before ∙ now
 
@@ -48,7 +48,7 @@ some-below p k (suc n) l at =
 kept-one : (p : ℕ → Bool) (n : ℕ) (b : Bool) → p n ≡ b → filter p (n ∷ []) ≡ cond b (n ∷ []) []
 kept-one p n b e = ap (λ b. cond b (n ∷ []) []) e
 
--- of the numbers that pass a test, one more or none
+-- the numbers that pass a test: one more, or none
 module _ {T : Type 0} (p : ℕ → Bool) (f : ℕ → T) (n : ℕ) where
   map-one : (b : Bool) → map f (cond b (n ∷ []) []) ≡ cond b (f n ∷ []) []
   map-one true = refl

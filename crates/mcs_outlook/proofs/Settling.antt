@@ -21,7 +21,7 @@ module _ (system : System) (well : IsWellFormed system) (search : Compared) (set
   over : search.kept + has_recurred.shifts.by ≤ suc last
   over = omega (arith, has_recurred.by_is)
 
-  -- by what is counted and kept up to the last moment of the first period
+  -- by the counts and the watch up to the last moment of the first period
   pub thread-never : NoDeadlineIsMissed → ThreadIsNeverFound → WhoWaitsAloneTakesIt → (thread : ℕ) → thread < length system.threads →
       EndIsKnown system set by search.kept thread → get_or (course_up_to system last).misses thread 0 ≡ 0 → unended_at system last thread ≡ None →
       IsNeverFound system search.kept thread

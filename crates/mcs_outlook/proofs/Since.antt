@@ -66,7 +66,7 @@ module _ (system : System) (search : Compared) (look : IsLook system search) whe
       ap (λ (d : Doings). d.ended) (d ∙ ap (λ (s : System). doings_of s (told_between s search.kept search.clock)) look.same
       ∙ ap (λ (m : ℕ). doings_of system (told_between system search.kept m)) (sym period))
 
-  -- the counts of the rows before a later moment, up to an earlier one
+  -- the counts of the rows before a moment are those of the rows up to the tick before it
   course-last : (clock : ℕ) → 1 ≤ clock → course_of system (past_before system clock) ≡ course_up_to system (clock - 1)
   course-last clock some =
       let e : clock ≡ suc (clock - 1) = omega arith in
@@ -86,7 +86,7 @@ module _ (system : System) (search : Compared) (look : IsLook system search) whe
   pub watch-at : (t : ℕ) → 1 ≤ t → (watch : Watch) → watch ≡ watch_before search.system t → watch ≡ watch_of system (past_of [] (schedule system (t - 1)))
   watch-at t some watch is = is ∙ ap (λ (s : System). watch_before s t) look.same ∙ watch-last t some
 
-  -- a repetition of the search
+  -- a recurrence that the search found
   pub has-recurred : (set : List Bool) (shifts : Shifts) → RecursSince search set shifts →
       FindingsRecur system (has set) (shifts_told shifts.by shifts.lags.items) search.kept → HasRecurred system search set shifts.by
   has-recurred set shifts since recurs =

@@ -124,7 +124,7 @@ whose-held x (row.Got y note word) = refl
 whose-held x (row.Order context) = refl
 whose-held x (row.Interrupt source at_note badge) = refl
 
--- what is kept, of these lists
+-- the flags, by these lists
 abbrev pub doings : List Bool → List Bool → List Bool → List Bool → Doings
 doings ended told taken held = record { ended = ended; told = told; taken = taken; held = held }
 
@@ -150,7 +150,7 @@ doings-more system rows what a b c e is =
     (ap (λ (doings : Doings). marked (taken_by what) doings.taken) is ∙ flags-more takes_word (length system.notes) taken_by whose-taken rows what)
     (ap (λ (doings : Doings). marked (held_by what) doings.held) is ∙ flags-more holds_word (length system.notes) held_by whose-held rows what)
 
--- no flag is set any more
+-- all flags are cleared
 flags-anew : (test : ℕ → What → Bool) (n : ℕ) (rows : List What) → unmarked (flags_of test n rows) ≡ flags_of test n []
 flags-anew test n rows =
     ap (λ n. replicate n false) (flags-many test n rows)

@@ -21,8 +21,8 @@ fn gap(no_mail: &Mailbox, system: &System, lockstep: &Lockstep, core: CoreId) ->
 }
 
 /// For each core the ticks until it next does more than count a tick, if no signal arrives. A group
-/// that recurs has the same numbers; most other groups have not. Most moments are thus told apart
-/// from the kept one without an image of the cores.
+/// that recurs has the same numbers; most others do not. Most moments are thus ruled out without an
+/// image of the cores.
 #[derive(Drop)]
 pub(crate) struct Gaps {
     of_cores: Vec<Option<u64>>,

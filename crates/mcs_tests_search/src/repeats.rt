@@ -102,7 +102,8 @@ fn a_horizon_that_is_met_first(rt: HostRuntime) -> Result<(), Fail> {
     Ok(())
 }
 
-/// Both cores recur with the period of the clock, the least by which all their dates can be later.
+/// Both cores recur with the period of the clock, the minimum by which all their dates can be
+/// later.
 #[test]
 fn a_clock_and_its_loop_repeat_with_their_period(rt: HostRuntime) -> Result<(), Fail> {
     let found = repeats_up_to(rt.alloc(), CLOCK, 1000)?;

@@ -1,4 +1,4 @@
--- Two lists of signals are compared from a place in each on.
+-- Two lists of signals, compared from a place in each.
 use Rattle.std.proofs.Common.{ℕ, Bool, List, drop}
 use Rattle.std.specs.Prelude.{◌↔◌}
 use Rattle.mcs_mail.specs.declared.mail.Mail.{Mail}

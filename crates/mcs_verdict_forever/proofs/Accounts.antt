@@ -79,7 +79,7 @@ module _ (shift : Shift) where
   stood-bare None m s a = refl
   stood-bare (Some from) m s a = refl
 
-  -- a row says the same of the standing
+  -- a later row gives the same standing
   after-later : (what : What) → standing_after (later_what shift what) ≡ standing_after what
   after-later (row.Stop x cause k until) = by cause until
     where
@@ -128,7 +128,7 @@ module _ (shift : Shift) where
   settled-later Blocked what = refl
   settled-later Done what = refl
 
-  -- a telling row, after which it stands so
+  -- a row that decides the standing, after which the thread stands so
   abbrev stood_so : Account → Option ℕ → Stood → Standing → ℕ → Account
   stood_so account active stood standing since =
       record account { active = active; stood = stood; standing = standing; since = since; total = no_ticks }
@@ -206,7 +206,7 @@ module _ (shift : Shift) where
   seen-bare set m (row.Order context) a = bare-told m (row.Order context) a
   seen-bare set m (row.Interrupt source at_note badge) a = bare-told m (row.Interrupt source at_note badge) a
 
-  -- when the word was set that a row says is taken, later
+  -- the time at which the word was set that a row takes, later
   abbrev pub later_set : What → ℕ → ℕ
   later_set (row.Got x note word) set = set + d
   later_set _ set = set
@@ -294,7 +294,7 @@ module _ (shift : Shift) where
       ∙ job-later m x number (bare a)
       ∙ ap (later_job shift) (job-bare m x number a)
 
-  -- the same round, later, missed its deadline or did not
+  -- the later round missed its deadline exactly if the round did
   pub missed-later : (deadline : ℕ) (job : Job) → missed deadline (later_job shift job) ≡ option_map (later_finding shift) (missed deadline job)
   missed-later deadline job = by (is_above deadline job.response)
     where
@@ -305,7 +305,7 @@ module _ (shift : Shift) where
       by true = refl
       by false = refl
 
-  -- what is overdue
+  -- an overdue round
   overdue_at-later : (h x deadline begun : ℕ) (stood : Stood) (activated : Option ℕ) →
       overdue_at (h + d) x deadline (begun + d) stood (later_moment d activated) ≡ option_map (later_finding shift) (overdue_at h x deadline begun stood activated)
   overdue_at-later h x deadline begun stood None = refl

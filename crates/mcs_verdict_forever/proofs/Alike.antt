@@ -40,7 +40,7 @@ equal a b e = grind (arith, nat_tests)
 abbrev pub at : ℕ → ℕ → What → Row
 at t core what = record { moment = t; core = core; what = what }
 
--- the word of a notification that there is
+-- the word of a notification of the system
 less : (a b : ℕ) → a < b → nat_lt a b ≡ true
 less a b l = grind (arith, nat_tests)
 
@@ -164,7 +164,7 @@ module _ (system : System) (group : ℕ → Bool) (shifts : Shifts) where
           ap (λ b. cond b (record { moment = t; core = c; finding = found } ∷ filter of_group (found_in system (at t c what ∷ past) (stamped c t whats)))
           (filter of_group (found_in system (at t c what ∷ past) (stamped c t whats)))) own ∙ ap (λ others. record { moment = t; core = c; finding = found } ∷ others) i
 
-  -- the round of a thread that there is
+  -- the round of a thread of the system
   job-known : (x number t : ℕ) (past : List Row) → x < length system.threads → job_of system past t (row.Round x number 0) ≡ Some (job system past t x number)
   job-known x number t past l =
       let b : nat_lt x (length system.threads) ≡ true = grind (arith, nat_tests) in
@@ -266,7 +266,7 @@ module _ (system : System) (group : ℕ → Bool) (shifts : Shifts) where
       own-note : (n : ℕ) → (note_part system n).core ≡ c → group (note_part system n).core ≡ true
       own-note n e = ap group e ∙ own_core
 
-      -- when a word was set that is taken
+      -- the time at which a taken word was set
       set-later : (what : What) (past past' : List Row) → IsOfOwn system c what → Counts what → Like t past past' →
           later_set shift what (set_for (firsts_of system) past what) ≡ set_for (firsts_of system) past' (later_what shift what)
       set-later (row.Got x n word) past past' o k l =

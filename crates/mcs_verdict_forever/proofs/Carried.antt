@@ -192,7 +192,7 @@ module _ (system : System) (group : ℕ → Bool) (shifts : Shifts) (from : ℕ)
   abbrev whats : ℕ → ℕ → List What
   whats t c = (turn_of system c t).rows
 
-  -- what each row keeps
+  -- a fact that each row keeps
   module _ (Fact : What → Type 0) (Q : List Row → Type 0) (keeps : (c t : ℕ) (what : What) (past : List Row) → Fact what → Q past → Q (at t c what ∷ past))
       (facts : (t c : ℕ) → from ≤ t → c < system.cores → AllByRecursion Fact (whats t c)) where
     carried-turn : (c t : ℕ) (whats : List What) (past : List Row) → AllByRecursion Fact whats → Q past → Q (past_of past (stamped c t whats))
