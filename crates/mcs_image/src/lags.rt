@@ -41,7 +41,6 @@ fn are_within(lags: &[u64], by: u64) -> bool
     true
 }
 
-/// Whether a thread of the system has a last round.
 fn has_last_round(system: &SystemParts, thread: ThreadId) -> bool
     ensures { IsTrue result ↔ ((thread_part system.now thread).rounds ≢ 0) }
 {

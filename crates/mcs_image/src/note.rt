@@ -21,7 +21,6 @@ impl Model for NoteImage {
 }
 
 impl NoteImage {
-    /// Returns a notification with this word and these waiters.
     pub(crate) fn new(word: u32, waiters: Vec<Queued>) -> Self
         ensures { result ≡ record { word = word; waiters = waiters.items } }
     {
@@ -36,7 +35,6 @@ impl NoteImage {
     }
 }
 
-/// Whether both lists have the same notifications.
 pub(crate) fn notes_are_same(before: &[NoteImage], after: &[NoteImage]) -> bool
     ensures { IsTrue result ↔ (after.now ≡ before.now) }
 {

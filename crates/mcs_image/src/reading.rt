@@ -54,7 +54,6 @@ pub(crate) fn read_contexts(
     Ok(contexts)
 }
 
-/// Returns a notification.
 fn read_note(alloc: Global, state: &CoreState, note: NoteId) -> Result<NoteImage, NoMemory>
     requires { note < length state.now.core.notes }
     ensures { IfOk result (λ image. image ≡ note_of state.now.core note) }
@@ -63,7 +62,6 @@ fn read_note(alloc: Global, state: &CoreState, note: NoteId) -> Result<NoteImage
     Ok(NoteImage::new(state.word(note), waiters))
 }
 
-/// Returns all notifications of a system.
 pub(crate) fn read_notes(
     alloc: Global,
     state: &CoreState,

@@ -182,7 +182,6 @@ pub(crate) fn push<T: Copy>(items: &mut Vec<T>, one: Option<T>) -> Result<(), No
     Ok(())
 }
 
-/// Appends the lines of deadline misses.
 fn push_misses(lines: &mut Vec<Line>, span: &Span<'_>) -> Result<(), NoMemory>
     ensures { OnOk result (lines.new.items ≡ lines.old.items ++ of_threads span.now.system.now
         (miss_line span.now.system.now span.now.own.now span.now.forever span.now.before.now span.now.after.now)) }
@@ -193,7 +192,6 @@ fn push_misses(lines: &mut Vec<Line>, span: &Span<'_>) -> Result<(), NoMemory>
     Ok(())
 }
 
-/// Appends the lines of lost signals.
 fn push_losses(lines: &mut Vec<Line>, span: &Span<'_>, allowed: &[bool]) -> Result<(), NoMemory>
     ensures { OnOk result (lines.new.items ≡ lines.old.items ++ of_notes span.now.system.now
         (lost_line span.now.system.now span.now.own.now span.now.forever span.now.before.now span.now.after.now allowed.now)) }
@@ -237,7 +235,6 @@ pub(crate) fn push_ends(
     Ok(())
 }
 
-/// Appends the threads' lines, for a set that recurs.
 pub(crate) fn push_threads(
     lines: &mut Vec<Line>,
     system: &System,

@@ -153,8 +153,8 @@ impl Outlook {
 /// Returns the result of each closed set of cores, in order of the first core of each.
 ///
 /// A closed set is the smallest set around a core that no core outside it signals. Its result says
-/// from when on it recurs, with which period, and its findings for ever. A set that was not found
-/// to recur by the horizon, which is at most 2^40, has its findings so far. Lost signals of the
+/// from when on it recurs, with which period, and its findings for ever. If it was not found to
+/// recur by the horizon, at most 2^40, the result has its findings so far. Lost signals of the
 /// notifications flagged in `allowed` are not reported. Fails only if memory runs out.
 pub fn tell_all(
     alloc: Global,

@@ -14,7 +14,6 @@ pub(crate) struct Group {
     pub(crate) own: CoreSet,
 }
 
-/// Whether the set of a core contains the other core.
 fn set_has(sets: &[CoreSet], core: CoreId, other: CoreId) -> bool
     ensures { result ≡ set_has sets.now core other }
 {
@@ -51,7 +50,6 @@ fn is_first(sets: &[CoreSet], core: CoreId) -> bool
     true
 }
 
-/// The set of a core.
 fn group_of(sets: &[CoreSet], core: CoreId) -> Group
     requires { core < length sets.now }
     ensures { result ≡ group_of sets.now core }

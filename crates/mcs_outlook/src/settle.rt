@@ -65,7 +65,6 @@ fn thread_is_settled(look: &Look<'_>, group: &Group, by: u64, thread: ThreadId) 
     is_never_found(look, group, by, thread)
 }
 
-/// Whether all threads are settled.
 fn threads_are_settled(look: &Look<'_>, group: &Group, by: u64) -> bool
     requires look { IsLook look.now.system.now look.now.search.now }
     ensures { IsTrue result → HasRecurred look.now.system.now look.now.search.now group.now.set by →
@@ -80,7 +79,6 @@ fn threads_are_settled(look: &Look<'_>, group: &Group, by: u64) -> bool
     true
 }
 
-/// Whether the notification may lose signals.
 fn may_lose(allowed: &[bool], note: NoteId) -> bool
     ensures { result ≡ has allowed.now note }
 {
@@ -119,7 +117,6 @@ fn note_is_settled(look: &Look<'_>, group: &Group, by: u64, note: NoteId) -> boo
     is_own(&group.set, home)
 }
 
-/// Whether all notifications are settled.
 fn notes_are_settled(look: &Look<'_>, group: &Group, by: u64) -> bool
     requires look { IsLook look.now.system.now look.now.search.now }
     ensures { IsTrue result → HasRecurred look.now.system.now look.now.search.now group.now.set by →

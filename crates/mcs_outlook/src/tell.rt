@@ -19,7 +19,6 @@ use mcs_ticks::NoMemory;
 use mcs_verdict_laws::schedules_are_in_order;
 use std::alloc::Global;
 
-/// Returns a list with the line of the set.
 fn first_line(alloc: Global, line: Line) -> Result<Vec<Line>, NoMemory>
     ensures { IfOk result (λ lines. lines.items ≡ line ∷ []) }
 {

@@ -8,14 +8,12 @@ use mcs_system::{System, ThreadPart};
 use mcs_ticks::{NoteId, ThreadId};
 use mcs_verdict::first_wait;
 
-/// Whether the item is a wait for the notification.
 fn is_wait(item: &Option<Item>, note: NoteId) -> bool
     ensures { IsTrue result ↔ (item.now ≡ Some (Wait note)) }
 {
     matches!(item, Some(Item::Wait(other)) if *other == note)
 }
 
-/// Whether the script has a wait for the notification.
 fn has_wait(part: &ThreadPart, note: NoteId) -> bool
     ensures { MatchBool result (HasWait part.now note) (¬ HasWait part.now note) }
 {

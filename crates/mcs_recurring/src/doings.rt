@@ -66,7 +66,6 @@ fn mark(flags: &mut [bool], number: Option<usize>)
     }
 }
 
-/// Clears all flags.
 fn unmark(flags: &mut [bool])
     ensures { flags.new ≡ unmarked flags.old }
 {

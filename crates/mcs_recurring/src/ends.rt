@@ -53,7 +53,6 @@ fn is_later(
     after.thread_is_later(before, thread, by) && first_recurs(by, before, after, doings, part)
 }
 
-/// Whether no round of the thread can begin.
 fn begins_none(before: &Watch, doings: &Doings, part: &ThreadPart, thread: ThreadId) -> bool
     ensures { IsTrue result ↔ (IsDoneThread before.now thread ⊎ FirstIsEmpty before.now doings.now part.now) }
 {

@@ -6,7 +6,7 @@ use Rattle.mcs_core.specs.Alarms.{is_at_home, alarms_at}
 use Rattle.mcs_forever.specs.Closed.{has}
 use Rattle.mcs_forever.specs.Later.{later_alarm}
 
--- dates without end, the first of which is at most `from`, and whose period divides `by`
+-- dates without end: the first is at most `from`, and their period divides `by`
 pub record AreEndless (from by : ℕ) (beat : Beat) : Type 0 where
   pub endless : beat.count ≡ 0
   pub begun : beat.first ≤ from

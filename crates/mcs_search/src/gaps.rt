@@ -43,7 +43,6 @@ impl Gaps {
         Ok(Gaps { of_cores })
     }
 
-    /// The number of a core.
     fn of(&self, core: usize) -> Option<u64> {
         if core < self.of_cores.len() {
             self.of_cores[core]

@@ -12,7 +12,6 @@ use mcs_ticks::{CoreId, NoMemory};
 use mcs_under_way::UnderWay;
 use std::alloc::Global;
 
-/// Returns the image of one core before the moment.
 fn image(
     alloc: Global,
     system: &System,
@@ -43,7 +42,6 @@ fn images(alloc: Global, system: &System, lockstep: &Lockstep) -> Result<Vec<Cor
     Ok(images)
 }
 
-/// Returns a copy of the signals.
 fn copied(alloc: Global, mails: &[Mail]) -> Result<Vec<Mail>, NoMemory>
     ensures { IfOk result (λ copy. copy.items ≡ mails.now) }
 {

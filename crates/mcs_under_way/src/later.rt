@@ -52,7 +52,6 @@ fn next_for(
     None
 }
 
-/// Whether a signal is for one of the group's cores.
 fn is_for(system: &System, group: &[bool; Limits::CORES], mail: &Mail) -> bool
     ensures { result ≡ is_for_group system.now group.now mail.now }
 {
@@ -70,7 +69,6 @@ fn is_later(before: &Mail, by: u64, after: &Mail) -> bool
         && before.badge == after.badge
 }
 
-/// Whether a time is the earlier one, `by` ticks later.
 fn is_tick_later(before: Tick, by: u64, after: Tick) -> bool
     ensures { IsTrue result ↔ after ≡ before + by }
 {

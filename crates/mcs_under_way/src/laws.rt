@@ -9,8 +9,8 @@ pub fn signals_are_told()
     ensures { (system : System) → IsWellFormed system → SignalsAreTold system }
 {}
 
-/// A law of the clock: the signals under way before a moment are those that the schedule's earlier
-/// rows make and that arrive at that moment or later, in the order in which they were made.
+/// A law of the clock: the signals under way before a moment are those of the schedule's earlier
+/// rows that arrive at that moment or later, in the order in which they were made.
 pub fn under_way_is_told()
     ensures { (system : System) → IsWellFormed system → UnderWayIsTold system }
 {}
