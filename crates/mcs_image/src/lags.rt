@@ -10,7 +10,7 @@ use mcs_ticks::{Sequence, ThreadId};
 #[derive(Debug, Drop)]
 pub struct Lags {
     /// The ticks by which the dates of each context are later. A context with no date, or of
-    /// another core, lags by as many ticks as the core.
+    /// another core, is as late as the core.
     pub contexts: Sequence<u64>,
     /// The ticks by which each thread's round began later.
     pub threads: Sequence<u64>,
@@ -19,7 +19,7 @@ pub struct Lags {
 }
 
 impl Lags {
-    /// Whether these lags are a shift of a core that is `by` ticks later: no context lags more than
+    /// Whether these lags are a shift of a core that is `by` ticks later: no context is later than
     /// the core, and only threads with no last round have ended more rounds.
     pub fn is_shift(&self, system: &System, by: u64) -> bool
         ensures { IsTrue result ↔ IsShift system.now (shift_by by self.now) }
@@ -29,7 +29,7 @@ impl Lags {
     }
 }
 
-/// Whether no context lags more than `by` ticks.
+/// Whether no context is later by more than `by` ticks.
 fn are_within(lags: &[u64], by: u64) -> bool
     ensures { IsTrue result ↔ ((context : ℕ) → get_or lags.now context by ≤ by) }
 {

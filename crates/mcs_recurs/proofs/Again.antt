@@ -22,7 +22,7 @@ lags-last lags x core many =
 pub length-more : (lags : List (Option Lags)) (x : Option Lags) (n : ℕ) → length lags ≡ n → length (lags ++ x ∷ []) ≡ n + 1
 length-more lags x n many = omega (arith, length-append lags (x ∷ []), many)
 
--- without lags nothing lags
+-- without lags all is as late as the core
 pub none-shift : (system : System) (by : ℕ) → IsShift system (shift_by by no_lags)
 none-shift system by = record { lags = λ context. at-most by; endless = λ thread. inl refl }
   where

@@ -9,7 +9,7 @@ use Rattle.mcs_image.specs.declared.lags.Lags.{Lags}
 use Rattle.mcs_image.specs.Lags.{shift_by}
 use Rattle.mcs_recurs.specs.Told.{no_lags, lags_or_none, shift_told, ThreadKeepsUp, OwnKeepsUp}
 
--- without lags nothing lags
+-- without lags all is as late as the core
 none-keeps : (system : System) (by : ℕ) (mark : Mark) (thread : ℕ) → ThreadKeepsUp system (shift_by by no_lags) mark thread
 none-keeps system by mark thread = record { context = λ _. refl; round = λ _. refl }
 

@@ -53,7 +53,7 @@ pub record GroupIsAgain (system : System) (by : ℕ) (group : List Bool) (before
   pub same : length after ≡ length before
   pub each : AreAgain system by group before after lags (length before)
 
--- nothing lags that is marked for the thread
+-- the marked dates of the thread are later by the whole period
 pub record ThreadKeepsUp (system : System) (shift : Shift) (mark : Mark) (thread : ℕ) : Type 0 where
   pub context : mark.context ≡ true → ContextKeepsUp system shift thread
   pub round : mark.round ≡ true → RoundKeepsUp system shift thread

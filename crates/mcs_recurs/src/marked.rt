@@ -24,7 +24,7 @@ fn is_level(marked: bool, lag: u64, by: u64) -> bool
     !marked || lag == by
 }
 
-/// Whether nothing lags that is marked for the thread, by the lags of its core.
+/// Whether the marked dates of the thread are later by the whole period, by the lags of its core.
 fn keeps_up(system: &System, by: u64, lags: &Lags, thread: ThreadId, mark: Mark) -> bool
     requires { thread < length system.now.threads }
     ensures { IsTrue result → ThreadKeepsUp system.now (shift_by by lags.now) mark thread }
@@ -35,8 +35,7 @@ fn keeps_up(system: &System, by: u64, lags: &Lags, thread: ThreadId, mark: Mark)
     is_level(mark.context, lag, by) && is_level(mark.round, began, by)
 }
 
-/// Whether nothing lags that is marked for the thread, if its core has lags; a core without lags
-/// keeps up.
+/// Whether the marked dates of the thread keep up, if its core has lags; without lags they do.
 fn keeps_up_if_told(
     system: &System,
     by: u64,
@@ -53,7 +52,7 @@ fn keeps_up_if_told(
     }
 }
 
-/// Whether nothing lags that is marked for a thread of this core.
+/// Whether the marked dates of a thread of this core keep up.
 fn keeps_up_on(
     system: &System,
     by: u64,
@@ -71,7 +70,7 @@ fn keeps_up_on(
     keeps_up_if_told(system, by, &lags[core.0], thread, mark)
 }
 
-/// Whether nothing lags that is marked for the thread, if its core is in the group.
+/// Whether the marked dates of the thread keep up, if its core is in the group.
 fn own_keeps_up(
     system: &System,
     group: &CoreSet,
@@ -91,7 +90,7 @@ fn own_keeps_up(
     keeps_up_on(system, by, lags, core, thread, mark)
 }
 
-/// Whether nothing lags that is marked for the threads of the group.
+/// Whether the marked dates of all threads of the group keep up.
 pub(crate) fn marked_keep_up(
     system: &System,
     group: &CoreSet,

@@ -28,7 +28,8 @@ impl Shifts {
     /// recurs if:
     /// - each of its cores and the signals under way to it are the same, but later;
     /// - so are the next dates of the sources that interrupt on its cores;
-    /// - nothing lags that is marked as compared with the current time in between.
+    /// - each date that is marked as compared with the current time in between is later by the
+    ///   whole period.
     ///
     /// All that it does then recurs for ever, and the time between is its period. This holds for
     /// states of the clock on three conditions:

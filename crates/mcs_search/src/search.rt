@@ -240,7 +240,7 @@ impl Search {
     /// - the kept moment is later than all orders;
     /// - the group's cores, the signals under way to them and their sources' next dates are those
     ///   before the kept moment, but later;
-    /// - no date lags that was compared with the current time meanwhile.
+    /// - each date that was compared with the current time meanwhile is later by the whole period.
     ///
     /// If no core outside the group signals one in it, it then recurs, for ever. `None` says
     /// nothing: the group may recur by other moments. Allocates no memory if another thread runs,
