@@ -73,6 +73,7 @@ CHECKS = (
     Check('pages', 'manual'),
     Check('pages', 'mended'),
     Check('pages', 'pages'),
+    Check('pages', 'prose', tries_program=False),
     Check('program', 'built'),
     Check('pages', 'pictures'),
 )
