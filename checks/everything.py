@@ -74,6 +74,7 @@ CHECKS = (
     Check('pages', 'mended'),
     Check('pages', 'pages'),
     Check('pages', 'prose', tries_program=False),
+    Check('pages', 'proved', tries_program=False),
     Check('program', 'built'),
     Check('pages', 'pictures'),
 )
