@@ -65,6 +65,10 @@ GUIDES = [TOP / 'docs' / name for name in GUIDE_NAMES]
 SHOW_OTHERS = tuple(pathlib.Path(name) for name in ('README.md', 'examples/README.md', 'docs/CHECK.md', 'docs/CI.md', 'docs/FORMAT.md', 'docs/WAYS_IN.md'))
 
 
+# a line that names a file of a system, and the block of TOML below it
+FILE_SHOWN = re.compile(r'\]\(([^)\s]+\.toml)\)[^\n]*:\n\n```toml\n(.*?)^```', re.M | re.S)
+
+
 def are_in(lines: Iterable[str], others: Iterable[str]) -> bool:
     """Whether these lines stand among the others, in order."""
     rest = iter(others)
@@ -209,6 +213,18 @@ def try_page(program: pathlib.Path, page: pathlib.Path, count: Count) -> None:
             written = None
 
 
+def settings_in(text: str) -> list[str]:
+    """The lines of a file that say something."""
+    return [line for line in text.splitlines() if line.strip() and not line.startswith('#')]
+
+
+def try_files(page: pathlib.Path, count: Count) -> None:
+    """Compares each file that a page names and shows with what it shows."""
+    for target, block in FILE_SHOWN.findall(page.read_text()):
+        is_same = settings_in((page.parent / target).read_text()) == settings_in(block)
+        count.expect(f'{page.relative_to(TOP)}: {target} has other lines than the page shows', is_same)
+
+
 # ---- jobs of pipelines
 
 
@@ -263,6 +279,7 @@ def main() -> None:
     program = common.built_program(common.asking_program(__doc__).parse_args().program)
     count = Count()
     for page in (*sorted((TOP / 'examples').glob('*.md')), TOP / 'README.md', *GUIDES):
+        try_files(page, count)
         try_questions(program, page, count)
         try_page(program, page, count)
     try_jobs(program, count)
