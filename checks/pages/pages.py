@@ -1,7 +1,8 @@
 #!/usr/bin/env python3
-"""Tells whether the pages show what the built programs write: those of examples/, README.md and the guides of docs/. Each of their commands that runs
-a system is run, at the top of the repository. mcscheck is that beside the program that is tried, or the repository's; where there is none, its commands
-are skipped, and so are those of scripts over pandas where Debian's Python has none.
+"""Checks that pages show what the programs write: runs each of their commands that runs a system, and the jobs of docs/CI.md.
+
+mcscheck is the one beside the program that is tried, or else the repository's. If there is none, its commands are skipped; so are those over pandas if
+Debian's Python has none. A file that a page names and then shows as TOML has the lines that are shown.
 
 The lines of a block that follows a command are lines of its output, in order; a page may leave lines out, and marks that by a line of two dots.
 Each command says nothing on standard error, and ends with status 0, or with 5 where its verdict is that something was found. So does that of each row
