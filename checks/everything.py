@@ -81,6 +81,7 @@ CHECKS = (
     Check('pages', 'pages', 10, needs='`yaml`, `pandas`'),
     Check('pages', 'prose', 5, tries_program=False),
     Check('pages', 'proved', tries_program=False),
+    Check('pages', 'links', tries_program=False),
     Check('program', 'built'),
     Check('pages', 'pictures', 6),
 )
