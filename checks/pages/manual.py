@@ -173,7 +173,7 @@ def main() -> None:
     simulator = common.built_program(common.asking_program(__doc__).parse_args().program)
     trial = Trial({name: simulator if name == 'mcsim' else common.beside(simulator, name) for name in common.PROGRAMS})
     every = (
-        Pages(Page('mcsim'), (0, 1), 'reports', ('--show', 'reports'), b''),
+        Pages(Page('mcsim'), (0, 1), 'rows', (), b''),
         # the second and the fourth command end with tail, and the third with grep
         Pages(Page('mcscheck'), (5, 0, 0, 0, 2), 'found', (), b'system.toml\n'),
     )

@@ -97,7 +97,7 @@ def parts_of(text: str, base: str) -> list[Part]:
 def fault_of(line: str) -> str | None:
     """The fault that a line tells: the longest text with which it begins."""
     told = [text for text, begins in faults().items() if line.startswith(begins)]
-    return max(told, key=len, default=None)
+    return max(told, key=len) if told else None
 
 
 def ran(program: pathlib.Path, text: str, is_file: bool) -> Ran:

@@ -77,10 +77,12 @@ class Example(NamedTuple):
 
 def example() -> Example:
     blocks = blocks_in(PAGE.read_text())
-    system = next(text for kind, text in blocks if kind == 'toml')
+    system = next(text for kind, text in blocks if kind == 'toml').encode()
+    if system != SYSTEM.read_bytes():
+        common.stop(f'{PAGE.name} shows another system than {SYSTEM.name}')
     runs = [Shown(text.split()[2:], written.encode()) for (kind, text), (_, written) in zip(blocks, blocks[1:]) if kind == 'sh']
     asking = [run for run in runs if '--why' in run.words]
-    return Example(system.encode(), [run for run in runs if run not in asking], asking[0])
+    return Example(system, [run for run in runs if run not in asking], asking[0])
 
 
 def unknown(name: str, said: str) -> bytes:
@@ -271,7 +273,6 @@ def try_progress(program: pathlib.Path, folder: pathlib.Path, count: Count) -> N
 def main() -> None:
     simulator = common.built_program(common.asking_program(__doc__).parse_args().program)
     program, count = common.beside(simulator, NAME), Count()
-    count.expect('docs/CHECK.md shows another system than docs/late.toml', example().system == SYSTEM.read_bytes())
     with tempfile.TemporaryDirectory() as name:
         folder = pathlib.Path(name)
         for case in (*cases_of_findings(), *cases_of_files(folder), *cases_of_words(folder), *cases_of_rounds(folder), *cases_of_targets()):

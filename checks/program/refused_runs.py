@@ -75,12 +75,12 @@ def kinds_of_events(program: pathlib.Path) -> Iterator[Kind]:
 
 
 def kinds_of_checker() -> Iterator[Kind]:
-    system, runs = checker.example()
+    system, runs, answered = checker.example()
     for words, written in runs:
         for workers in ('1', '2'):
             asked = [*words, '--workers', workers, '--allow-lost', 'fire']
-            yield Kind('mcscheck', f'the example of FORMAT with {" ".join(words)}, {workers} workers', asked, system, 5, written, b'')
-    asked, written = checker.answered()
+            yield Kind('mcscheck', f'the example of CHECK with {" ".join(words)}, {workers} workers', asked, system, 5, written, b'')
+    asked, written = answered
     for workers in ('1', '2'):
         yield Kind('mcscheck', f'a round of that example, {workers} workers', [*asked, '--workers', workers], system, 0, written, b'')
     near = checker.unknown('tik', 'the nearest is tick')

@@ -99,8 +99,8 @@ class WrongPrograms(unittest.TestCase):
 
     def test_a_program_that_takes_every_file_has_no_fault_of_the_page(self) -> None:
         # of each wrong file, and what tools/explain says of it, and of each wrong command
-        wrong = [part.wrong[0] for parts in mended.headings().values() for part in parts]
-        self.assertEqual(self.tally('mended', 'exit 0').failed, 2 * wrong.count('toml') + wrong.count('sh') + 1)
+        parts = mended.parts_of(mended.PAGE.read_text(), mended.BASE.read_text())
+        self.assertEqual(self.tally('mended', 'exit 0').failed, len(parts) + sum(part.is_file for part in parts) + 1)
 
     def test_a_program_without_help_is_not_run_with_refused_memory(self) -> None:
         self.assertEqual(self.tally('refused_runs', 'exit 0').failed, 1)
