@@ -3,7 +3,7 @@
 
 STYLE.md has the rules. Each page is held by itself, and so are the comments of each crate's sources and its page. A sentence breaks a rule if it has the
 word `where`, which is for places; if it has a phrase of STILTED; if it begins with a word of OPENINGS; or if it has more than 30 words. A page may have
-two of each kind in 1,000 words, and 2 % of long sentences; one of each is always allowed. Long sentences of sources are not counted.
+two of each kind in 1,000 words, and 2 % of long sentences; one of each is always allowed. Long sentences of crates are not counted.
 
 A line has at most 100 columns. Tables, blocks of code, headings, pictures and HTML comments are left out, and so are the targets of links and a line
 that is one piece of code. Of CHANGELOG.md the newest entry alone is held. What is not rewritten yet stands in EXEMPT.
@@ -26,9 +26,9 @@ from checks.common import TOP, Count
 
 # pages and crates that are not rewritten yet
 EXEMPT = frozenset('''
-    docs/CI.md docs/DECISIONS.md docs/FAULTS.md docs/FOREVER.md docs/FORMAT.md docs/KERNEL.md
-    docs/LEFT_OUT.md docs/LIBRARY.md docs/MODEL.md docs/MODELLING.md docs/PERFORMANCE.md
-    docs/SWEEPS.md docs/VIEWER.md docs/WAYS_IN.md examples/README.md examples/car_gateway.md
+    docs/DECISIONS.md docs/KERNEL.md
+    docs/LEFT_OUT.md docs/MODEL.md docs/MODELLING.md docs/PERFORMANCE.md
+    docs/VIEWER.md docs/WAYS_IN.md examples/README.md examples/car_gateway.md
     examples/driver_beside_a_loop.md examples/lock_and_inversion.md
     examples/mode_change_by_orders.md examples/motor_controller.md
     examples/overload_is_counted.md examples/overrun_is_isolated.md
