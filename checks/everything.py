@@ -77,6 +77,7 @@ CHECKS = (
     Check('program', 'checker', 5),
     Check('program', 'progress', 15),
     Check('pages', 'manual', needs='`mandoc`'),
+    Check('pages', 'tool_pages', tries_program=False, needs='`mandoc`'),
     Check('pages', 'mended', 6),
     Check('pages', 'pages', 10, needs='`yaml`, `pandas`'),
     Check('pages', 'prose', 5, tries_program=False),
@@ -87,7 +88,7 @@ CHECKS = (
 )
 # what no gate runs
 BY_HAND = (
-    ('proofs', 'edits'), ('proofs', 'take'), ('proofs', 'gate'), ('proofs', 'archive'), ('program', 'refused_tests'), ('program', 'same'), ('program', 'widths'),
+    ('proofs', 'edits'), ('proofs', 'edits_table'), ('proofs', 'take'), ('proofs', 'gate'), ('proofs', 'archive'), ('program', 'refused_tests'), ('program', 'same'), ('program', 'widths'),
     ('program', 'forever_model'), ('measure', 'performance'), ('measure', 'costs'), ('measure', 'checker_costs'), ('measure', 'forever_table'),
     ('measure', 'beside'), ('measure', 'gains'),
 )

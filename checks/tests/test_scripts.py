@@ -75,14 +75,13 @@ class WrongPrograms(unittest.TestCase):
         self.assertEqual(self.tally('progress', 'exit 0'), (6, 6, 0))
 
     def test_a_checker_that_says_nothing_has_nothing_of_its_page(self) -> None:
-        # the file that docs/CHECK.md shows, and a terminal that shows nothing, need no program
+        # all but a system, and a terminal, of which nothing is to be said
         found = self.tally('checker', 'exit 0')
-        self.assertLessEqual(found.passed, 2)
+        self.assertLessEqual(found.passed, 1)
         self.assertGreater(found.failed, 30)
 
     def test_a_checker_that_complains_on_a_short_run_fails(self) -> None:
-        # the file that docs/CHECK.md shows needs no program
-        self.assertEqual(self.tally('checker', 'echo "mcscheck: 1 of 2" >&2').passed, 1)
+        self.assertEqual(self.tally('checker', 'echo "mcscheck: 1 of 2" >&2').passed, 0)
 
     def test_a_program_that_says_nothing_has_no_manual(self) -> None:
         self.assertGreater(self.tally('manual', 'exit 0').failed, 4)
