@@ -1,5 +1,5 @@
 #!/usr/bin/env python3
-"""Tells whether the manual pages docs/mcsim.1 and docs/mcscheck.1 say what the built programs say and do.
+"""Checks the manual pages and the completions against the programs: options, ranges, defaults, exit codes, keys, examples.
 
 Each option, with its value, default and range, each status and each word of `--show` stands both in the page and in the program's `--help`; the
 keys of mcsim.1 are those of docs/mcsim.schema.json; the programs give what the pages' examples say; the completions of each shell have the page's

@@ -1,5 +1,5 @@
 #!/usr/bin/env python3
-"""Tells whether mcscheck answers well: each of its statuses with its one line on standard error, and how far it is, on a terminal alone.
+"""Checks the exit codes and error lines of mcscheck, the examples of its page, and that progress is shown on a terminal alone.
 
 The cases are those of docs/CHECK.md, whose examples are run as they stand there. What is refused leaves nothing on standard output. A run of more than
 a second whose standard error is a terminal shows a line of how far it is, and wipes it before findings are written, and before it ends, well or
