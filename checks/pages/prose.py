@@ -26,19 +26,27 @@ from checks.common import TOP, Count
 
 # pages and crates that are not rewritten yet
 EXEMPT = frozenset('''
-    docs/DECISIONS.md docs/KERNEL.md docs/LEFT_OUT.md docs/MODEL.md docs/MODELLING.md
-    docs/PERFORMANCE.md docs/VIEWER.md docs/WAYS_IN.md examples/README.md
-    examples/car_gateway.md examples/driver_beside_a_loop.md examples/lock_and_inversion.md
-    examples/mode_change_by_orders.md examples/motor_controller.md
-    examples/overload_is_counted.md examples/overrun_is_isolated.md
-    examples/pipeline_over_four_cores.md examples/refills_too_few.md
-    examples/responses_in_pandas.md examples/server_core_of_three_clients.md
-    examples/sizing_a_budget.md examples/storm_of_interrupts.md
-    examples/three_rate_monotonic_tasks.md examples/two_budgets_back_to_back.md
+    docs/KERNEL.md
+    docs/LEFT_OUT.md
+    docs/MODELLING.md
+    docs/WAYS_IN.md
+    examples/README.md
+    examples/car_gateway.md
+    examples/driver_beside_a_loop.md
+    examples/lock_and_inversion.md
+    examples/mode_change_by_orders.md
+    examples/motor_controller.md
+    examples/overload_is_counted.md
+    examples/overrun_is_isolated.md
+    examples/pipeline_over_four_cores.md
+    examples/refills_too_few.md
+    examples/responses_in_pandas.md
+    examples/server_core_of_three_clients.md
+    examples/sizing_a_budget.md
+    examples/storm_of_interrupts.md
+    examples/three_rate_monotonic_tasks.md
+    examples/two_budgets_back_to_back.md
     examples/yield_ends_a_round.md
-    mcs_check mcs_course mcs_course_forever mcs_forever_text mcs_image mcs_outlook mcs_recurring
-    mcs_recurs mcs_search mcs_tests_check mcs_tests_outlook mcs_tests_search mcs_under_way
-    mcs_verdict_forever
 '''.split())
 # written by a script, of comments that are held where they stand
 GENERATED = ('docs/BELIEVE.md',)
