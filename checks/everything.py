@@ -80,7 +80,7 @@ CHECKS = (
     Check('pages', 'tool_pages', tries_program=False, needs='`mandoc`'),
     Check('pages', 'mended', 6),
     Check('pages', 'pages', 10, needs='`yaml`, `pandas`'),
-    Check('pages', 'prose', 5, tries_program=False),
+    Check('pages', 'prose', 2, tries_program=False),
     Check('pages', 'proved', tries_program=False),
     Check('pages', 'links', tries_program=False),
     Check('program', 'built'),
