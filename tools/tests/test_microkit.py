@@ -138,6 +138,11 @@ class Boards(Case):
         self.assertEqual(tables['chain'], [{'name': 'answer', 'source': 'irq152', 'thread': 'eth_driver', 'badges': 2, 'deadline': 150}])
         self.assert_rows(told.stdout, 500, 999, NET_ROWS)
 
+    def test_the_systems_of_the_examples(self) -> None:
+        for board in sorted(EXAMPLES.glob('*.system')):
+            told = ran(board, '--work', board.with_suffix('.work.toml'))
+            self.assertEqual((told.status, told.stdout), (0, board.with_suffix('.toml').read_text()), board.name)
+
     def test_passive_domains_and_calls(self) -> None:
         board = BOARDS / 'calls.system'
         told = ran(board, '--work', board.with_suffix('.work.toml'))
