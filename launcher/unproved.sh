@@ -19,8 +19,7 @@ run_unproved() {
     trap 'rm -rf "$room"' EXIT
     trap 'exit 130' INT TERM HUP
     file=
-    left=0
-    rest=
+    begin_words
     for word; do
         shift
         if is_file "$word"; then
@@ -30,12 +29,7 @@ run_unproved() {
         else
             set -- "$@" "$word"
         fi
-        if [ "$left" -gt 0 ]; then
-            left=$((left - 1))
-        elif [ -z "$rest" ]; then
-            left=$(values_of "$word")
-            [ "$word" != -- ] || rest=yes
-        fi
+        pass_word "$word"
     done
     [ -n "$file" ] || cat >"$room/input"
     attempt "$@"
@@ -48,22 +42,9 @@ run_unproved() {
     exit 70
 }
 
-# how many values follow an option, in the words of either program
-values_of() {
-    case $1 in
-        --horizon | --workers | --show | --format | --allow-lost) echo 1 ;;
-        --why) echo 2 ;;
-        *) echo 0 ;;
-    esac
-}
-
 # whether an argument is FILE: the first that is no option and no value of one, and that can be read
 is_file() {
-    [ -z "$file" ] && [ "$left" -eq 0 ] || return 1
-    case $rest$1 in
-        -*) return 1 ;;
-    esac
-    [ -r "$1" ] && [ ! -d "$1" ]
+    [ -z "$file" ] && may_be_file "$1" && [ -r "$1" ] && [ ! -d "$1" ]
 }
 
 # Runs the sources once. Where the program ended this does not return: what it wrote was written, and its status is the exit status. The time has no

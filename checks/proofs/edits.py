@@ -1,8 +1,11 @@
 #!/usr/bin/env python3
-"""edits.py [CRATE ..] [--edit NAME]   tries edits that the prover must refuse, and that the gate does not try: those of crates/CRATE/edits.
+"""Tries the edits that the prover must refuse and that the gate leaves out: those of crates/CRATE/edits.
 
-They turn functions whose contracts pin the result, so that any wrong body is refused; whoever changes a crate tries them. With --all those of
+They turn functions whose contracts pin the result, so that any wrong body is refused; who changes a crate tries them. With --all those of
 crates/CRATE/must-fail are tried too, which the gate tries. With --look each is only read: whether it can be applied is told at once.
+
+With --table what came of each is kept in checks/proofs/edits.csv (edits_table.py), crate by crate, and edits whose row is of these sources are passed
+over. --shard K/N takes the K-th of N parts of the crates, of about the same cost, so that N machines or runs can share the work.
 
 Each edit is tried by the kit's own means, on a copy of the crate, over what a check of the crate as it stands proved. A line for each says
 what came of it, in how many CPU seconds, and the first words of the refusal. It passes where the prover refuses it for a goal; not
@@ -29,7 +32,11 @@ from collections.abc import Iterator, Sequence
 from concurrent.futures import ProcessPoolExecutor
 from typing import Any, NamedTuple
 
+sys.dont_write_bytecode = True
 TOP = pathlib.Path(__file__).resolve().parents[2]
+sys.path[0] = str(TOP)
+from checks.proofs import edits_table
+
 REFUSED, GAVE_UP, WEAK, LIMIT, STANDS, BAD, UNKNOWN = 'refused', 'gave up', 'names gone', 'limit', 'NOT REFUSED', 'bad', 'not tried'
 # how many characters of a refusal are shown
 SHOWN = 160
@@ -182,6 +189,15 @@ def look(rt: Any, crate: Any, edits: Sequence[pathlib.Path]) -> Iterator[Tried]:
         yield Tried(f'{crate.name}/{edit.stem}', BAD if why else REFUSED, 0.0, why or '')
 
 
+def shard_of(text: str) -> tuple[int, int]:
+    """The numbers of K/N."""
+    found = re.fullmatch(r'(\d+)/(\d+)', text)
+    part, parts = (int(number) for number in found.groups()) if found else (0, 0)
+    if not 1 <= part <= parts:
+        raise argparse.ArgumentTypeError(f'{text} is no K/N with K from 1 to N')
+    return part, parts
+
+
 def parsed(words: Sequence[str]) -> argparse.Namespace:
     parser = argparse.ArgumentParser(prog='edits.py', description=__doc__, formatter_class=argparse.RawDescriptionHelpFormatter)
     parser.add_argument('crates', nargs='*', metavar='CRATE', help='a crate; without one, each that has edits')
@@ -189,6 +205,8 @@ def parsed(words: Sequence[str]) -> argparse.Namespace:
     parser.add_argument('--all', action='store_true', dest='has_all', help='those of must-fail too')
     parser.add_argument('--look', action='store_true', help='tell only whether each can be applied')
     parser.add_argument('--jobs', type=int, default=1, metavar='N', help='how many are tried side by side (1)')
+    parser.add_argument('--table', action='store_true', help='keep what came of each in checks/proofs/edits.csv, and pass over those whose row is of these sources')
+    parser.add_argument('--shard', type=shard_of, default=(1, 1), metavar='K/N', help='only the K-th of N parts of the crates')
     return parser.parse_args(words)
 
 
@@ -206,6 +224,46 @@ def chosen(crates: Sequence[Any], asked: argparse.Namespace) -> list[tuple[Any, 
     return [(crate, edits) for crate, edits in found if edits]
 
 
+def cost(crate: Any, edits: Sequence[pathlib.Path]) -> int:
+    """About what a crate's edits take, in lines that are read: each loads the crate anew."""
+    lines = sum(path.read_bytes().count(b'\n') for path in edits_table.files_of(pathlib.Path(crate.folder)))
+    return (len(edits) + 1) * (2000 + lines)
+
+
+def sharded(work: Sequence[tuple[Any, list[pathlib.Path]]], part: int, parts: int) -> list[tuple[Any, list[pathlib.Path]]]:
+    """The crates of one of the parts: the dearest first, each goes to the part that has least so far."""
+    sums, shares = [0] * parts, [0] * len(work)
+    for at in sorted(range(len(work)), key=lambda at: -cost(*work[at])):
+        shares[at] = sums.index(min(sums))
+        sums[shares[at]] += cost(*work[at])
+    return [each for each, share in zip(work, shares) if share == part - 1]
+
+
+class Book:
+    """The table of what came of edits, if it is asked for."""
+
+    def __init__(self, is_kept: bool) -> None:
+        self.is_kept = is_kept
+        self.sources = edits_table.Sources(TOP)
+        self.digests = {name: self.sources.digest(name.split('/')[0], edit) for name, edit in self.sources.edits().items()} if is_kept else {}
+
+    def left(self, crate: Any, edits: Sequence[pathlib.Path]) -> list[pathlib.Path]:
+        """The edits of a crate that have no row of these sources."""
+        rows = edits_table.read(edits_table.TABLE) if self.is_kept else {}
+        fresh = {name for name, row in rows.items() if row.digest == self.digests.get(name) and row.verdict in (REFUSED, GAVE_UP)}
+        return [edit for edit in edits if f'{crate.name}/{edit.stem}' not in fresh]
+
+    def keep(self, tries: Sequence[Tried]) -> None:
+        """Puts rows into the table, and drops those whose edit is gone."""
+        if not self.is_kept:
+            return
+        rows = {name: row for name, row in edits_table.read(edits_table.TABLE).items() if name in self.digests}
+        for each in tries:
+            crate, edit = each.name.split('/')
+            rows[each.name] = edits_table.Row(crate, edit, each.verdict, f'{each.seconds:.0f}', edits_table.goal_of(each.why)[:SHOWN], self.digests[each.name])
+        edits_table.write(edits_table.TABLE, rows.values())
+
+
 def main(words: Sequence[str]) -> int:
     asked = parsed(words)
     if asked.jobs < 1:
@@ -215,12 +273,16 @@ def main(words: Sequence[str]) -> int:
     if keeps(rt):
         rt.share_work(False)
     SHARED.update({'rt': rt, 'checked': rt.checked, **{crate.name: crate for crate in crates}})
-    counts = {True: 0, False: 0}
-    for crate, edits in chosen(crates, asked):
+    counts, book = {True: 0, False: 0}, Book(asked.table and not asked.look)
+    work = [(crate, left) for crate, edits in chosen(crates, asked) if (left := book.left(crate, edits))]
+    for crate, edits in sharded(work, *asked.shard):
+        tries = []
         for a_try in look(rt, crate, edits) if asked.look else try_crate(rt, crate, edits, asked.jobs):
+            tries.append(a_try)
             counts[a_try.passed] += 1
             if not (asked.look and a_try.passed):
                 print(a_try, flush=True)
+        book.keep(tries)
     print(f'{counts[True]} passed, {counts[False]} failed')
     return 1 if counts[False] else 0
 

@@ -107,9 +107,10 @@ class Places(unittest.TestCase):
 
     def test_pages_say_how_many_the_gate_tries(self) -> None:
         tried, left_out = (len(list(edits.TOP.glob(f'crates/*/{place}/*.edit'))) for place in ('must-fail', 'edits'))
-        page, other = ((edits.TOP / name).read_text() for name in ('README.md', 'CONTRIBUTING.md'))
-        for text, said in ((page, f'tries {tried} edits'), (page, f'has {tried + left_out} such edits'), (page, f'the other {left_out},'), (other, f'the {tried} edits')):
-            self.assertIn(said, ' '.join(text.split()))
+        readme, other = (' '.join((edits.TOP / name).read_text().split()) for name in ('README.md', 'CONTRIBUTING.md'))
+        self.assertIn(f'tries {tried} of {tried + left_out} wrong bodies', readme)
+        self.assertIn(f'the {tried} edits of `must-fail`', other)
+        self.assertIn(f'the other {left_out}', other)
 
     def test_no_edit_stands_in_both_folders(self) -> None:
         places = [f'{edit.parent.parent.name}/{edit.stem}' for place in ('edits', 'must-fail') for edit in edits.TOP.glob(f'crates/*/{place}/*.edit')]

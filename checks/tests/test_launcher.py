@@ -276,10 +276,10 @@ class Unproved(InFolder):
             self.assertEqual({option: found[option] for option in shared}, {option: options[option] for option in shared})
             options |= found
         self.assertGreater(sum(map(bool, options.values())), 3)
-        script = f'. {TOP}/launcher/unproved.sh; for option; do values_of "--$option"; done'
+        script = f'. {TOP}/launcher/words.sh; for option; do values_of "--$option"; done'
         ran = subprocess.run(['sh', '-c', script, 'sh', *options], capture_output=True, text=True)
         self.assertEqual(dict(zip(options, map(int, ran.stdout.split()))), options)
-        listed = {word for word in TOP.joinpath('launcher', 'unproved.sh').read_text().partition('values_of() {')[2].partition('esac')[0].split() if word[:2] == '--'}
+        listed = {word for word in TOP.joinpath('launcher', 'words.sh').read_text().partition('values_of() {')[2].partition('esac')[0].split() if word[:2] == '--'}
         self.assertLessEqual({word.removeprefix('--').rstrip(')') for word in listed}, options.keys())
 
 

@@ -1,16 +1,16 @@
--- What a sink that was given rows in order has found.
+-- The longest wait found by a sink that was given rows in order.
 use Rattle.std.proofs.Common.{◌≡◌, max, Bool, true, List, [], ◌∷◌, map, fold, refl, subst}
 use Rattle.mcs_ticks.specs.declared.row.Row.{Row}
 use Rattle.mcs_ticks.specs.Given.{Given}
 use Rattle.example_longest_wait.specs.Waits.{wait_after}
 use Rattle.example_longest_wait.specs.declared.sink.LongestWait.{LongestWait}
 
--- how a sink stands after a row, as it says
+-- how a row changes the sink
 abbrev pub Counts : LongestWait → Row → Bool → LongestWait → Type 0
 Counts before row taken after =
     (taken ≡ true) × (after.thread ≡ before.thread) × (after.longest ≡ max before.longest (wait_after before.thread row))
 
--- the greatest wait of the rows and of those before them
+-- the maximum wait of the rows and of those before them
 pub counted : (s t : LongestWait) (rows : List Row) → Given Counts s rows t →
     t.longest ≡ fold max s.longest (map (wait_after s.thread) rows)
 counted s t [] given = subst (λ a. a.longest ≡ s.longest) given refl

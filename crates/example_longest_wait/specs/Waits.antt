@@ -4,7 +4,8 @@ use Rattle.mcs_ticks.specs.declared.row.Row.{Row}
 use Rattle.mcs_ticks.specs.declared.row.What.{What}
 use Rattle.mcs_ticks.specs.declared.row.What.TheVariants as row
 
--- how long the thread waits for its budget from this moment on, if this says that it stops until a date; else 0
+-- the ticks that the thread waits for its budget from this time, if the row stops it until a date;
+-- else 0
 abbrev pub wait_in : ℕ → ℕ → What → ℕ
 wait_in thread moment (row.Stop x cause charged (Some until)) = if x == thread then until - moment else 0
 wait_in thread moment _ = 0
@@ -12,6 +13,6 @@ wait_in thread moment _ = 0
 abbrev pub wait_after : ℕ → Row → ℕ
 wait_after thread r = wait_in thread r.moment r.what
 
--- the longest wait that these rows tell of the thread; 0 where there is none
+-- the longest wait of the thread in these rows; 0 if it never waits
 abbrev pub longest_of : ℕ → List Row → ℕ
 longest_of thread rows = fold max 0 (map (wait_after thread) rows)

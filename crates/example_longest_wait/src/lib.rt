@@ -1,5 +1,5 @@
-//! The longest time that one thread waits for its budget, found while the rows of a schedule go by, none of which is kept. It shows how
-//! `mcs_team` is used with a sink of one's own.
+//! Finds the longest time that a thread waits for its budget, while the rows of a schedule pass by.
+//! It shows how to use `mcs_team` with your own sink.
 #![tactic(auto)]
 
 mod sink;

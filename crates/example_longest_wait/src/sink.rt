@@ -1,3 +1,4 @@
+//! The sink, and the call that uses it.
 ghost use Rattle.std.specs.Prelude.{◌≡◌, ◌≤◌, ◌^◌, IfOk};
 ghost use Rattle.std.specs.Arc.{arc_value};
 ghost use Rattle.mcs_core.specs.Clock.{schedule};
@@ -10,12 +11,12 @@ use std::alloc::Global;
 use std::sync::{Arc, Wait};
 use std::thread::Threads;
 
-/// A sink that keeps the longest time for which a thread waited for its budget, in ticks, and no row.
+/// A sink that keeps the longest wait of one thread for its budget, in ticks. It keeps no rows.
 #[derive(Debug, Drop)]
 pub struct LongestWait {
-    /// The thread.
+    /// The thread whose waits are counted.
     pub thread: ThreadId,
-    /// The longest wait so far; 0 where there was none.
+    /// The longest wait so far, in ticks. 0 if it never waited.
     pub longest: u64,
 }
 
@@ -31,7 +32,7 @@ impl Sink for LongestWait {
     }
 }
 
-/// How long the thread waits for its budget after this row, in ticks.
+/// Ticks that the thread waits for its budget after this row.
 fn wait(row: &Row, thread: ThreadId) -> u64
     ensures { result ≡ wait_after thread row.now }
 {
@@ -45,9 +46,13 @@ fn wait(row: &Row, thread: ThreadId) -> u64
     }
 }
 
-/// The longest time, in ticks, for which a thread waits for its budget after a stop, whatever the cause, in the schedule of a system
-/// up to the horizon, at most 2^40; 0 where it never waits. The whole wait counts, also where it ends after the horizon. The rows
-/// go by, by so many workers, and none is kept. `NoMemory` is answered where a growth was refused.
+/// Returns the longest time, in ticks, for which a thread waits for its budget after a stop, in the
+/// schedule of a system up to the horizon, at most 2^40.
+///
+/// The cause of the stop doesn't matter. The whole wait counts, even if it ends after the horizon.
+/// The result is 0 if the thread never waits. `workers` workers make the rows, and no row is kept.
+///
+/// Errors: `NoMemory` if an allocation failed.
 pub fn longest_wait<R: Threads + Wait + Sync>(
     rt: &R,
     alloc: Global,

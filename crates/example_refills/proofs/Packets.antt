@@ -22,7 +22,7 @@ takes-moment : (t : ℕ) (dates : List ℕ) → 1 ≤ length dates → is_ready 
 takes-moment t [] some ready = absurd (omega (arith, some))
 takes-moment t (date ∷ dates) some ready = ap (λ first. first ∷ []) (latest date t ready)
 
--- one offer, where the others take their moments
+-- one offer, if the others take their moments
 offer-takes : (t : ℕ) (offers : List ℕ) (limiter : Server) (ready : Bool) → 1 ≤ length limiter.dates → is_ready t limiter.dates ≡ ready →
     consumed limiter.period limiter.max_refills (steps_of offers (after_packet t limiter)) (after_packet t limiter).dates ≡ passed offers (after_packet t limiter) →
     consumed limiter.period limiter.max_refills (steps_of offers limiter) limiter.dates ≡ passed offers limiter →

@@ -1,7 +1,7 @@
 ghost use Rattle.example_refills.specs.Passing.{PacketsAreSpaced};
 
-/// A law of limiters: of the packets that pass, the one a whole budget later passes at least a period later. So at most a budget of
-/// them pass in a period, wherever it begins.
+/// Law of limiters: a packet that passes and the one that passes a whole budget later are at least
+/// a period apart. In any period, at most a budget of packets pass.
 pub fn packets_are_spaced()
     ensures { PacketsAreSpaced }
 {}

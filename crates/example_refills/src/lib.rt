@@ -1,5 +1,5 @@
-//! A limiter of packets over one list of refills: at most a budget of packets in each period. It shows how `mcs_refills` is used alone,
-//! without threads, cores or schedules.
+//! A limiter of packets over one list of refills: at most a budget of packets in each period. It
+//! shows how to use `mcs_refills` alone, without threads, cores or schedules.
 #![tactic(auto)]
 
 mod laws;

@@ -8,18 +8,19 @@ use mcs_ticks::{NoMemory, Tick};
 use std::alloc::Global;
 use std::marker::Model;
 
-/// What is answered to a packet.
+/// The answer to a packet.
 #[derive(Clone, Copy, Debug, Drop, Eq, PartialEq)]
 pub enum Answer {
     /// It passes, and one tick of the budget is charged.
     Passes,
-    /// It does not, and nothing changes. This is the moment from which the next one passes.
+    /// It does not pass, and nothing changes. The value is the moment from which the next one
+    /// passes.
     Waits(u64),
 }
 
-/// Lets packets pass at most one in a tick, and at most a budget of them in each period, however the period lies. Contracts see the server
-/// whose dates its refills are: one for each packet that may pass, the moment from which it may (the sporadic server of Sprunt,
-/// Sha and Lehoczky, 1989).
+/// Lets at most one packet pass in a tick, and at most a budget of them in any period. Contracts
+/// see a server (the sporadic server of Sprunt, Sha and Lehoczky, 1989). Its dates are the moments
+/// from which packets may pass, one for each packet.
 #[derive(Debug, Drop)]
 pub struct Limiter {
     refills: Refills,
@@ -34,8 +35,8 @@ impl Model for Limiter {
 }
 
 impl Limiter {
-    /// A limiter of `budget` packets in `period` ticks, at most 2^40, from moment 0 on. `NoMemory` is answered where the room for
-    /// the refills is refused.
+    /// Returns a limiter of `budget` packets in `period` ticks, at most 2^40, from time 0 on. Fails
+    /// with `NoMemory` if the refills cannot be allocated.
     pub fn new(alloc: Global, budget: u64, period: u64) -> Result<Self, NoMemory>
         requires some { 1 ≤ budget }
         requires within { budget < period }
@@ -46,8 +47,9 @@ impl Limiter {
         Ok(Limiter { refills })
     }
 
-    /// Whether a packet passes at `now`, at most 2^40. It passes where the first date has come. Then the refills are unblocked, so
-    /// that what was not used in time is not used in a burst, and charged one tick, which returns a period later.
+    /// Whether a packet passes at `now`, at most 2^40. It passes if the first date has come. The
+    /// refills are then unblocked, which prevents a burst of unused budget, and charged one tick,
+    /// which returns a period later.
     pub fn offer(&mut self, now: Tick) -> Answer
         requires { now ≤ 2 ^ 40 }
         ensures passes { result ≡ Passes → is_ready now self.old.dates ≡ true }

@@ -1,5 +1,6 @@
-//! The simulator for a caller that is no Rattle program, as a program in C or Python: the text of a system goes in, and the lines of its
-//! schedule and reports, or the line of the text's first fault, come out in memory that the caller gives. `include/mcsim.h` is its header.
+//! The simulator for programs in C, Python or other languages. The text of a system goes in. The
+//! lines of its schedule and reports, or the line of the text's first fault, come out in the
+//! caller's memory. `include/mcsim.h` is the header.
 #![tactic(auto)]
 
 ghost use Rattle.std.specs.Prelude.{◌≡◌, ◌≤◌, ◌<◌, ◌^◌, ◌++◌, ◌↔◌, ◌⊎◌, Ok, Err, length, take, drop};
@@ -18,15 +19,18 @@ use mcs_cli::Show;
 use mcs_ticks::Tick;
 use std::alloc::Global;
 
-/// Simulates the system that a text describes, on the caller's thread alone, up to a horizon, in ticks, of at most 2^40, and keeps all rows until
-/// the last is made. The lines that are asked for (`show`: 0 the schedule, 1 the reports, 2 both) come to the head of the room, and their
-/// number of bytes to `length_of`; the bytes of the room behind them stay as they were. The result says what is there:
+/// Simulates the system that a text describes, up to a horizon of at most 2^40 ticks, on the
+/// calling thread only. It keeps all rows until the last is made.
 ///
-/// * 0: the lines that `mcsim` prints, each with its line feed;
-/// * 1: the line of the text's first fault, as `mcsim` tells it, without a line feed;
-/// * 2: nothing, as the room is too small: `length_of` is the number of bytes that are needed, and the room is as it was;
-/// * 3: nothing, as there is no such horizon or no such `show`: `length_of` is 0, and the room is as it was;
-/// * 4: nothing, as there was no memory: `length_of` is 0, and the room is as it was.
+/// `show` selects the lines: 0 the schedule, 1 the reports, 2 both. They are written to the start
+/// of the room, and their number of bytes to `length_of`. Later bytes of the room stay as they
+/// were. The result is one of these codes:
+/// - 0: the lines that `mcsim` prints, each with its line feed.
+/// - 1: the line of the text's first fault, as `mcsim` reports it, without a line feed.
+/// - 2: the room is too small. `length_of` is the number of bytes needed, and the room is
+///   unchanged.
+/// - 3: the horizon or `show` is invalid. `length_of` is 0, and the room is unchanged.
+/// - 4: out of memory. `length_of` is 0, and the room is unchanged.
 #[unsafe(no_mangle)]
 pub extern "C" fn mcs_run(
     alloc: Global,
@@ -69,7 +73,8 @@ pub extern "C" fn mcs_run(
     }
 }
 
-/// Hands bytes to the caller, and tells how many they are: the result is the code where they fit into the room, else 2.
+/// Copies bytes to the caller and sets their number. Returns `code` if they fit into the room, else
+/// 2.
 fn handed(bytes: &[u8], room: &mut [u8], length_of: &mut usize, code: u32) -> u32
     requires { code ≤ 1 }
     ensures code { (result ≡ code) ⊎ (result ≡ 2) }

@@ -1,4 +1,4 @@
--- What the command line makes of some words.
+-- Results of some command lines.
 use Rattle.std.proofs.Common.{◌≡◌, refl, true, codes, [], ◌∷◌, map, Some}
 use Rattle.std.specs.Borrow.{Bor}
 use Rattle.clap.specs.Words.{App, fault_of, first_of, matches_of, takes}

@@ -1,4 +1,5 @@
--- What a parse that succeeds says of an argument that has a default and takes one value: it has a text that its parser accepts.
+-- After a successful parse, an argument with a default and one value has a text that its parser
+-- accepts.
 use Rattle.std.proofs.Common.{zero, suc, ◌≡◌, ◌∙◌, ◌++◌, subst, ◌<◌, ◌≤◌, ap, ◌||◌, ℕ, Bool, true, false, List, [], ◌∷◌, length, Some, None, refl, sym, inl, inr, arith}
 use Rattle.std.specs.Prelude.{find, option_map}
 use Rattle.std.specs.List.{All, slice_index_or}
@@ -93,7 +94,7 @@ module _ (old : Command) (m : ArgMatches) (p : IsParsedFrom old m) (k : ℕ) (d 
         ]
   ]
 
-  -- what is read where the entry of the id has a first value
+  -- the value read if the entry of the id has a first value
   head_reads : (q : ValueParser) (x : MatchedArg) (vs : List (Bor (List ℕ))) → x.vals.items ≡ vs → 0 < length vs
       → matched_of (found_of m) (slice_index_or (args_of old) k d).id.now ≡ Some x
       → (slice_index_or (args_of old) k d).value_parser ≡ Some q → x.reading ≡ reading_of q

@@ -1,4 +1,4 @@
--- What a target has, and what waits, after rows were given to a sink that writes their lines.
+-- A target's bytes, and those that wait, after rows were given to a sink that writes their lines.
 use Rattle.std.proofs.Common.{◌≡◌, ◌∙◌, ◌++◌, ℕ, Bool, true, false, List, [], ◌∷◌, Option, Result, Ok, Err, OnOk, OnErr, IfErr, inl, inr, length, take, drop, refl, ap, sym, subst, append_assoc, append-nil, take-append-drop, flat_map}
 use Rattle.std.specs.Io.KnownBytes.{Appends}
 use Rattle.std.proofs.KnownBytes.{Appends-nil, Appends-trans}
@@ -34,7 +34,7 @@ before-then a b c xs waits rest p q =
 pub before-all : (a b c : Option (List ℕ)) (xs rest : List ℕ) → AppendsBefore a b xs rest → Appends b c rest → Appends a c xs
 before-all a b c xs rest p q = subst (Appends a c) (sym p.2) (Appends-trans a b c p.0 rest p.1 q)
 
--- all are written, where nothing failed
+-- all are written if no call failed
 pub ok-then : {U E : Type 0} (a b c : Option (List ℕ)) (xs rest : List ℕ) (r : Result U E) → AppendsBefore a b xs rest → OnOk r (Appends b c rest)
     → OnOk r (Appends a c xs)
 ok-then a b c xs rest (Ok u) p q = before-all a b c xs rest p q
@@ -56,7 +56,7 @@ pub prefix-then : (a b c : Option (List ℕ)) (xs rest : List ℕ) → AppendsBe
 prefix-then a b c xs rest p q =
     prefix-before a c xs (drop q.0 rest) (before-then a b c xs rest (drop q.0 rest) p (before-prefix b c rest q))
 
--- what waits is written, and then more bytes are, of which none waits
+-- what waits is written, and then more bytes, without a wait
 pub written-through : {U E : Type 0} (a b c : Option (List ℕ)) (xs rest ys : List ℕ) (r : Result U E) → AppendsBefore a b xs rest → rest ≡ []
     → OnOk r (Appends b c ys) → OnOk r (AppendsBefore a c (xs ++ ys) rest)
 written-through a b c xs rest ys (Ok u) p e q =
@@ -71,7 +71,8 @@ refused-through a b c xs rest ys (Ok u) p e q = tt
 refused-through a b c xs rest ys (Err f) p e q =
     prefix-then a b c (xs ++ ys) ys (subst (λ l. AppendsBefore a b (xs ++ ys) (l ++ ys)) e (before-longer a b xs rest ys p)) q
 
--- A sink, what its target has, what waits, and the line of a row; what stays in it after each row, and after each that it takes.
+-- A sink, what its target has, what waits, and the line of a row; what stays in it after each row,
+-- and after each that it takes.
 module _ {S : Type 0} (takes : S → Row → Bool → S → Type 0) (contents : S → Option (List ℕ)) (text : S → List ℕ)
     (line : Row → List ℕ) (Kept Working : S → Type 0)
     (step : (s t : S) (row : Row) (taken : Bool) → Kept s → takes s row taken t →
@@ -137,7 +138,7 @@ fault-then a b c failed xs rest (Ok u) p q e = tt
 fault-then a b c failed xs rest (Err f) p q e =
     subst (IsWriteFault a c failed xs) (sym e.0) (e.1, prefix-then a b c xs rest p q)
 
--- there is no memory for the reports behind the rows
+-- there is no memory for the reports after the rows
 pub fault-last : {U : Type 0} (a b : Option (List ℕ)) (failed : Bool) (xs ys rest : List ℕ) (r : Result U RunFault) → AppendsBefore a b xs rest → failed ≡ false
     → IfErr r (λ f. f ≡ fault.Sim NoMemory) → IfErr r (IsWriteFault a b failed (xs ++ ys))
 fault-last a b failed xs ys rest (Ok u) p working e = tt

@@ -1,4 +1,4 @@
--- What the parse of a command makes of the words, by the command line that it has.
+-- Parses of a command, in terms of its command line.
 use Rattle.std.proofs.Common.{◌≡◌, ◌∙◌, ap, true, List, inl}
 use Rattle.std.specs.Prelude.{Result, Ok, Err, IfErr, IfOk}
 use Rattle.std.specs.Result.{IsErrAnd}

@@ -1,4 +1,5 @@
--- Lines that are put behind those that wait: those of several rows at once are as if the rows had been given one by one.
+-- Lines that are put behind those that wait: those of several rows at once are as if the rows had
+-- been given one by one.
 use Rattle.std.proofs.Common.{◌≡◌, ◌≢◌, ◌∙◌, ◌++◌, ℕ, suc, Bool, true, false, List, [], ◌∷◌, Option, inl, inr, length, refl, sym, ap, subst, append_assoc, append-nil, arith}
 use Rattle.std.specs.Prelude.{fold, IfSome, IsSome}
 use Rattle.mcs_ticks.specs.declared.row.Row.{Row}
@@ -23,7 +24,7 @@ text-of : (lines : text.Lines) (rows : List Row) → (fold with_row lines rows).
 text-of lines [] = sym (append-nil lines.bytes)
 text-of lines (row ∷ rows) = text-of (with_row lines row) rows ∙ append_assoc lines.bytes (row_text lines.system row) (schedule_text lines.system rows)
 
--- where nothing was told no row is held
+-- empty lines hold no row
 pub told-none-holds : (system : System) → HoldsTold (nothing_told system) []
 told-none-holds system = record { lines = refl; many = refl }
 
@@ -49,7 +50,7 @@ module _ {W : Type 0} (contents : W → Option (List ℕ)) (failed : W → Bool)
     prefix-then _ _ _ _ _ p.5 (subst (AppendsPrefix (contents b.target.now) (contents c.target.now)) (append-nil b.page.now) q.5),
   )
 
-  -- with these lines more, none of which is written
+  -- with these further lines, which are not written
   waiting : Lines W → List ℕ → Lines W
   waiting lines xs = record lines { page = record lines.page { now = lines.page.now ++ xs } }
 
@@ -57,7 +58,7 @@ module _ {W : Type 0} (contents : W → Option (List ℕ)) (failed : W → Bool)
   unfolding waiting
   takes-one before row = (refl, refl, refl, λ e. refl, λ e. cc, before-none _ _)
 
-  -- the lines of the rows behind the first one
+  -- the lines of the rows after the first one
   rest-puts : (before after : Lines W) (row : Row) (rows : List Row) (taken : Bool) → PutsLines contents failed before (schedule_text before.names.now (row ∷ rows)) taken after
       → PutsLines contents failed (waiting before (row_text before.names.now row)) (schedule_text before.names.now rows) taken after
   unfolding waiting
@@ -81,7 +82,7 @@ module _ {W : Type 0} (contents : W → Option (List ℕ)) (failed : W → Bool)
       let middle = waiting before (row_text before.names.now row) in
       (middle, takes-one before row, given-at-once (next ∷ rows) middle after (λ e. cc) (rest-puts before after row (next ∷ rows) true p))
 
-  -- .. and where they are refused, as if one of the rows had been
+  -- .. and if they are refused, as if one of the rows had been
   pub refused-at-once : (rows : List Row) (before after : Lines W) → rows ≢ [] → PutsLines contents failed before (schedule_text before.names.now rows) false after
       → GivenUntil (PutsRow contents failed) before rows after
   unfolding waiting

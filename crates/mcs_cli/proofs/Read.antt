@@ -1,4 +1,4 @@
--- What is read of a matched value.
+-- The value read from a match.
 use Rattle.std.proofs.Common.{◌≡◌, ap, ℕ, List, Option, Some, None, refl}
 use Rattle.std.specs.Prelude.{Result, Ok, Err}
 use Rattle.std.specs.Str.Parse.{ParsesUnsigned, digits_value, without_leading_plus}
@@ -12,6 +12,6 @@ pub number_read : (E : Type 0) (G : List ℕ → Result ℕ E → Type 0) (least
 number_read E G least most t (Some v) read parses passed = ap (λ n. Some n) (parses t (Ok v) read).1
 number_read E G least most t None read parses passed = absurd (parses t (Err read.0) read.1 (passed.0, passed.1))
 
--- the number of an option, where its text is known
+-- the number of an option whose text is known
 pub number_at : (id t : Text) (rows : List Row) → first_of id rows ≡ Some t → number_of id rows ≡ digits_value 10 (without_leading_plus t)
 number_at id t rows e = rw e refl

@@ -1,4 +1,4 @@
--- The fault that is answered is that of the parse.
+-- The fault returned is that of the parse.
 use Rattle.std.proofs.Common.{◌≡◌, ◌∙◌, inl, inr, sym, subst, refl, rules}
 use Rattle.std.specs.Prelude.{Err}
 use Rattle.clap.specs.Words.{HasKind, IsAmong, Kinds, Text, fault_of, kind_of}

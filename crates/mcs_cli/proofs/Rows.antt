@@ -1,4 +1,4 @@
--- What a target has, and what waits, after rows were given to the sink that writes their lines.
+-- A target's bytes, and those that wait, after rows were given to the sink that writes their lines.
 use Rattle.std.proofs.Common.{◌≡◌, ◌∙◌, ◌++◌, ℕ, Bool, true, List, [], Option, Result, Err, IfErr, refl, ap, sym, subst}
 use Rattle.mcs_ticks.specs.declared.row.Row.{Row}
 use Rattle.mcs_system.specs.System.{System}
@@ -22,7 +22,7 @@ err-is P r e is p = subst (λ r. IfErr r P) is p
 
 -- a target's bytes and whether it has failed
 module _ {W : Type 0} (contents : W → Option (List ℕ)) (failed : W → Bool) where
-  -- where a row is refused the target has failed
+  -- if a row is refused, the target has failed
   pub lines_fail : (s t : Lines W) (rows : List Row) → GivenUntil (PutsRow contents failed) s rows t → failed t.target.now ≡ true
   lines_fail s t rows given = until_ends (PutsRow contents failed) (λ l. failed l.target.now ≡ true) (λ s t row takes. takes.4 refl) s t rows given
 

@@ -44,7 +44,7 @@ HasOneOrDefault a = WantsDefault a × (a.action ≡ Some Set) × (a.val_delim �
 abbrev pub show_words : List Text
 show_words = codes "schedule" ∷ codes "reports" ∷ codes "both" ∷ []
 
--- words without the program's name
+-- a command line without the program's name
 abbrev pub bare_line : App
 bare_line = let start = new_app (codes "mcsim") in record { top = record start.top { no_binary_name = true }; subs = [] }
 
@@ -78,18 +78,18 @@ abbrev pub HasNumber : Text → ℕ → ℕ → List Row → Type 0
 HasNumber id least most rows =
     (t : Text) × (first_of id rows ≡ Some t) × (one_of id rows ≡ Some t) × IsUnsignedIn least most t
 
--- a command with this command line, of which a parse that succeeds has both numbers
+-- a command with this command line. A successful parse of it has both numbers.
 pub record IsCommandLine (c : Command) : Type 0 where
-  -- the names of what is shown, wherever they lie
+  -- the names of what is shown, at any place
   pub shows : Bor (List (Bor Text))
   pub are : map (λ name. name.now) shows.now ≡ show_words
   pub app : app_of c ≡ command_line shows
   pub horizon : (m : ArgMatches) → IsParsedFrom c m → HasNumber (codes "horizon") 0 (2 ^ 40) (rows_of (found_of m))
   pub workers : (m : ArgMatches) → IsParsedFrom c m → HasNumber (codes "workers") 1 64 (rows_of (found_of m))
 
--- what a parse of the words gives
+-- the result of a parse
 pub record IsParse (words : List Text) (r : Result ArgMatches Error) : Type 0 where
-  -- the names of what is shown, wherever they lie
+  -- the names of what is shown, at any place
   pub shows : Bor (List (Bor Text))
   pub are : map (λ name. name.now) shows.now ≡ show_words
   pub rows : IfOk r (λ m. rows_of (found_of m) ≡ matches_of (command_line shows) words)
@@ -103,22 +103,24 @@ pub record HasValues (rows : List Row) (o : Options) : Type 0 where
   pub workers : o.workers ≡ number_of (codes "workers") rows
   pub shown : o.show ≡ show_named (text_of (codes "show") rows)
 
--- the fault of an error of this kind
+-- the fault for an error of this kind
 abbrev pub FaultOf : ErrorKind → WordsFault → Type 0
 FaultOf k fault.NoMemory = ⊤
 FaultOf k (fault.Help text) = k ≡ kind.DisplayHelp
 FaultOf k (fault.Words text) = (k ≡ kind.DisplayHelp → ⊥) × (k ≡ kind.OutOfMemory → ⊥)
 
--- a fault comes of one of these kinds, or memory has run out
+-- a fault has one of these kinds, or memory has run out
 abbrev pub IsFaultOf : Kinds → WordsFault → Type 0
 IsFaultOf kinds fault.NoMemory = ⊤
 IsFaultOf kinds (fault.Help text) = IsAmong kind.DisplayHelp kinds
 IsFaultOf kinds (fault.Words text) = (k : ErrorKind) × (k ≡ kind.DisplayHelp → ⊥) × IsAmong k kinds
 
--- What the words are answered: the values that the command line gives them, where they have no fault; where it takes them, nothing but
--- being out of memory; else help where help is among their faults, or the text of another of them.
+-- The result of `options`:
+-- - the values that the command line gives the words, if they have no fault;
+-- - out of memory only, if the command line takes the words;
+-- - otherwise help, if help is among their faults, or the text of another fault.
 pub record IsAnswer (words : List Text) (r : Result Options WordsFault) : Type 0 where
-  -- the names of what is shown, wherever they lie
+  -- the names of what is shown, at any place
   pub shows : Bor (List (Bor Text))
   pub are : map (λ name. name.now) shows.now ≡ show_words
   pub values : IfOk r (HasValues (matches_of (command_line shows) words))

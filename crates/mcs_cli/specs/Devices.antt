@@ -1,13 +1,15 @@
--- How many bytes a source has given, when a write has failed, and what is written until one does.
+-- The number of bytes that a source has given, when a write has failed, and what is written until
+-- one does.
 use Rattle.std.specs.Prelude.{◌≡◌, ◌≤◌, ◌+◌, ◌-◌, ◌^◌, min, ℕ, Bool, true, List, length, take, Option, Result, Ok, Err, nat_lt, ◌==◌, ◌&&◌}
 use Rattle.std.specs.Io.KnownBytes.{Appends}
 
--- so many bytes more are counted: no more than these, and no fewer until the count is the greatest number of 64 bits
+-- bytes are counted: at most these, and at least these until the count reaches the maximum of 64
+-- bits
 pub record IsCounted (old new bytes : ℕ) : Type 0 where
   pub most : new ≤ old + bytes
   pub least : min (old + bytes) (2 ^ 64 - 1) ≤ new
 
--- a read counts the bytes that it gives, and one that fails counts none
+-- a read counts the bytes that it gives. One that fails counts none.
 abbrev pub CountsBytes : {E : Type 0} → ℕ → ℕ → Result ℕ E → Type 0
 CountsBytes old new (Ok n) = IsCounted old new n
 CountsBytes old new (Err e) = new ≡ old

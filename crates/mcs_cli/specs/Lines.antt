@@ -1,4 +1,4 @@
--- A sink of lines: what its target has, and what waits on its page, after lines are put there.
+-- A sink of lines: its target and its page, after lines are put there.
 use Rattle.std.specs.Prelude.{◌≡◌, ℕ, Bool, true, false, List, Option}
 use Rattle.mcs_ticks.specs.declared.row.Row.{Row}
 use Rattle.mcs_text.specs.Text.{row_text}
@@ -7,7 +7,8 @@ use Rattle.mcs_cli.specs.declared.sink.Lines.{Lines}
 
 -- a target's bytes, and whether it has failed
 module _ {W : Type 0} (contents : W → Option (List ℕ)) (has_failed : W → Bool) where
-  -- the sink stays over the same target and page; lines that it takes stand behind those that wait, and where it refuses them the target has failed
+  -- The sink keeps its target and page. Lines that it takes follow those that wait. If it refuses
+  -- them, the target has failed.
   abbrev pub PutsLines : Lines W → List ℕ → Bool → Lines W → Type 0
   PutsLines before lines taken after =
       (after.target.ghost_name ≡ before.target.ghost_name)

@@ -1,4 +1,4 @@
--- What a run reads and writes.
+-- The bytes that a run reads and writes.
 use Rattle.std.specs.Prelude.{Result, Ok, Err, Option, ◌≡◌, ◌≢◌, ◌≤◌, ◌<◌, ◌^◌, ◌⊎◌, List, ℕ, Bool, true, false, ◌++◌, length}
 use Rattle.std.specs.Io.KnownBytes.{Appends, Consumes, IsAtEnd, Keeps}
 use Rattle.mcs_ticks.specs.declared.row.Row.{Row}
@@ -18,29 +18,30 @@ use Rattle.mcs_cli.specs.declared.asked.Show.TheVariants.{Schedule, Reports, Bot
 use Rattle.mcs_cli.specs.declared.fault.RunFault.{RunFault}
 use Rattle.mcs_cli.specs.declared.fault.RunFault.TheVariants as fault
 
--- what is shown of a schedule and its reports
+-- the part of a schedule and its reports that is shown
 abbrev pub shown_text : Show → System → List Row → ReportsOf → List ℕ
 shown_text Schedule system rows reports = schedule_text system rows
 shown_text Reports system rows reports = reports_text system reports
 shown_text Both system rows reports = schedule_text system rows ++ reports_text system reports
 
--- what is shown of the schedule of the one clock over all cores, and of its reports
+-- the output for the schedule of the one clock over all cores, and for its reports
 abbrev pub output_of : Show → System → ℕ → List ℕ
 output_of show system horizon =
     let rows = schedule system horizon in
     shown_text show system rows (reports_of system horizon rows)
 
--- the system that a file describes, or the first fault of its text
+-- the system of a file, or the first fault of its text
 abbrev pub loaded : List ℕ → Result System LoadFault
 loaded bytes = answer (file bytes)
 
--- the bytes that a source knows before and after the run, and how many it has given by then
+-- the bytes that a source knows before and after the run, and the number it has given by then
 module _ (read_old read_new : Option (List ℕ)) (given_old given_new : ℕ) where
-  -- the source gave these bytes: as many as it counted, and those that it knows where it tells its bytes
+  -- The source gave these bytes: as many as it counted, and those that it knows, if it reveals its
+  -- bytes.
   abbrev pub IsGiven : List ℕ → Type 0
   IsGiven bytes = Consumes read_old read_new bytes × IsCounted given_old given_new (length bytes)
 
-  -- the bytes that were read, which are all there were where the source tells its bytes
+  -- The bytes that were read. They are all that there were, if the source reveals its bytes.
   abbrev pub IsInput : List ℕ → Type 0
   IsInput bytes = IsGiven bytes × IsAtEnd read_new × (length bytes ≤ 2 ^ 26)
 
@@ -65,19 +66,21 @@ module _ (read_old read_new : Option (List ℕ)) (given_old given_new : ℕ) whe
     IsReadFault (fault.Sim f) = ⊥
     IsReadFault fault.Write = ⊥
 
-    -- the bytes that a target knows before and after the run, whether it has failed, and what is asked for
+    -- the bytes that a target knows before and after the run, whether it has failed, and the
+    -- options
     module _ (write_old write_new : Option (List ℕ)) (write_failed : Bool) (options : Options) where
-      -- what was written is the output for the bytes that were read, and nothing else
+      -- the output for the bytes that were read was written, and no more
       abbrev pub IsDone : Type 0
       IsDone = (system : System) × IsRead system
           × Appends write_old write_new (output_of options.show system options.horizon)
 
-      -- what was written is a first part of the output for the bytes that were read
+      -- a first part of the output for the bytes that were read was written
       abbrev pub IsBegun : Type 0
       IsBegun = (system : System) × IsRead system
           × AppendsPrefix write_old write_new (output_of options.show system options.horizon)
 
-      -- The file is to blame before anything else, and then nothing is written. A device is blamed only where it has failed.
+      -- The file is to blame first, and then no output is written. A device is blamed only if it
+      -- has failed.
       abbrev pub IsFault : RunFault → Type 0
       IsFault fault.Read = Keeps write_old write_new × ((read_failed ≡ true) ⊎ IsTooLong)
       IsFault (fault.Load f) = Keeps write_old write_new × (f ≢ no_memory → IsFaultOfInput f)

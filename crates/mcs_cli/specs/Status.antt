@@ -1,4 +1,4 @@
--- The exit statuses of the program.
+-- The exit codes of the program.
 use Rattle.std.specs.Prelude.{ℕ}
 use Rattle.mcs_load.specs.declared.fault.FaultKind.{FaultKind}
 use Rattle.mcs_load.specs.declared.fault.FaultKind.TheVariants as kind
@@ -12,7 +12,7 @@ status_of_words (words.Help text) = 0
 status_of_words (words.Words text) = 2
 status_of_words words.NoMemory = 4
 
--- a file is to blame for every fault of its text but being out of memory
+-- a file is to blame for every fault of its text except out of memory
 abbrev pub status_of_file : FaultKind → ℕ
 status_of_file kind.NoMemory = 4
 status_of_file other = 1

@@ -1,3 +1,4 @@
+//! The options of a command line, and why it is refused.
 ghost use Rattle.std.specs.Prelude.{◌≡◌, ◌≤◌, ◌^◌};
 ghost use Rattle.mcs_cli.specs.Status.{status_of_words};
 ghost use Rattle.mcs_cli.specs.declared.asked.WordsFault.TheVariants.{NoMemory};
@@ -5,7 +6,7 @@ ghost use Rattle.mcs_cli.specs.declared.asked.WordsFault.TheVariants.{NoMemory};
 use mcs_ticks::Tick;
 use std::alloc::AllocError;
 
-/// What is written.
+/// The part of the results that is written.
 #[derive(Clone, Copy, Debug, PartialEq, Eq)]
 pub enum Show {
     /// The rows of the schedule.
@@ -16,33 +17,33 @@ pub enum Show {
     Both,
 }
 
-/// What the words of the command line ask for.
+/// The options of the command line.
 #[derive(Debug, Drop)]
 pub struct Options {
-    /// The name of the system's file, or None for standard input.
+    /// The name of the system's file, or `None` for standard input.
     pub file: Option<String>,
-    /// The last moment of the run, at most 2^40.
+    /// The last tick of the run, at most 2^40.
     pub horizon: Tick,
-    /// How many workers may run cores at the same time, 1 to 64.
+    /// Number of workers that may run cores at the same time, 1 to 64.
     pub workers: usize,
     pub show: Show,
     ghost horizon_in_range: { horizon ≤ 2 ^ 40 },
     ghost workers_in_range: { (1 ≤ workers) × (workers ≤ 64) },
 }
 
-/// Why the words of the command line are not carried out.
+/// Why the command line was not carried out.
 #[derive(Debug, Drop)]
 pub enum WordsFault {
-    /// They are not understood: the text says why.
+    /// The command line was refused. The text explains why.
     Words(String),
-    /// They ask for help: the text is the help.
+    /// The help was requested. The text is the help.
     Help(String),
-    /// There was no memory.
+    /// Out of memory.
     NoMemory,
 }
 
 impl WordsFault {
-    /// The exit status of the program: 0 after help, 2 for words that are not understood, 4 where memory has run out.
+    /// The exit code: 0 after help, 2 for a refused command line, 4 if memory ran out.
     pub fn status(&self) -> u8
         ensures { result ≡ status_of_words self.now }
     {

@@ -1,4 +1,5 @@
-//! The text of each core: made where the core runs, and put behind that of other cores a moment at a time.
+//! The text of each core. It is made as the core runs, and written in order of time with that of
+//! the other cores.
 ghost use Rattle.std.specs.Prelude.{◌≡◌};
 
 use crate::Target;
@@ -12,7 +13,7 @@ use std::alloc::Global;
 use std::marker::PhantomData;
 use std::mem;
 
-/// The lines that a core of the system tells which `B` names.
+/// The lines of a core, of the system that `B` names.
 #[derive(Drop)]
 pub(crate) struct CoreText<'a, B: Named> {
     told: ToldLines<'a>,
@@ -20,7 +21,7 @@ pub(crate) struct CoreText<'a, B: Named> {
     ghost of_system: { told.lines.system ≡ B.system },
 }
 
-/// A row becomes a line, or there is no memory.
+/// Appends the line of a row. It is refused if memory runs out.
 impl<B: Named> Sink for CoreText<'_, B> {
     ghost use Rattle.mcs_text.specs.Told.{TakesTold};
 
@@ -32,7 +33,7 @@ impl<B: Named> Sink for CoreText<'_, B> {
     }
 }
 
-/// The size is how many rows they are of.
+/// The size is the number of rows.
 impl<B: Named> Measured for CoreText<'_, B> {
     ghost size = { λ text. text.told.rows };
 
@@ -42,7 +43,7 @@ impl<B: Named> Measured for CoreText<'_, B> {
     }
 }
 
-/// It holds the rows whose lines they are.
+/// It holds the rows whose lines these are.
 impl<B: Named> Collector for CoreText<'_, B> {
     ghost use Rattle.std.specs.Prelude.{length};
     ghost use Rattle.mcs_text.specs.Told.{HoldsTold};
@@ -61,7 +62,7 @@ impl<B: Named> Collector for CoreText<'_, B> {
     ghost is_measured = { λ text held holds. holds.many };
 }
 
-/// The lines of a core of the system that `B` names, which wait to be put on the page of `Lines`.
+/// Waiting lines of a core, of the system that `B` names. They are put on the page of `Lines`.
 #[derive(Drop)]
 pub(crate) struct CorePart<'a, B: Named, T> {
     lines: LinesPart<'a>,
@@ -69,7 +70,7 @@ pub(crate) struct CorePart<'a, B: Named, T> {
     ghost of_system: { lines.lines.system ≡ B.system },
 }
 
-/// It holds the rows whose lines they are, and puts those of a moment on the page at once.
+/// It holds the rows whose lines these are, and puts those of one time on the page at once.
 impl<'a, B: Named, T: Target + 'a> Part for CorePart<'a, B, T> {
     ghost use Rattle.mcs_text.specs.Parts.{left_of, next_of, HoldsRows};
 
@@ -99,7 +100,7 @@ impl<'a, B: Named, T: Target + 'a> Part for CorePart<'a, B, T> {
     ghost holds_on = { λ before after part rows row held taken. subst (λ names. HoldsRows names.now part.lines rows) (sym taken.2) held };
 }
 
-/// Rows of the system that `B` names, told as text where their core runs and given to `Lines`.
+/// Turns rows of the system that `B` names into text as their core runs, and gives it to `Lines`.
 #[derive(Drop)]
 pub(crate) struct ByCore<'a, B: Named, T> {
     alloc: Global,
@@ -109,7 +110,7 @@ pub(crate) struct ByCore<'a, B: Named, T> {
 }
 
 impl<'a, B: Named, T> ByCore<'a, B, T> {
-    /// For the system with these names.
+    /// Returns the relay for the system with these names.
     pub(crate) fn new(alloc: Global, names: &'a Names<'a>) -> ByCore<'a, B, T>
         requires { names.now ≡ B.system }
     {

@@ -1,3 +1,4 @@
+//! Why a run failed, with its exit code.
 ghost use Rattle.std.specs.Prelude.{◌≡◌, Some};
 ghost use Rattle.mcs_cli.specs.Fault.{run_fault_text};
 ghost use Rattle.mcs_cli.specs.Status.{status_of_run};
@@ -7,14 +8,14 @@ use mcs_team::SimFault;
 use std::fmt;
 use thiserror::Error;
 
-/// Why a run did not end well. Its text is the line that the program writes to standard error.
+/// Why a run failed. Its text is the line that the program writes to standard error.
 #[derive(Clone, Copy, Debug, PartialEq, Eq, Error)]
 pub enum RunFault {
     /// The source failed, or gave more than 2^26 bytes.
     Read,
-    /// The text that was read is no system, or there was no memory for it.
+    /// The text is not a system, or memory ran out while it was read or loaded.
     Load(LoadFault),
-    /// There was no memory for the run.
+    /// Memory ran out during the run.
     Sim(SimFault),
     /// The target failed, or took no bytes.
     Write,
@@ -34,7 +35,7 @@ impl fmt::Display for RunFault {
 }
 
 impl RunFault {
-    /// The exit status of the program: 1 for a wrong file, 3 for a source or a target that failed, 4 where memory has run out.
+    /// The exit code: 1 for a wrong file, 3 if a source or a target failed, 4 if memory ran out.
     pub fn status(&self) -> u8
         ensures { result ≡ status_of_run self.now }
     {

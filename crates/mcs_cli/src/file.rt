@@ -1,3 +1,4 @@
+//! A run of a named file.
 ghost use Rattle.std.specs.Prelude.{◌≡◌, ℕ, Bool, List, Option, None, IfSome, true, false, Err};
 ghost use Rattle.mcs_cli.specs.Run.{IsRun};
 
@@ -8,8 +9,10 @@ use std::rt::Files;
 use std::sync::Wait;
 use std::thread::Threads;
 
-/// Runs the file that the options name, or the input where they name none. A file that is not opened has failed. No
-/// contract knows the bytes of a file: what is written is the output for some text.
+/// Runs the file that the options name, or the input if they name none.
+///
+/// A file that can't be opened counts as failed (`Read`). No contract knows the bytes of a file.
+/// The output is then that of some text.
 pub fn run_with<H: Files + Threads + Wait + Sync, S: Source, T: Target, G: Gate + Sync>(
     rt: &H,
     alloc: Global,

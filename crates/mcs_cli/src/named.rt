@@ -1,8 +1,8 @@
-//! What names a system in types.
+//! Types that name a system.
 
 use std::marker::Brand;
 
-/// Names the system of a run. The call that begins to write its output picks it.
+/// Names the system of a run. The call that writes its output picks it.
 pub(crate) trait Named {
     ghost use Rattle.mcs_system.specs.System.{System};
 

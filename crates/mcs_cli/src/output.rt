@@ -1,4 +1,4 @@
-//! The output of a run: the lines of rows as they come, and the reports after them.
+//! The output of a run: the lines of rows as they come, then the reports.
 ghost use Rattle.std.specs.Prelude.{◌≡◌, ◌++◌, ◌↔◌, [], false, IfErr, IfNone, IfOk, IfSome, IsOk, IsSome, OnOk};
 ghost use Rattle.std.specs.Arc.{arc_value};
 ghost use Rattle.std.specs.Io.KnownBytes.{Appends};
@@ -25,7 +25,8 @@ use std::marker::Brand;
 use std::sync::{Arc, Wait};
 use std::thread::Threads;
 
-/// Simulates a system, and writes what the options ask for: the lines of rows as the rows come, the reports after them.
+/// Simulates a system, and writes what the options ask for: the lines of rows as they come, then
+/// the reports.
 pub(crate) fn write_output<H: Threads + Wait + Sync, T: Target, G: Gate + Sync>(
     rt: &H,
     alloc: Global,
@@ -50,7 +51,7 @@ pub(crate) fn write_output<H: Threads + Wait + Sync, T: Target, G: Gate + Sync>(
     write_text(target, text.as_slice())
 }
 
-/// Writes a first part of the output as the rows come; the rest of it is then the text.
+/// Writes a first part of the output as the rows come. The rest is then in `text`.
 fn put_output<H: Threads + Wait + Sync, T: Target, G: Gate + Sync>(
     rt: &H,
     target: &mut T,
@@ -85,8 +86,8 @@ fn put_output<H: Threads + Wait + Sync, T: Target, G: Gate + Sync>(
     }
 }
 
-/// Writes the lines of the schedule's rows as they come, but for the last ones, which stand in the text. The reports are made
-/// where they are to be shown too.
+/// Writes the lines of the schedule's rows as they come. The last ones are then in `text`. Returns
+/// the reports if they are to be shown.
 fn write_rows<H: Threads + Wait + Sync, T: Target, G: Gate + Sync>(
     rt: &H,
     target: &mut T,
@@ -132,8 +133,9 @@ fn write_rows<H: Threads + Wait + Sync, T: Target, G: Gate + Sync>(
     }
 }
 
-/// Gives the schedule's rows to the sink of lines: as text that each core makes of its own, or one by one where there is one core, whose lines need no
-/// merge, and where they are counted too, since reports are to be shown.
+/// Gives the schedule's rows to the sink of lines. If reports are shown, rows are counted and given
+/// one by one. One core needs no merge, so its rows are also given one by one. Otherwise each core
+/// makes its text.
 fn give_rows<B: Named + Send + Sync, H: Threads + Wait + Sync, G: Gate + Sync, T: Target>(
     rt: &H,
     alloc: Global,
@@ -169,7 +171,7 @@ fn give_rows<B: Named + Send + Sync, H: Threads + Wait + Sync, G: Gate + Sync, T
     }
 }
 
-/// The reports of the schedule, of which no row is kept or merged with those of other cores.
+/// Returns the reports of the schedule. No row is kept or merged with those of other cores.
 fn count_rows<H: Threads + Wait + Sync, G: Gate + Sync>(
     rt: &H,
     alloc: Global,
@@ -189,7 +191,7 @@ fn count_rows<H: Threads + Wait + Sync, G: Gate + Sync>(
     ))
 }
 
-/// Puts the reports behind the text where there are any. Where there are none the text stays as it is.
+/// Appends the reports to the text, if there are any.
 fn put_counted(
     text: &mut Vec<u8>,
     system: &System,
@@ -206,7 +208,7 @@ fn put_counted(
     }
 }
 
-/// Puts the reports behind the text.
+/// Appends the reports to the text.
 fn put_last(text: &mut Vec<u8>, system: &System, reports: &Reports) -> Result<(), RunFault>
     ensures ok { OnOk result (text.new.items ≡ text.old.items ++ reports_text system.now reports.now) }
     ensures fault { IfErr result (λ f. f ≡ RunFault.Sim SimFault.NoMemory) }

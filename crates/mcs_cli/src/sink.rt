@@ -1,4 +1,4 @@
-//! The sink that writes the rows of a schedule.
+//! The sink that writes the rows of a schedule as lines.
 ghost use Rattle.std.specs.Prelude.{◌≡◌, ◌≤◌, ◌++◌, [], true, length, is_ok, OnOk, OnErr};
 ghost use Rattle.std.specs.Io.KnownBytes.{Appends};
 ghost use Rattle.mcs_cli.specs.Devices.{AppendsPrefix};
@@ -11,19 +11,20 @@ use mcs_team::{Refused, Sink};
 use mcs_text::{Names, Page};
 use mcs_ticks::Row;
 
-/// Writes the lines of rows: the first one at once, and later ones in pieces that grow.
+/// Writes the lines of rows: the first at once, later ones in growing pieces.
 #[derive(Drop)]
 pub(crate) struct Lines<'a, T: Target> {
     target: &'a mut T,
     names: &'a Names<'a>,
     /// The lines that are not written yet.
     page: &'a mut Page,
-    /// So many bytes of lines are written, 1 to those of a full page.
+    /// Bytes of lines that are enough for a write, from 1 to a full page.
     limit: usize,
 }
 
 impl<'a, T: Target> Lines<'a, T> {
-    /// Writes to this target the lines of rows of the system with these names, after those that wait on the page.
+    /// Returns a sink for rows of the system with these names. It writes to `target`, after the
+    /// lines that wait on the page.
     pub(crate) fn new(target: &'a mut T, names: &'a Names<'a>, page: &'a mut Page) -> Lines<'a, T>
         ensures target { result.target.ghost_name ≡ target.entry.ghost_name }
         ensures target_now { result.target.now ≡ target.old }
@@ -46,7 +47,7 @@ impl<'a, T: Target> Lines<'a, T> {
         self.names
     }
 
-    /// Puts lines of the system behind those that wait. They are refused only where the target has failed.
+    /// Appends lines of the system. They are refused only if the target has failed.
     #[inline(always)]
     pub(crate) fn append(&mut self, lines: &[u8]) -> Result<(), Refused>
         ensures { PutsLines T.contents T.has_failed self.old lines.now (is_ok result) self.new }
@@ -55,7 +56,7 @@ impl<'a, T: Target> Lines<'a, T> {
         self.write_enough()
     }
 
-    /// Writes the lines that wait where they are enough.
+    /// Writes the waiting lines if there are enough.
     #[inline(always)]
     fn write_enough(&mut self) -> Result<(), Refused>
         ensures { PutsLines T.contents T.has_failed self.old [] (is_ok result) self.new }
@@ -66,7 +67,7 @@ impl<'a, T: Target> Lines<'a, T> {
         self.write_waiting()
     }
 
-    /// Writes the lines that wait. More of them are enough from then on.
+    /// Writes the waiting lines, and doubles what is enough, up to a full page.
     #[inline(never)]
     fn write_waiting(&mut self) -> Result<(), Refused>
         ensures { PutsLines T.contents T.has_failed self.old [] (is_ok result) self.new }
@@ -90,7 +91,7 @@ impl<T: Target> Sink for Lines<'_, T> {
     }
 }
 
-/// Writes the lines of a page that has no room for a further row.
+/// Writes the lines of a page without room for a further row.
 #[inline(always)]
 fn make_room<T: Target>(target: &mut T, page: &mut Page) -> Result<(), Refused>
     ensures room { OnOk result (length page.new ≤ 65536) }
@@ -105,7 +106,7 @@ fn make_room<T: Target>(target: &mut T, page: &mut Page) -> Result<(), Refused>
     write_lines(target, page)
 }
 
-/// Puts lines on a page, of which those that wait there are written first where there is no room for both.
+/// Appends lines to a page. If there is no room, the waiting ones are written first.
 #[inline(always)]
 fn put<T: Target>(target: &mut T, page: &mut Page, lines: &[u8]) -> Result<(), Refused>
     ensures written { OnOk result (AppendsBefore (T.contents target.old) (T.contents target.new) (page.old ++ lines.now) page.new) }
@@ -120,7 +121,7 @@ fn put<T: Target>(target: &mut T, page: &mut Page, lines: &[u8]) -> Result<(), R
     put_on_next(target, page, lines)
 }
 
-/// Writes the lines of a page, and puts others there. Lines for which no page has room are written at once.
+/// Writes the lines of a page, and puts others on it. Lines larger than a page are written at once.
 #[inline(never)]
 fn put_on_next<T: Target>(target: &mut T, page: &mut Page, lines: &[u8]) -> Result<(), Refused>
     ensures written { OnOk result (AppendsBefore (T.contents target.old) (T.contents target.new) (page.old ++ lines.now) page.new) }
@@ -136,7 +137,7 @@ fn put_on_next<T: Target>(target: &mut T, page: &mut Page, lines: &[u8]) -> Resu
     write(target, lines)
 }
 
-/// Writes the lines of a page, which then has none.
+/// Writes the lines of a page, which is then empty.
 fn write_lines<T: Target>(target: &mut T, page: &mut Page) -> Result<(), Refused>
     ensures empty { OnOk result (page.new ≡ []) }
     ensures written { OnOk result (AppendsBefore (T.contents target.old) (T.contents target.new) page.old page.new) }
@@ -149,7 +150,7 @@ fn write_lines<T: Target>(target: &mut T, page: &mut Page) -> Result<(), Refused
     Ok(())
 }
 
-/// Writes lines.
+/// Writes lines to the target.
 fn write<T: Target>(target: &mut T, lines: &[u8]) -> Result<(), Refused>
     ensures written { OnOk result (Appends (T.contents target.old) (T.contents target.new) lines.now) }
     ensures working { OnOk result (T.has_failed target.new ≡ T.has_failed target.old) }

@@ -1,3 +1,4 @@
+//! Sources of bytes.
 ghost use Rattle.std.specs.Prelude.{◌≡◌, ◌≢◌, ◌||◌, ℕ, Bool, false, List, Option, IfErr, is_err};
 ghost use Rattle.std.specs.Io.{ReadsAtMost};
 ghost use Rattle.std.specs.Io.KnownBytes.{ReadConsumes};
@@ -7,8 +8,8 @@ ghost use Rattle.mcs_cli.specs.Devices.{CountsBytes};
 use std::io;
 use std::io::{ErrorKind, Read};
 
-/// Where bytes are read from. Contracts see the bytes that are left, where they are known, how many were given so far
-/// (2^64 - 1 where there were more), and whether a read has failed so far.
+/// A source of bytes. Contracts see the bytes that are left, if they are known, the number given so
+/// far (2^64 - 1 if there were more), and whether a read has failed.
 pub trait Source {
     ghost remaining: { Self → Option (List ℕ) };
 
@@ -16,8 +17,8 @@ pub trait Source {
 
     ghost has_failed: { Self → Bool };
 
-    /// Reads at most as many bytes as there is room for, and gives their number. None are read only at the end, or into
-    /// no room; a read that fails takes nothing.
+    /// Reads at most as many bytes as fit, and returns their number. 0 only at the end, or if
+    /// `buffer` is empty. A read that fails takes nothing.
     fn read(&mut self, buffer: &mut [u8]) -> io::Result<usize>
         ensures bound { ReadsAtMost result buffer.new }
         ensures bytes { ReadConsumes (remaining self.old) (remaining self.new) result buffer.new }
@@ -29,7 +30,7 @@ pub trait Source {
         ensures { result ≡ has_failed self.now };
 }
 
-/// A reader of std as a source. A read that a signal interrupts is made again, and is no failure.
+/// A std reader as a source. A read that a signal interrupts is repeated, and is no failure.
 #[derive(Drop)]
 pub struct FromRead<R: Read> {
     inner: R,
@@ -38,7 +39,7 @@ pub struct FromRead<R: Read> {
 }
 
 impl<R: Read> FromRead<R> {
-    /// The reader as it is, which has given nothing and has not failed yet.
+    /// Returns a source for a reader. It has given nothing and has not failed.
     pub fn new(inner: R) -> FromRead<R>
         ensures bytes { ⟦<FromRead<R> as Source>⟧.remaining result ≡ R.remaining inner }
         ensures given { ⟦<FromRead<R> as Source>⟧.given result ≡ 0 }
@@ -73,7 +74,7 @@ impl<R: Read> Source for FromRead<R> {
     }
 }
 
-/// One read, made again where a signal interrupts it.
+/// Reads once, and repeats the read if a signal interrupts it.
 fn read_again<R: Read>(reader: &mut R, buffer: &mut [u8]) -> io::Result<usize>
     ensures bound { ReadsAtMost result buffer.new }
     ensures bytes { ReadConsumes (R.remaining reader.old) (R.remaining reader.new) result buffer.new }

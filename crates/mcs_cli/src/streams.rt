@@ -13,10 +13,15 @@ use std::alloc::Global;
 use std::sync::Wait;
 use std::thread::Threads;
 
-/// Reads a file to its end, simulates the system that it describes by as many workers as the options say, and writes
-/// what they ask for: the lines of rows as the rows come, and the reports after them. For every number of workers the
-/// same bytes are written. Neither device may have failed before, and one is blamed only where it has failed since. After
-/// `Read` and `Load` nothing was written, and after `Sim` and `Write` a first part of the output.
+/// Reads a file to its end, simulates its system with the number of workers in the options, and
+/// writes what they ask for: the lines of rows as they come, then the reports.
+///
+/// Every number of workers writes the same bytes. Neither device may have failed before.
+///
+/// Errors:
+/// - `Read` or `Load`: no output was written.
+/// - `Sim` or `Write`: a first part of the output was written.
+/// - A device is blamed only if it has failed during the call.
 pub fn run<H: Threads + Wait + Sync, S: Source, T: Target, G: Gate + Sync>(
     rt: &H,
     alloc: Global,
@@ -36,7 +41,7 @@ pub fn run<H: Threads + Wait + Sync, S: Source, T: Target, G: Gate + Sync>(
     write_output(rt, alloc, target, system, options, gate)
 }
 
-/// Reads a file to its end, and loads the system that it describes.
+/// Reads a file to its end, and loads its system.
 pub fn read_system<S: Source>(alloc: Global, source: &mut S) -> Result<System, RunFault>
     requires { S.has_failed source.old ≡ false }
     ensures ok { IfOk result
@@ -96,7 +101,7 @@ pub fn write_text<T: Target>(target: &mut T, text: &[u8]) -> Result<(), RunFault
     Ok(())
 }
 
-/// Writes all bytes, or a first part of them.
+/// Writes all bytes. If that fails, a first part of them was written.
 pub fn write_bytes<T: Target>(target: &mut T, bytes: &[u8]) -> Result<(), RunFault>
     ensures ok { OnOk result (Appends (T.contents target.old) (T.contents target.new) bytes.now) }
     ensures working { OnOk result (T.has_failed target.new ≡ T.has_failed target.old) }

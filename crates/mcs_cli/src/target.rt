@@ -1,3 +1,4 @@
+//! Targets of bytes.
 ghost use Rattle.std.specs.Prelude.{◌≡◌, ◌≢◌, ◌||◌, ℕ, Bool, false, List, Option, IfErr, is_err};
 ghost use Rattle.std.specs.Io.{WritesAtMost};
 ghost use Rattle.std.specs.Io.KnownBytes.{Keeps, WriteAppends};
@@ -7,20 +8,20 @@ ghost use Rattle.mcs_cli.specs.Devices.{has_write_failed};
 use std::io;
 use std::io::{ErrorKind, Write};
 
-/// Where bytes are written to. Contracts see the bytes that it holds, where they are known, and whether a write or a
-/// flush has failed so far. A write that takes none of at least one byte has failed, too.
+/// A target of bytes. Contracts see its bytes, if they are known, and whether a write or a flush
+/// has failed. A write of at least one byte that takes no byte has failed, too.
 pub trait Target {
     ghost contents: { Self → Option (List ℕ) };
 
     ghost has_failed: { Self → Bool };
 
-    /// Takes a first part of the bytes, and gives their number; a write that fails takes nothing.
+    /// Takes a first part of the bytes, and returns their number. A write that fails takes nothing.
     fn write(&mut self, bytes: &[u8]) -> io::Result<usize>
         ensures bound { WritesAtMost result bytes.now }
         ensures bytes { WriteAppends (contents self.old) (contents self.new) result bytes.now }
         ensures failed { has_failed self.new ≡ (has_failed self.old || has_write_failed bytes.now result) };
 
-    /// Brings what was written to where it belongs.
+    /// Flushes what was written.
     fn flush(&mut self) -> io::Result<()>
         ensures bytes { Keeps (contents self.old) (contents self.new) }
         ensures failed { has_failed self.new ≡ (has_failed self.old || is_err result) };
@@ -30,7 +31,8 @@ pub trait Target {
         ensures { result ≡ has_failed self.now };
 }
 
-/// A writer of std as a target. A write or a flush that a signal interrupts is made again, and is no failure.
+/// A std writer as a target. A write or flush that a signal interrupts is repeated, and is no
+/// failure.
 #[derive(Drop)]
 pub struct IntoWrite<W: Write> {
     inner: W,
@@ -38,7 +40,7 @@ pub struct IntoWrite<W: Write> {
 }
 
 impl<W: Write> IntoWrite<W> {
-    /// The writer as it is, which has not failed yet.
+    /// Returns a target for a writer. It has not failed yet.
     pub fn new(inner: W) -> IntoWrite<W>
         ensures bytes { ⟦<IntoWrite<W> as Target>⟧.contents result ≡ W.contents inner }
         ensures failed { ⟦<IntoWrite<W> as Target>⟧.has_failed result ≡ false }
@@ -49,7 +51,7 @@ impl<W: Write> IntoWrite<W> {
         }
     }
 
-    /// The writer, with what was written.
+    /// Returns the writer, with what was written.
     pub fn into_inner(self) -> W
         ensures { W.contents result ≡ ⟦<IntoWrite<W> as Target>⟧.contents self }
     {
@@ -83,7 +85,7 @@ impl<W: Write> Target for IntoWrite<W> {
     }
 }
 
-/// One write, made again where a signal interrupts it.
+/// Writes once, and repeats the write if a signal interrupts it.
 fn write_again<W: Write>(writer: &mut W, bytes: &[u8]) -> io::Result<usize>
     ensures bound { WritesAtMost result bytes.now }
     ensures bytes { WriteAppends (W.contents writer.old) (W.contents writer.new) result bytes.now }
@@ -98,7 +100,7 @@ fn write_again<W: Write>(writer: &mut W, bytes: &[u8]) -> io::Result<usize>
     Err(io::Error::from(ErrorKind::TimedOut))
 }
 
-/// One flush, made again where a signal interrupts it.
+/// Flushes once, and repeats the flush if a signal interrupts it.
 fn flush_again<W: Write>(writer: &mut W) -> io::Result<()>
     ensures bytes { Keeps (W.contents writer.old) (W.contents writer.new) }
     ensures again { IfErr result (λ e. error_kind e ≢ ErrorKind.Interrupted) }

@@ -1,3 +1,4 @@
+//! The command line, as clap reads it.
 ghost use Rattle.std.specs.Prelude.{◌≡◌, ◌≢◌, ◌≤◌, ◌^◌, ℕ, List, [], Some, false, map, codes, option_map, string_bytes, IfOk};
 ghost use Rattle.std.specs.Borrow.{Bor};
 ghost use Rattle.clap.specs.Built.{FitsChain};
@@ -28,8 +29,11 @@ Exit status:
   3  the file is not opened, or reading or writing failed
   4  no memory";
 
-/// What the words after the program's name ask for: `[FILE] [--horizon N] [--workers W] [--show schedule|reports|both]`, as clap
-/// reads them. Words that are not understood and words that ask for help are refused with the text that says so.
+/// Parses the command line after the program's name, with clap: `[FILE] [--horizon N] [--workers W]
+/// [--show schedule|reports|both]`.
+///
+/// Errors: `Words` with the text for a refused command line, `Help` with the help text, or
+/// `NoMemory`.
 pub fn options(alloc: Global, words: &[String]) -> Result<Options, WordsFault>
     ensures { IsAnswer (map (λ word. string_bytes word) words.now) result }
 {
@@ -65,7 +69,7 @@ fn command_line<'a>(alloc: Global) -> Result<Command<'a>, AllocError>
     line.arg(show(alloc))
 }
 
-/// The argument `FILE`: the file of the system.
+/// Returns the argument `FILE`, the file of the system.
 pub fn file<'a>(alloc: Global) -> Arg<'a>
     ensures rule { rule_of result ≡ file_rule }
     ensures fits { FitsChain result }
@@ -75,7 +79,7 @@ pub fn file<'a>(alloc: Global) -> Arg<'a>
     )
 }
 
-/// An option whose value is a number from `least` to `most`.
+/// Returns an option whose value is a number from `least` to `most`.
 pub fn number<'a>(
     alloc: Global,
     name: &'a str,
@@ -102,7 +106,6 @@ pub fn number<'a>(
         .value_parser(ValueParser::unsigned(least, most))
 }
 
-/// `--show`.
 fn show<'a>(alloc: Global) -> Arg<'a>
     ensures rule { (shows : Bor (List (Bor (List ℕ)))) × (map (λ s. s.now) shows.now ≡ show_words)
         × (rule_of result ≡ show_rule shows) }
@@ -135,7 +138,7 @@ fn options_of(alloc: Global, matches: &ArgMatches<'_>) -> Result<Options, AllocE
     })
 }
 
-/// The name of the file, where the words have one. `AllocError` where there was no memory for it.
+/// Returns the name of the file, if there is one. `AllocError` if memory runs out.
 pub fn file_of(alloc: Global, matches: &ArgMatches<'_>) -> Result<Option<String>, AllocError>
     ensures { IfOk result
         (λ file. option_map string_bytes file ≡ first_of (codes "FILE") (rows_of (found_of matches.now))) }
@@ -146,7 +149,7 @@ pub fn file_of(alloc: Global, matches: &ArgMatches<'_>) -> Result<Option<String>
     }
 }
 
-/// The number that an option has.
+/// Returns the number of an option.
 pub fn number_of(matches: &ArgMatches<'_>, id: &str, least: u64, most: u64) -> u64
     requires { HasNumber id.now least most (rows_of (found_of matches.now)) }
     ensures value { result ≡ number_of id.now (rows_of (found_of matches.now)) }
@@ -155,7 +158,7 @@ pub fn number_of(matches: &ArgMatches<'_>, id: &str, least: u64, most: u64) -> u
     matches.get_one::<u64>(id).unwrap_or(0)
 }
 
-/// The text that an option has.
+/// The text of an option.
 fn text_of<'a>(matches: &ArgMatches<'a>, id: &str) -> &'a str
     ensures { result.now ≡ text_of id.now (rows_of (found_of matches.now)) }
 {
@@ -172,7 +175,7 @@ fn show_named(word: &str) -> Show
     }
 }
 
-/// Why clap refuses the words: its text, or that there was no memory.
+/// Turns clap's error into a fault with its text, or `NoMemory` if memory runs out.
 pub fn fault_of(alloc: Global, error: &Error) -> WordsFault
     ensures { FaultOf (kind_of error.now) result }
 {

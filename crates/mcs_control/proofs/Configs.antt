@@ -1,4 +1,4 @@
--- What passed the check is in range.
+-- A configuration that passed the check is in range.
 use Rattle.std.proofs.Common.{arith, rules}
 use Rattle.mcs_control.specs.Control.{PassedAreConfigs}
 

@@ -20,7 +20,7 @@ use Rattle.mcs_control.specs.Context.{Context, Budget, first_budget, budget_char
 use Rattle.mcs_control.specs.Context.Budget.{Dates, Slice}
 use Rattle.mcs_control.specs.laws.Contexts.{IsBudgetOf, IsContext, ContextsAreKept, ConsumedAreSpaced, consumed_from}
 
--- the kind tells how the budget and the period compare
+-- the kind decides how the budget and the period compare
 module _ (config : Config) where
   pub less-sporadic : config.budget < config.period → kind_of config ≡ kind.Sporadic
   less-sporadic l = grind (arith, nat_tests)
@@ -94,7 +94,7 @@ consumed-same config mode [] dates = refl
 consumed-same config mode (Charge k min_budget ∷ steps) dates = ap (λ xs. take k dates ++ xs) (consumed-same config mode steps (with_enough min_budget (charged k config.period (max_refills_of config) dates)))
 consumed-same config mode (Unblock t ∷ steps) dates = consumed-same config mode steps (unblocked t dates)
 
--- and from a slice none are
+-- and a slice gives no dates
 consumed-none : (config : Config) (mode : Mode) (steps : List Step) (left : ℕ) → consumed_from steps (record { config = config; mode = mode; budget = Slice left }) ≡ []
 consumed-none config mode [] left = refl
 consumed-none config mode (Charge k min_budget ∷ steps) left =

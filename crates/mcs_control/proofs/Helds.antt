@@ -1,4 +1,4 @@
--- What the type holds stays as it must.
+-- The invariant of the type is kept.
 use Rattle.std.proofs.Common.{◌≡◌, ◌≢◌, ℕ, ◌<◌, ◌≤◌, List, refl, subst, arith}
 use Rattle.mcs_refills.specs.Server.{Server, new_server, server_charged, server_reconfigured, charged, with_enough}
 use Rattle.mcs_refills.specs.Slice.{TimeSlice, full_slice, charged_slice, reconfigured_slice}

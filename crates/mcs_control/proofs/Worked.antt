@@ -25,7 +25,7 @@ round_robin = new_context (config 3 3 0) modes.Sporadic 0
 abbrev bandwidth : Context
 bandwidth = new_context (config 10 100 0) modes.Bandwidth 0
 
--- the check, fault by fault: the first stands before all others
+-- the check, fault by fault: the first has precedence over all others
 zero_budget_is_first : checked 4 (config 0 0 65) ≡ Err ZeroBudget
 zero_budget_is_first = refl
 
@@ -124,7 +124,8 @@ dates_in_use = refl
 slice_has_no_dates : consumed_from (Charge 3 1 ∷ Unblock 50 ∷ Charge 2 1 ∷ []) round_robin ≡ []
 slice_has_no_dates = refl
 
--- what views show of a budget of 10 in 100 with two refills: 7 ticks from 3 on and 3 from 100 on, of whose head 2 are in use
+-- views of a budget of 10 in 100 with two refills, 7 ticks from 3 on and 3 from 100 on; 2 ticks of
+-- the head are in use
 abbrev seen : ℕ → ContextView
 seen using = record { context = 0; refills = record { begins = 3; amount = 7 } ∷ record { begins = 100; amount = 3 } ∷ []; left = None; using = using }
 
@@ -139,7 +140,7 @@ budget_is_shown = record {
 more_than_the_head_in_use : ShowsBudget (config 10 100 0) (seen 8) → ⊥
 more_than_the_head_in_use h = omega (arith, h.using)
 
--- 7 and 3 ticks are not the budget where that is 11
+-- 7 and 3 ticks are not the budget if that is 11
 another_budget_in_force : ShowsBudget (config 11 100 0) (seen 2) → ⊥
 another_budget_in_force h = omega (arith, h.refills.all)
 

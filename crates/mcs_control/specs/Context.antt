@@ -11,12 +11,12 @@ use Rattle.mcs_refills.specs.Server as server
 use Rattle.mcs_refills.specs.Slice.{slice_charged, slice_reconfigured}
 use Rattle.mcs_control.specs.Control.{kind_of}
 
--- the budget of a context: a sporadic server's dates, or what is left of a round robin context's slice
+-- the budget of a context: the dates of a sporadic server, or the rest of a round-robin slice
 pub data Budget : Type 0 where
   Dates : List ℕ → Budget
   Slice : ℕ → Budget
 
--- its dates; a slice has none
+-- its dates; a slice has no dates
 abbrev pub dates_in : Budget → List ℕ
 dates_in (Dates dates) = dates
 dates_in (Slice left) = []
@@ -26,12 +26,12 @@ pub record Context : Type 0 where
   pub mode : Mode
   pub budget : Budget
 
--- a context, and for how many refills there is room
+-- a context and its capacity for refills
 pub record WithRoom : Type 0 where
   pub context : Context
   pub room : ℕ
 
--- at most this many refills
+-- the maximum number of refills
 abbrev pub max_refills_of : Config → ℕ
 max_refills_of config = 2 + config.extra
 
@@ -50,7 +50,7 @@ budget_charged k min_budget config (Dates dates) =
     Dates (server.charged_with_enough k min_budget config.period (max_refills_of config) dates)
 budget_charged k min_budget config (Slice left) = Slice (slice_charged k config.budget left)
 
--- charged k ticks
+-- the context after a charge of k ticks
 abbrev pub context_charged : ℕ → ℕ → Context → Context
 context_charged k min_budget context =
     record context { budget = budget_charged k min_budget context.config context.budget }
@@ -59,7 +59,7 @@ abbrev pub budget_unblocked : ℕ → Budget → Budget
 budget_unblocked t (Dates dates) = Dates (server.unblocked t dates)
 budget_unblocked t (Slice left) = Slice left
 
--- unblocked at t
+-- the context unblocked at t
 abbrev pub context_unblocked : ℕ → Context → Context
 context_unblocked t context = record context { budget = budget_unblocked t context.budget }
 
@@ -75,7 +75,7 @@ abbrev pub chosen_by : Mode → ℕ → Context → Context
 chosen_by modes.Sporadic t context = context
 chosen_by modes.Bandwidth t context = context_unblocked t context
 
--- its thread is chosen at t: this unblocks it in bandwidth mode, and else does nothing
+-- its thread is chosen at t: this unblocks it in bandwidth mode, and otherwise changes nothing
 abbrev pub context_chosen : ℕ → Context → Context
 context_chosen t context = chosen_by context.mode t context
 
@@ -83,7 +83,7 @@ abbrev pub budget_ordered : ℕ → Config → Budget → Budget
 budget_ordered t config (Dates dates) = Dates (server.reconfigured t config.budget config.period dates)
 budget_ordered t config (Slice left) = Slice (slice_reconfigured config.budget left)
 
--- ordered at t to have another configuration; its mode stays
+-- an order at t sets another configuration; the mode stays
 abbrev pub context_ordered : ℕ → Config → Context → Context
 context_ordered t config context = record context { config = config; budget = budget_ordered t config context.budget }
 
@@ -99,7 +99,7 @@ abbrev pub amount_of : Budget → ℕ
 amount_of (Dates dates) = server.head_amount dates
 amount_of (Slice left) = left
 
--- the head's amount
+-- the amount of the head
 abbrev pub head_amount : Context → ℕ
 head_amount context = amount_of context.budget
 
@@ -107,25 +107,25 @@ abbrev pub moment_of : Budget → ℕ
 moment_of (Dates dates) = server.first_date dates
 moment_of (Slice left) = 0
 
--- the head's moment
+-- the moment of the head
 abbrev pub head_moment : Context → ℕ
 head_moment context = moment_of context.budget
 
--- the date with which the context's thread must wait, if the context isn't ready at t
+-- the date with which the context's thread must wait, if the context is not ready at t
 abbrev pub date_from : ℕ → Context → Option ℕ
 date_from t context = if context_ready t context then None else Some (head_moment context)
 
--- the refills of a sporadic context, and none for round robin
+-- the refills of a sporadic context; empty for round-robin
 abbrev pub refills_shown : Budget → List Refill
 refills_shown (Dates dates) = server.refills_of dates
 refills_shown (Slice left) = []
 
--- what is left of a round robin context's slice
+-- the rest of a round-robin context's slice
 abbrev pub left_shown : Budget → Option ℕ
 left_shown (Dates dates) = None
 left_shown (Slice left) = Some left
 
--- what there is to see of a context: its number, its refills or what is left of its slice, and the ticks in use
+-- the view of a context: its number, its refills or the rest of its slice, and the ticks in use
 abbrev pub view_of : ℕ → ℕ → Context → ContextView
 view_of number using context =
     record { context = number; refills = refills_shown context.budget; left = left_shown context.budget; using = using }

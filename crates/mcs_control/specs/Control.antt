@@ -1,4 +1,4 @@
--- What SchedControl accepts.
+-- The configurations that SchedControl accepts.
 use Rattle.std.specs.Prelude.{◌≡◌, ℕ, ◌^◌, ◌≤◌, Bool, true, false, ◌==◌, nat_lt, IsTrue, if◌then◌else◌, Result, Ok, Err}
 use Rattle.mcs_control.specs.declared.config.Config.{Config}
 use Rattle.mcs_control.specs.declared.config.Kind.{Kind}
@@ -8,11 +8,12 @@ use Rattle.mcs_control.specs.declared.config.Mode.TheVariants as modes
 use Rattle.mcs_control.specs.declared.config.ControlFault.{ControlFault}
 use Rattle.mcs_control.specs.declared.config.ControlFault.TheVariants.{ZeroBudget, BudgetTooSmall, BudgetOverPeriod, PeriodTooLong, TooManyRefills}
 
--- round robin where the budget is the period
+-- round-robin if the budget equals the period
 abbrev pub kind_of : Config → Kind
 kind_of config = if config.budget == config.period then RoundRobin else Sporadic
 
--- whether a context of this kind may have the mode: a round robin one is never unblocked, so it has no mode but the first
+-- whether a context of this kind may have the mode: a round-robin context is never unblocked, so it
+-- has only the first mode
 abbrev pub takes : Kind → Mode → Bool
 takes Sporadic mode = true
 takes RoundRobin modes.Sporadic = true
@@ -31,7 +32,7 @@ checked min_budget config =
     else if nat_lt 64 config.extra then Err TooManyRefills
     else Ok (kind_of config)
 
--- a configuration that passes the check, whatever the least budget was
+-- a configuration that passes the check, for any minimum budget
 pub record IsConfig (config : Config) : Type 0 where
   pub some : 1 ≤ config.budget
   pub within : config.budget ≤ config.period

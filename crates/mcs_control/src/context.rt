@@ -11,16 +11,16 @@ use mcs_ticks::{ContextId, NoMemory, Sequence, Tick};
 use std::alloc::Global;
 use std::marker::Model;
 
-/// What a context has to spend, by kind.
+/// The budget of a context, by kind.
 #[derive(Drop)]
 enum Budget {
     Sporadic(Refills),
     RoundRobin(Slice),
 }
 
-/// A scheduling context: the configuration in force, its mode, and its refills or its time slice. Contracts see the context, by its
-/// budget dates or by what is left of its slice, and beside it for how many refills there is room. Only [`Context::new`] and
-/// [`Context::view`] take memory.
+/// A scheduling context: the configuration in force, its mode, and its refills or its time slice.
+/// Contracts see the context (its budget dates, or the rest of its slice) and its capacity for
+/// refills. Only [`Context::new`] and [`Context::view`] allocate memory.
 #[derive(Drop)]
 pub struct Context {
     config: Config,
@@ -55,8 +55,9 @@ impl Budget {
 }
 
 impl Context {
-    /// A context that may be used from `at` on, at most 2^40. A round robin one has the mode `Sporadic`. There is room for `room`
-    /// refills, 2 to 66; a round robin context takes no memory. `NoMemory` is answered where the room is refused.
+    /// Returns a context that may be used from `at` on, at most 2^40. A round-robin context has
+    /// mode `Sporadic` and allocates no memory. A sporadic one has room for `room` refills, 2 to
+    /// 66. Fails with `NoMemory` if the allocation fails.
     pub fn new(
         alloc: Global,
         config: Config,
@@ -93,8 +94,9 @@ impl Context {
         })
     }
 
-    /// Charges ticks of the head, by kind: the first ticks of the refills return a period later, and then the head has at least
-    /// `min_budget`; a slice that is used up is full again.
+    /// Charges ticks of the head. Sporadic: they return a period later, and a head of fewer than
+    /// `min_budget` ticks joins the refills after it. Round-robin: an exhausted slice is full
+    /// again.
     #[inline(always)]
     pub fn charge(&mut self, ticks: u64, min_budget: u64)
         requires some { 1 ≤ ticks }
@@ -109,8 +111,8 @@ impl Context {
         }
     }
 
-    /// A notification wakes the context's thread at `t`: in mode `Sporadic` the refills are unblocked. Nothing changes in mode
-    /// `Bandwidth`, nor does a slice.
+    /// Records that a notification wakes the context's thread at `t`: in mode `Sporadic` the
+    /// refills are unblocked. In mode `Bandwidth`, and for a slice, nothing changes.
     pub fn wake(&mut self, t: Tick)
         requires { t ≤ 2 ^ 40 }
         ensures context { self.new.context ≡ context_woken t self.old.context }
@@ -122,7 +124,8 @@ impl Context {
         }
     }
 
-    /// The context's thread is chosen at `t`: in mode `Bandwidth` the refills are unblocked. Nothing changes in mode `Sporadic`.
+    /// Records that the context's thread is chosen at `t`: in mode `Bandwidth` the refills are
+    /// unblocked. In mode `Sporadic` nothing changes.
     #[inline(always)]
     pub fn chosen(&mut self, t: Tick)
         requires { t ≤ 2 ^ 40 }
@@ -135,7 +138,8 @@ impl Context {
         }
     }
 
-    /// A SchedControl order at `t`: this configuration, of the same kind, is in force from now on. The mode does not change.
+    /// Applies a SchedControl order at `t`: this configuration, of the same kind, is in force from
+    /// now on. The mode does not change.
     pub fn order(&mut self, t: Tick, config: Config)
         requires early { t ≤ 2 ^ 40 }
         requires checked { IsConfig config }
@@ -154,21 +158,21 @@ impl Context {
         self.config = config;
     }
 
-    /// The configuration in force: that of the last order, or else the first.
+    /// Returns the configuration in force: the one of the last order, or else the first.
     pub fn config(&self) -> Config
         ensures { result ≡ self.now.context.config }
     {
         self.config
     }
 
-    /// The mode, which no order changes.
+    /// Returns the mode, which no order changes.
     pub fn mode(&self) -> Mode
         ensures { result ≡ self.now.context.mode }
     {
         self.mode
     }
 
-    /// Whether the context may be used at `t`. A round robin one always may.
+    /// Whether the context may be used at `t`. A round-robin context always may.
     pub fn ready(&self, t: Tick) -> bool
         ensures { result ≡ context_ready t self.now.context }
     {
@@ -178,7 +182,8 @@ impl Context {
         }
     }
 
-    /// The ticks of the head, at least 1: of the first refill, or what is left of the slice.
+    /// Returns the ticks of the head, at least 1: those of the first refill, or the rest of the
+    /// slice.
     pub fn head_amount(&self) -> u64
         ensures value { result ≡ head_amount self.now.context }
         ensures some { 1 ≤ result }
@@ -189,7 +194,7 @@ impl Context {
         }
     }
 
-    /// The moment from which the head may be used, 0 for a slice.
+    /// Returns the moment from which the head may be used, 0 for a slice.
     pub fn head_moment(&self) -> Tick
         ensures { result ≡ head_moment self.now.context }
     {
@@ -199,8 +204,8 @@ impl Context {
         }
     }
 
-    /// What there is to see of the context, which has the number `id` and of which `in_use` ticks are in use. `NoMemory` is
-    /// answered where the list of refills is refused.
+    /// Returns a view of the context under the number `id`, with `in_use` ticks in use. Fails with
+    /// `NoMemory` if the list of refills cannot be allocated.
     pub fn view(&self, alloc: Global, id: ContextId, in_use: u64) -> Result<ContextView, NoMemory>
         ensures { IfOk result (λ view. view ≡ view_of id in_use self.now.context) }
     {
@@ -216,7 +221,8 @@ impl Context {
         })
     }
 
-    /// A law of the type: each context's configuration passed its check, and its budget is one of its kind.
+    /// Law of the type: each context's configuration passed its check, and its budget fits its
+    /// kind.
     pub fn in_good_order(&self)
         ensures { IsContext self.now.context }
     {
@@ -224,7 +230,6 @@ impl Context {
     }
 }
 
-/// A copy of all refills.
 fn all_refills(alloc: Global, refills: &Refills) -> Result<Vec<Refill>, NoMemory>
     ensures { IfOk result (λ list. list.items ≡ refills_of refills.now.dates) }
 {

@@ -10,7 +10,7 @@ use Rattle.mcs_core.specs.declared.alarm.Alarm.{Alarm}
 use Rattle.mcs_core.specs.stored.Places.{alarm_at, AreSilent, IsFirstPlace, AreFirsts, IsFoundIn, block}
 use Rattle.mcs_core.proofs.Ringing.{at-place, no-place, none-come}
 
--- where none of some alarms rings, not one does
+-- if no alarm of a list rings first, each is silent
 silent-all : (t : ℕ) (alarms : List Alarm) → first_ringing t alarms ≡ None → (k : ℕ) → rings t (alarm_at alarms k) ≡ false
 silent-all t [] e k = refl
 silent-all t (x ∷ xs) e k = by (rings t x) refl e k (silent-all t xs)

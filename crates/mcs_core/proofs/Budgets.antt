@@ -61,7 +61,7 @@ ordered-kept t min_budget config context a h = by context.budget h
     by (Dates dates) h = kept-reconfigured config.budget config.period t dates a.within
     by (Slice left) h = (omega (arith, h.0, a.some), omega arith)
 
--- an order puts the head no later than itself or where it was
+-- after an order the head is at most the later of its date before and the order's moment
 pub ordered-early : (t min_budget : ℕ) (config : Config) (context : Context) → t ≤ 2 ^ 40 → 1 ≤ config.budget → 1 ≤ context.config.budget → IsWhole context.config context.budget →
     head_moment context ≤ 2 ^ 40 → head_moment (context_ordered t config context) ≤ 2 ^ 40
 ordered-early t min_budget config context l some some_now h early = by context.budget h early
@@ -76,7 +76,7 @@ ordered-early t min_budget config context l some some_now h early = by context.b
         first (suc n) more p q = q
     by (Slice left) h early = omega arith
 
--- and no more than there are dates
+-- and at most as many as there are dates
 pub head-most : (dates : List ℕ) → server.head_amount dates ≤ length dates
 head-most [] = omega arith
 head-most (date ∷ dates) = grind (arith, head-most dates)

@@ -106,7 +106,8 @@ first-release clock ds h s = by (earliest ds) refl
 pub first-now : (clock : ℕ) (P : ℕ → Type 0) → clock ≤ 2 ^ 42 → (P 0 → ⊥) → IsFirst clock P (Some clock)
 first-now clock P l h = (0, omega arith, l, λ m k. absurd (omega arith), h)
 
--- an item goes on as long as more than one tick of it is left; one that never ends has more than any run
+-- an item continues as long as more than one tick of it is left; one that never ends has more than
+-- any run
 goes-on : (left n : ℕ) → n + 1 < left → 1 < left_after n left
 goes-on left n h = grind (arith, nat_tests)
 
@@ -143,7 +144,8 @@ goes-back : (left left' using head n : ℕ) → left' ≡ left_after n left → 
 goes-back left left' using head n e a b = (rw (left-none left', e) at a, omega arith)
 
 module _ (system : System) (c : ℕ) where
-  -- of the turn after so many, what is asked of the core before them on which this thread runs
+  -- the conditions of the turn after n quiet ones, on the core before them, on which this thread
+  -- runs
   abbrev pub StaysQuiet : ℕ → List Mail → Core → Option Chosen → ℕ → Type 0
   StaysQuiet clock box core o n =
       GoesOnAfter system n o core

@@ -121,7 +121,7 @@ module _ (queue : Discipline) (system : System) (takes_time : TakesTime system) 
   unfolding after
   core-next t c h = core-after system.cores t 0 c (clocks.clock_with queue system t) (omega arith) (omega arith) (rw (length-clock t) (omega arith))
 
-  -- the schedule goes on by the rows of each core's turn at t
+  -- the schedule grows by the rows of each core's turn at t
   pub rows-next : (t : ℕ) → (clocks.clock_with queue system (suc t)).rows ≡ (clocks.clock_with queue system t).rows ++ flat_map (rows_in t (clocks.clock_with queue system t).world) (range_with_len 0 system.cores)
   unfolding after
   rows-next t = rows-after system.cores t 0 (clocks.clock_with queue system t)
@@ -205,7 +205,7 @@ module _ (system : System) (takes_time : TakesTime system) where
   pub core_shown-kept : (t c : ℕ) → c < system.cores → clocks.core_shown system (clocks.world system (suc t)) c ≡ (turn_kept system c t).core
   core_shown-kept t c h = core_shown-world t c h ∙ ap (λ (made : Turn). made.core) (turn_of-kept system c t)
 
-  -- the schedule goes on by the rows of each core's turn at t
+  -- the schedule grows by the rows of each core's turn at t
   pub rows-clock : (t : ℕ) → (clocks.clock system (suc t)).rows ≡ (clocks.clock system t).rows ++ flat_map (λ c. clocks.rows_of system c t) (range_with_len 0 system.cores)
   rows-clock t = rows-next in_one_list system takes_time t
 

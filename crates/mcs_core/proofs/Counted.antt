@@ -1,4 +1,4 @@
--- The end of a tick, before which so many quiet ones are counted.
+-- The end of a tick, after a number of quiet ones that are counted.
 use Rattle.std.proofs.Common.{◌≡◌, ℕ, suc, ◌+◌, ◌<◌, length, sym, ap, ◌∙◌, subst, Some, None, arith, add-one}
 use Rattle.std.specs.Prelude.{IfSome}
 use Rattle.mcs_ticks.specs.Queue.{by_priority}
@@ -53,7 +53,7 @@ module _ (system : System) (c n : ℕ) (chosen : Chosen) (core : Core) (e : core
           let same : chosen.using + (n + 1) ≡ used = omega arith in
           subst P same (can_stop system c t each (record { thread = chosen.thread; using = chosen.using + (n + 1) }) after counted-sound runs)
 
--- where no thread runs, nothing happens
+-- if no thread runs, nothing happens
 pub tick-idle : (system : System) (c n t : ℕ) (core : Core) → core.running ≡ None → tick by_priority system c t (counted_times system c n core) ≡ silent core
 tick-idle system c n t core e =
     ap (λ (k : Core). tick by_priority system c t k) (counted-idle system c n core e) ∙ ap (λ o. tick_of by_priority system c t o core) e

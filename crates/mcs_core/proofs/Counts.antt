@@ -1,4 +1,4 @@
--- How often a thread stands in a queue, when threads enter and leave.
+-- How often a thread is in a queue, when threads enter and leave.
 use Rattle.std.proofs.Common.{◌≡◌, ℕ, zero, suc, ◌+◌, ◌<◌, ◌≤◌, Bool, true, false, cond, List, [], ◌∷◌, ◌++◌, length, get_or, set, refl, ap, subst, arith}
 use Rattle.std.specs.Prelude.{◌==◌, Some}
 use Rattle.std.proofs.lemmas.Bool.Decides.{nat_tests}
@@ -15,7 +15,7 @@ pub either : {A : Type 0} (P : A → Type 0) (b : Bool) (x y : A) → P x → P 
 either P true x y p q = p
 either P false x y p q = q
 
--- 1 where the numbers are equal
+-- 1 if the numbers are equal
 abbrev pub one_if_same : ℕ → ℕ → ℕ
 one_if_same x y = cond (x == y) 1 0
 
@@ -68,7 +68,7 @@ times_waiting-at x n [] = omega arith
 times_waiting-at x zero (y ∷ ys) = omega arith
 times_waiting-at x (suc n) (y ∷ ys) = omega (arith, times_waiting-at x n ys)
 
--- a thread that never stands in a queue isn't held by it
+-- a thread that is never in a queue isn't held by it
 pub not_held_ready : (x : ℕ) (ys : List Queued) → times_queued x ys ≡ 0 → is_held_ready x ys ≡ false
 not_held_ready x [] e = refl
 not_held_ready x (y ∷ ys) e = grind (arith, not_held_ready x ys)

@@ -1,4 +1,4 @@
--- What a sound core lets the code do: an item takes effect, and its thread stops.
+-- Steps that a sound core allows the code: an item takes effect, and its thread stops.
 use Rattle.std.proofs.Common.{◌≡◌, ℕ, ◌+◌, ◌^◌, ◌<◌, ◌≤◌, length, refl, ap, ◌∙◌, arith}
 use Rattle.std.specs.Prelude.{Option, Some, None}
 use Rattle.mcs_ticks.specs.Queue.{by_priority}
@@ -132,7 +132,7 @@ module _ (system : System) (number from : ℕ) (each : IsOneEach system) where
       can_stop chosen _ m (moves-running system number from each t chosen.thread _ ∙ i)
   can_stop_after t chosen None core l f k h e = can_stop chosen core h e
 
-  -- the running thread has used no more than a budget
+  -- the running thread has used at most a budget
   pub runner_small : (chosen : Chosen) (core : Core) → IsSound system number from Between None core → core.running ≡ Some chosen → chosen.using < 2 ^ 40
   runner_small chosen core h e =
       let r = runner system number from each Between chosen core h e in

@@ -37,7 +37,7 @@ pub not-come : (b : Bool) (P : Type 0) → (IsTrue b ↔ P) → not b ≡ true �
 not-come true P h e p = cc
 not-come false P h e p = let f : false ≡ true = h.1 p in cc
 
--- where no thread is taken, none is left
+-- if no thread is taken, no thread is left
 pub nothing-ready : (queue : List Queued) → thread_of_queued (first_of queue) ≡ None → first_of (rest_of queue) ≡ None
 nothing-ready [] e = refl
 nothing-ready (x ∷ xs) e = cc
@@ -57,17 +57,17 @@ kept-context zero context (x ∷ xs) own = refl
 kept-context (suc k) context (x ∷ xs) own = kept-context k context xs own
 
 module _ (system : System) where
-  -- before the first end the thread that runs goes on
+  -- before the first end the running thread continues
   pub goes-before : (clock n moment : ℕ) (core : Core) (ends : Option ℕ) → IsEnd system clock core ends → moment ≡ clock + n → moment ≤ 2 ^ 42 → (HasCome moment ends → ⊥) →
       GoesOnAfter system n core.running core
   goes-before clock n moment core ends h e l f =
       (holds-before clock n moment (λ n. GoesOnAfter system n core.running core × IsBest core core.running (first_of core.ready)) ends h e l f).0
 
-  -- where no thread runs and none is ready
+  -- no thread runs and no thread is ready
   pub never-ends : (from : ℕ) (core : Core) → core.running ≡ None → first_of core.ready ≡ None → IsEnd system from core None
   never-ends from core e f = rw (e, f) (λ n l. (tt, tt))
 
-  -- where the thread that runs is to go on running
+  -- the running thread continues
   pub goes-ends : (from : ℕ) (core : Core) (ends : Option ℕ) → (core.running ≡ None → ⊥) → HoldsOn system core → IsFirst from (λ n. GoesOnAfter system n core.running core) ends → IsEnd system from core ends
   goes-ends from core ends e h first = first-same from (λ n. GoesOnAfter system n core.running core) _ ends (λ n p. (p, by core.running e h)) (λ n q. q.0) first
     where
@@ -75,7 +75,7 @@ module _ (system : System) where
       by (Some x) f g = g
       by None f g = absurd (f refl)
 
-  -- when a thread has had to give way to a better one, none is better than the one that runs
+  -- after a preemption no ready thread is better than the running one
   pub preempted-holds : (t : ℕ) (core : Core) → HoldsOn system (preempts by_priority system t core).core
   preempted-holds t core = by core.running (first_of core.ready) refl refl
     where
@@ -105,7 +105,7 @@ module _ (system : System) where
           let u : chosen.using < head_amount (its_context system chosen.thread core) + slack phase = r.unspent in
           record { known = rw h.threads p.known; part = p.known; has = p.has; unspent = omega arith }
 
-  -- after the count of a tick with which the thread goes on, nothing follows
+  -- after the count of a tick with which the thread continues, nothing follows
   pub counted-goes : (c t n used : ℕ) (chosen : Chosen) (core left : Core) → chosen.thread < length core.threads → used ≡ chosen.using + n + 1 → left ≡ counted_by (n + 1) chosen core →
       GoesOnAfter system n (Some chosen) core → after_count by_priority system c t chosen.thread used left ≡ silent left
   counted-goes c t n used chosen core left known e f h =

@@ -53,7 +53,7 @@ held-found k xs now old h = ap (held k) (sym h.seen) ∙ held-at k xs old h.at
 pub room-found : (k : ℕ) (xs : List (Option Kept)) (now : List (Option Context)) (old : Kept) → IsFound k xs now old → HaveRoom xs → old.value.room ≡ 66
 room-found k xs now old h r = room-at k xs old h.at r
 
--- it is changed there, where it was lent
+-- it is changed in the place from which it was lent
 pub changed-held : (k : ℕ) (xs : List (Option Kept)) (now : List (Option Context)) (old : Kept) (lent new : WithRoom) (f : Context → Context) → IsFound k xs now old → lent ≡ old.value →
     new.context ≡ f lent.context → new.context ≡ f (held k now)
 changed-held k xs now old lent new f h l g = g ∙ ap (λ (x : WithRoom). f x.context) l ∙ ap f (sym (held-found k xs now old h))

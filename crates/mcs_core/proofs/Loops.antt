@@ -47,7 +47,7 @@ module _ {S : Type 0} {takes : S → Row → Bool → S → Type 0} where
           by : Makes takes here (part first.core) core' between after → Makes takes here (first followed_by part) core' before after
           by k = record { core = k.core; adds = then-adds here first.rows (part first.core).rows first.mails (part first.core).mails before between after h.adds k.adds }
 
-  -- nothing is told and nothing is sent
+  -- no row is emitted and no signal is sent
   pub no-adds : (here : Here) (log : Log S) → Adds takes here [] [] log log
   no-adds here log = record { rows = refl; signals = sym (append-nil log.signals.now.items); same_sink = refl; same_signals = refl }
 
@@ -92,7 +92,7 @@ first-due-is system c t order (x ∷ xs) h p e = by (nat_le x.moment t) refl e
         }
     by false f g = cc
 
--- where none is due
+-- no item is due
 pub none-due-now : (t : ℕ) (orders : List Order) → AreByMoment t orders → first_due t orders ≡ None → due_now t orders ≡ []
 none-due-now t [] h e = refl
 none-due-now t (x ∷ xs) h e = let l : t < x.moment = grind (arith, nat_tests) in due-none t x.moment (x ∷ xs) l (omega arith, h.1)

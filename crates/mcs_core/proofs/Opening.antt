@@ -116,7 +116,7 @@ module _ (system : System) (c : ℕ) where
       let l : k < length system.contexts = context-within k h in
       ap (λ o. unwrap_or o no_server) (context-at k 0 k system.contexts (omega arith) l) ∙ rw (sym (context-own k l) ∙ h) refl
 
-  -- where a thread stands, and what it then is
+  -- the standing of a thread, and its state then
   record IsOwn (x : ℕ) : Type 0 where
     known : x < length system.threads
     own : (core_of system (thread_part system x) == c) ≡ true
@@ -258,8 +258,7 @@ pub room-next : (kept : List (Option Kept)) (more : Option Kept) → HaveRoom ke
 room-next [] more h r = (r, tt)
 room-next (x ∷ kept) more h r = (h.0, room-next kept more h.1 r)
 
--- and the notifications, as many quiet ones
--- the first so many have their first words, and the others none
+-- and the notifications: the first n have their first words, and the others are still quiet
 abbrev pub opened_notes : ℕ → List NotePart → List Note
 opened_notes n [] = []
 opened_notes zero (note ∷ notes) = quiet_note ∷ opened_notes zero notes

@@ -99,7 +99,7 @@ pub due-to_come : (t : ℕ) (os : List Order) → due_now t (to_come t os) ≡ d
 due-to_come t [] = refl
 due-to_come t (o ∷ os) = grind (arith, nat_tests, due-to_come t os)
 
--- where all are later there are none
+-- if all are later there is no such item
 pub due-none : (t s : ℕ) (os : List Order) → t < s → AreByMoment s os → due_now t os ≡ []
 due-none t s [] l h = refl
 due-none t s (o ∷ os) l h = grind (arith, nat_tests, h.0, due-none t o.moment os (omega (arith, h.0)) h.1)

@@ -79,7 +79,8 @@ module _ (queue : Discipline) (system : System) (c : ℕ) where
   obeys-some : (t : ℕ) (order : Order) (core : Core) → (obeys queue system t order core).rows ≡ [] → ⊥
   obeys-some t order core e = cc
 
-  -- where they make no row, each makes none: the end of the tick, arrivals, orders, releases, the one that gives way and the choice
+  -- if they make no row, each part makes no row: the end of the tick, arrivals, orders, releases, the
+  -- preemption and the choice
   pub record HasNoRow (t : ℕ) (mails : List Mail) (first : Turn) : Type 0 where
     pub ticked : first.rows ≡ []
     pub no_alarm : ringing t (alarms_at system c t) ≡ []
@@ -154,7 +155,7 @@ module _ (system : System) (c : ℕ) where
       thread_of (counts chosen core) chosen.thread ≡ record (thread_of core chosen.thread) { place = record ((thread_of core chosen.thread).place) { left = left_after 1 (thread_of core chosen.thread).place.left } }
   counted-thread chosen core l = set-same chosen.thread _ core.threads l
 
-  -- the end of the tick of a thread that goes on
+  -- the end of the tick of a thread that continues
   tick-goes : (t : ℕ) (o : Option Chosen) (core : Core) → ((chosen : Chosen) → o ≡ Some chosen → chosen.thread < length core.threads) → GoesOnAfter system 0 o core → tick_of by_priority system c t o core ≡ silent (counted_of system c o core)
   tick-goes t None core k h = refl
   tick-goes t (Some chosen) core k h =
@@ -170,7 +171,7 @@ module _ (system : System) (c : ℕ) where
       other : (n m : ℕ) → n + 0 + 1 ≢ m → (n + 1 == m) ≡ false
       other n m h = grind (arith, nat_tests)
 
-  -- a turn is quiet when the thread that runs goes on and nothing else happens
+  -- a turn is quiet when the running thread continues and no other event comes
   pub quiet-when : (t : ℕ) (mails : List Mail) (core : Core) → ((chosen : Chosen) → core.running ≡ Some chosen → chosen.thread < length core.threads) →
       GoesOnAfter system 0 core.running core → IsCalm t mails (counted system c core) → IsQuietWith by_priority system c t mails core
   quiet-when t mails core k goes calm = ap (after_tick by_priority system c t mails) (tick-goes t core.running core k goes) ∙ calm-silent t mails (counted system c core) calm
@@ -184,7 +185,7 @@ module _ (system : System) (c : ℕ) where
   best_is t (Some chosen) None core e f = tt
   best_is t (Some chosen) (Some best) core e f = grind arith
 
-  -- where the parts after the end of the tick make no row, nothing happens in them
+  -- if the parts after the end of the tick make no row, nothing happens in them
   calm-rows : (t : ℕ) (mails : List Mail) (core : Core) → (after_tick by_priority system c t mails (silent core)).rows ≡ [] → IsCalm t mails core
   calm-rows t mails core e =
       let none = no-row by_priority system c t mails (silent core) e in
@@ -243,7 +244,7 @@ module _ (system : System) (c : ℕ) where
           by true h = cc
           by false h = cc
 
-  -- in a quiet turn the thread that runs goes on
+  -- in a quiet turn the running thread continues
   pub quiet-goes : (t : ℕ) (mails : List Mail) (core : Core) →
       ((chosen : Chosen) → core.running ≡ Some chosen → (chosen.thread < length core.threads) × ((thread_of core chosen.thread).place.item < length (thread_part system chosen.thread).script)) →
       IsQuietWith by_priority system c t mails core → GoesOnAfter system 0 core.running core
@@ -279,7 +280,7 @@ module _ (system : System) (c : ℕ) where
               let s = finishes-silent t chosen.thread (chosen.using + 1) item (counts chosen core) within rows in
               absurd (moved-busy t mails chosen.thread (counts chosen core) first (rw length-set (known chosen e').0) s.no_wait s.next s.placed q)
 
-  -- and nothing else happens in it
+  -- and no other event comes in it
   pub quiet-calm : (t : ℕ) (mails : List Mail) (core : Core) → ((chosen : Chosen) → core.running ≡ Some chosen → chosen.thread < length core.threads) → GoesOnAfter system 0 core.running core →
       IsQuietWith by_priority system c t mails core → IsCalm t mails (counted system c core)
   quiet-calm t mails core k goes q =

@@ -17,7 +17,7 @@ use Rattle.mcs_core.specs.State.{State}
 use Rattle.mcs_core.proofs.Alike.{turn_shown, turn-alike}
 use Rattle.mcs_core.proofs.Quiet.{none-each, no-row}
 
--- where it makes no row, it leaves the ready threads as they are on this core
+-- if it makes no row, it leaves the ready threads as they are on this core
 abbrev Keeps : Turn → Core → Type 0
 Keeps made k = made.rows ≡ [] → made.core.ready ≡ k.ready
 
@@ -57,7 +57,7 @@ module _ (system : System) (c : ℕ) where
   counted-ready : (o : Option Chosen) (k : Core) → (counted_of system c o k).ready ≡ k.ready
   counted-ready o k = grind arith
 
-  -- the turn of a core that keeps one list is quiet exactly where that of the core that is shown is
+  -- the turn of a core that keeps one list is quiet exactly if that of the shown core is
   pub quiet-alike : (t : ℕ) (mails : List Mail) (k : Core) → IsQuiet system c t mails k ↔ IsQuietWith by_priority system c t mails (shown k)
   quiet-alike t mails k = (
     λ q. sym (turn-alike system c t mails k) ∙ ap turn_shown q ∙ ap silent (counted-shown k.running k),

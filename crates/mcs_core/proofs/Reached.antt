@@ -13,7 +13,7 @@ use Rattle.mcs_core.specs.declared.unmeasured.Unmeasured.{Unmeasured}
 use Rattle.mcs_core.proofs.Runs.{to_come-twice}
 
 module _ {S : Type 0} (takes : S → Row → Bool → S → Type 0) where
-  -- each row goes to the sink behind it
+  -- each row goes to the wrapped sink
   abbrev Passes : Unmeasured S → Row → Bool → Unmeasured S → Type 0
   Passes before row taken after = (after.sink.ghost_name ≡ before.sink.ghost_name) × takes before.sink.now row taken after.sink.now
 
@@ -24,7 +24,7 @@ module _ {S : Type 0} (takes : S → Row → Bool → S → Type 0) where
   passed s t (row ∷ rows) g =
       let rest = passed g.0 t rows g.2 in (rest.0 ∙ g.1.0, (g.0.sink.now, g.1.1, rest.1))
 
--- turns up to a moment, or to the clock where that has passed it
+-- turns up to a moment, or to the clock if that has passed it
 module _ (system : System) (state : State) (to : ℕ) (box : List Mail) where
   pub made-past : made_by system state (max state.clock to) box ≡ made_by system state to box
   made-past = let many : max state.clock to - state.clock ≡ to - state.clock = omega arith in

@@ -117,7 +117,7 @@ none-rung t (x ∷ xs) e = by (rings t x) e (none-rung t xs)
     by true g others = cc
     by false g others = ap (λ (ys : List Alarm). x ∷ ys) (others g)
 
--- where none rings, they stay as they are
+-- if no alarm rings, they stay as they are
 pub past-none : (t : ℕ) (alarms : List Alarm) → ringing t alarms ≡ [] → past t alarms ≡ alarms
 past-none t [] e = refl
 past-none t (x ∷ xs) e = by (rings t x) e (past-none t xs)
@@ -146,7 +146,7 @@ ringing-known notes t (x ∷ xs) h =
     let i = ringing-known notes t xs h.1 in
     either (AllByRecursion (λ (alarm : Alarm). alarm.note < notes)) (rings t x) (x ∷ ringing t xs) (ringing t xs) (h.0.known, i) i
 
--- where none rings for a while, they stay as they are
+-- if no alarm rings for a while, they stay as they are
 pub stay-still : (n clock : ℕ) (beats : List Alarm) → ((m : ℕ) → m < n → ringing (clock + m) (before_moment (clock + m) beats) ≡ []) → before_moment (clock + n) beats ≡ before_moment clock beats
 stay-still zero clock beats h = let e : clock + zero ≡ clock = omega arith in ap (λ t. before_moment t beats) e
 stay-still (suc n) clock beats h =
@@ -237,7 +237,7 @@ first-alarm notes clock beats h small = by (first_date (before_moment clock beat
           λ f. one-rings date (before_moment clock beats) e (at-date (date - clock) date there (still (Some date) e (date - clock) (after (date - clock) (omega arith))) f),
         )
 
--- where none before a place rings, and the one at it does
+-- no alarm before a place rings, and the one at it does
 pub at-place : (t : ℕ) (alarms : List Alarm) (k : ℕ) → AreSilent t alarms k → k < length alarms → rings t (alarm_at alarms k) ≡ true → IsFirstPlace t alarms (Some k)
 at-place t [] k h l e = absurd (omega arith)
 at-place t (x ∷ xs) zero h l e = (omega arith, e, rw e refl, rw e refl, h)
@@ -285,7 +285,7 @@ short-set [] k x h l = tt
 short-set (y ∷ ys) zero x h l = (l, h.1)
 short-set (y ∷ ys) (suc k) x h l = (h.0, short-set ys k x h.1 l)
 
--- where the soonest date has not come none rings
+-- if the soonest date has not come no alarm rings
 first-none : (t : ℕ) (alarms : List Alarm) → ringing t alarms ≡ [] → first_ringing t alarms ≡ None
 first-none t [] e = refl
 first-none t (x ∷ xs) e = by (rings t x) e (first-none t xs)

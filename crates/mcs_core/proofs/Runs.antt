@@ -107,7 +107,7 @@ pub to_come-twice : (a b : ℕ) (os : List Order) → to_come a (to_come b os) �
 to_come-twice a b [] = refl
 to_come-twice a b (x ∷ xs) = grind (arith, nat_tests, to_come-twice a b xs)
 
--- what is so where nothing failed
+-- the facts if nothing failed
 pub on_ok-map : {A E : Type 0} (P Q : Type 0) (r : Result A E) → (P → Q) → OnOk r P → OnOk r Q
 on_ok-map P Q (Ok x) f p = f p
 on_ok-map P Q (Err x) f p = tt
@@ -146,7 +146,7 @@ module _ (system : System) where
         subst (λ (made : Ran). Given takes before made.rows after) (sym (made-through system u to state mid box left l k e f))
         (given-append takes before now after (made_by system state u box).rows (made_by system mid to left).rows g h)
 
-    -- where no row is made after some turns, nothing more is given
+    -- if no row is made after some turns, nothing more is given
     pub given-rest : {S : Type 0} (takes : S → Row → Bool → S → Type 0) (before now : S) → Given takes before (made_by system state u box).rows now →
         (made_by system mid to left).rows ≡ [] → Given takes before (made_by system state to box).rows now
     given-rest {S} takes before now g none = given-through takes before now now g (subst (λ (rows : List Row). Given takes now rows now) (sym none) refl)

@@ -42,7 +42,7 @@ IsEarlyTick o = IfSome o (λ m. m ≤ 2 ^ 42)
 early-some : (o : Option ℕ) → IsEarlyTick o → (m : ℕ) → o ≡ Some m → m ≤ 2 ^ 42
 early-some o h m e = grind arith
 
--- where no order is for this moment, those to come at it are those to come after it
+-- if no order is for this moment, those to come at it are those to come after it
 none-now : (t : ℕ) (os : List Order) → due_now t os ≡ [] → to_come t os ≡ to_come (t + 1) os
 none-now t [] e = refl
 none-now t (o ∷ os) e = grind (arith, nat_tests, none-now t os)
@@ -172,7 +172,7 @@ module _ (system : System) (state : State) (box : List Mail) (until : ℕ) (late
   abbrev pub quiet_state : State
   quiet_state = record state { clock = until; core = counted_times system state.number (until - state.clock) state.core }
 
-  -- what turns make of which all are quiet
+  -- the results of turns that are all quiet
   made-quiet : made_by system state until box ≡ record { core = quiet_state.core; rows = []; mails = []; box = box }
   made-quiet = quiet-ran by_priority system state.number (until - state.clock) state.clock state.core box quiet
 
@@ -236,7 +236,7 @@ module _ (system : System) (state : State) (box : List Mail) (until : ℕ) (late
         Given takes before (made_by system skipped (skipped.clock + 1) box).rows after → Given takes before (made_by system state new.clock box).rows after
     stretch-given takes before after told = subst (λ (made : Ran). Given takes before made.rows after) whole-stretch told
 
-  -- where no turn is taken after them
+  -- no turn is taken after them
   module _ (skipped : State) (same : skipped ≡ quiet_state) where
     pub quiet-made : made_by system state skipped.clock box ≡ record { core = skipped.core; rows = []; mails = []; box = box }
     quiet-made =

@@ -1,4 +1,5 @@
--- What keeps a core sound: threads that leave their place and enter another, and contexts, places and words that change.
+-- Changes that keep a core sound: threads that leave their place and enter another, and contexts,
+-- places and words that change.
 use Rattle.std.proofs.Common.{◌≡◌, ℕ, ◌+◌, ◌^◌, ◌<◌, ◌≤◌, ◌≢◌, ◌⊎◌, inl, inr, Bool, true, false, cond, List, [], ◌∷◌, length, refl, sym, ap, subst, ◌∙◌, arith}
 use Rattle.std.specs.Prelude.{◌==◌, Option, Some, None, unwrap_or}
 use Rattle.std.specs.List.{AllByRecursion}
@@ -26,12 +27,12 @@ abbrev pub IsOneEach : System → Type 0
 IsOneEach system =
     (x y : ℕ) → x < length system.threads → y < length system.threads → (thread_part system x).context ≡ (thread_part system y).context → x ≡ y
 
--- a thread on its way, and how often it then stands in a queue
+-- a thread on its way, and how often it is then in a queue
 one_way : (f : Standing → ℕ) (x y : ℕ) (s s' old : Standing) (before after : ℕ) →
     after + cond (x == y) (f s) 0 ≡ before + cond (x == y) (f s') 0 → before ≡ f (cond (x == y) s old) → after ≡ f (cond (x == y) s' old)
 one_way f x y s s' old before after e h = grind (arith, nat_tests)
 
--- a thread that stands so, as it is told when it is on its way
+-- a thread with this standing, as it counts on its way
 its-standing : (x y : ℕ) (s : Standing) (core : Core) → (thread_of core x).standing ≡ s → cond (x == y) s (thread_of core y).standing ≡ (thread_of core y).standing
 its-standing x y s core e = grind (arith, nat_tests)
 
@@ -55,7 +56,7 @@ module _ (system : System) where
     runs-same phase runs (Some chosen) p = record { stands = runs chosen.thread p.stands; used = p.used; unspent = rw (← same) p.unspent; early = rw (← same) p.early }
 
 module _ (system : System) (number from : ℕ) where
-  -- the thread on its way is taken to stand otherwise, and its queues tell that
+  -- the thread on its way counts with another standing, and its queues agree
   pub re_stands : (phase : Phase) (x : ℕ) (s s' : Standing) (core : Core) (running : Option Chosen) (ready : List Queued) (releases : List Dated) (notes : List Note) →
       IsSound system number from phase (Some (record { thread = x; standing = s })) core →
       ((y : ℕ) → times_queued y ready + cond (x == y) (times_ready s) 0 ≡ times_queued y core.ready + cond (x == y) (times_ready s') 0) →
@@ -87,7 +88,8 @@ module _ (system : System) (number from : ℕ) where
       here_is true old g = here
       here_is false old g = g
 
-  -- what is told of the threads in another way, or of another thread that runs or other words, in another phase or before another moment
+  -- the same threads counted in another way, or with another running thread or other words, in
+  -- another phase or before another moment
   pub retold : (later : ℕ) (phase phase' : Phase) (a b : Option Loose) (core : Core) (running : Option Chosen) (notes : List Note) →
       ((y : ℕ) → standing_of a y core ≡ standing_of b y (record core { running = running; notes = notes })) → length notes ≡ length core.notes →
       ((y : ℕ) → times_waiting y notes ≡ times_waiting y core.notes) → IsSound system number from phase a core → RunsRight system phase' running core →
@@ -122,7 +124,7 @@ module _ (system : System) (number from : ℕ) where
   loosened phase x s core e h =
       retold from phase phase None (Some (record { thread = x; standing = s })) core core.running core.notes (λ y. sym (its-standing x y s core e)) refl (λ y. refl) h h.running h.later
 
-  -- the state of one thread changes, and its standing as it is told
+  -- the state of one thread changes, and its standing as it counts
   pub thread-same : (x y : ℕ) (state : Thread) (core : Core) → x < length core.threads → y ≡ x → thread_of (with_thread x state core) y ≡ state
   thread-same x y state core l e = rw e (get_or-set_same core.threads x state no_state l)
 
@@ -161,7 +163,7 @@ module _ (system : System) (number from : ℕ) where
         has = p.has;
       }
 
-  -- the thread stands as it was taken to stand, and is on its way no more
+  -- the thread has the standing with which it counted, and is no longer on its way
   pub arrived : (phase : Phase) (x : ℕ) (s : Standing) (state : Thread) (core : Core) → IsSound system number from phase (Some (record { thread = x; standing = s })) core →
       x < length core.threads → state.standing ≡ s → (is_here s ≡ true → state.place.item < length (thread_part system x).script) →
       RunsRight system phase core.running (with_thread x state core) →
@@ -243,11 +245,11 @@ module _ (system : System) (number from : ℕ) where
           let f : j ≢ k = grind (arith, nat_tests) in
           rw (context-other k j context core f) (h.budgets j p)
 
-  -- where the head stays early
+  -- the head stays early
   pub keeps_if : (loose : Option Loose) (k : ℕ) (context : Context) (core : Core) → (head_moment (context_of core k) ≤ 2 ^ 40 → head_moment context ≤ 2 ^ 40) → KeepsEarly loose k context core
   keeps_if loose k context core h y e m old = h old
 
-  -- where no thread that may be chosen or released is bound to it: it is that of a thread on its way
+  -- no thread that may be chosen or released is bound to it: it is that of a thread on its way
   pub keeps_alone : (phase : Phase) (x : ℕ) (s : Standing) (context : Context) (core : Core) → IsOneEach system → IsSound system number from phase (Some (record { thread = x; standing = s })) core →
       x < length system.threads → may_run s ≡ false → times_pending s ≡ 0 →
       KeepsEarly (Some (record { thread = x; standing = s })) (thread_part system x).context context core

@@ -1,4 +1,4 @@
--- What a well-formed system gives its cores.
+-- Facts that a well-formed system gives its cores.
 use Rattle.std.proofs.Common.{◌≡◌, ℕ, zero, suc, ◌^◌, ◌<◌, ◌≤◌, inl, inr, ◌+◌, List, [], ◌∷◌, length, sym, ap, ◌∙◌, arith}
 use Rattle.std.specs.Prelude.{Some, All, slice_index}
 use Rattle.std.specs.List.{slice_get, AllByRecursion}

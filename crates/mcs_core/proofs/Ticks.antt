@@ -31,7 +31,7 @@ use Rattle.mcs_core.proofs.Budgets.{accepted-is, kept-head}
 use Rattle.mcs_core.proofs.Stopping.{off-sound, stops-sound, stops_to_back-sound, replaced, moves-sound, given-sound, reworded}
 use Rattle.mcs_core.proofs.Wakes.{posts-sound, frees-sound}
 
--- a thread that goes on, ends or yields
+-- a thread that continues, ends or yields
 abbrev pub DoesNotBlock : AfterItem → Type 0
 DoesNotBlock after.Blocks = ⊥
 DoesNotBlock after.Calls = ⊥

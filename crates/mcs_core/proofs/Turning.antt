@@ -193,7 +193,7 @@ module _ (system : System) (t : ℕ) where
   later-due [] h = omega arith
   later-due (x ∷ xs) h = grind (arith, h.0, later-due xs h.1)
 
-  -- where all dates are of t or later, the first that is due is the one that entered first
+  -- if all dates are of t or later, the first that is due is the one that entered first
   pub first-due : (ds : List Dated) → AllByRecursion (λ dated. t ≤ dated.date) ds → first_due t ds ≡ first_entered (all_due ds)
   first-due [] h = refl
   first-due (x ∷ xs) h = grind (arith, nat_tests, h.0, later-due xs h.1, first-due xs h.1)
@@ -212,7 +212,7 @@ module _ (system : System) (t : ℕ) where
       all-still [] e = refl
       all-still (x ∷ xs) e = grind (arith, all-still xs)
 
--- a thread that stands in the ready queue is ready
+-- a thread that is in the ready queue is ready
 pub ready_from_count : (s : Standing) (n : ℕ) → n ≡ times_ready s → 1 ≤ n → s ≡ Ready
 ready_from_count s n e h = grind arith
 

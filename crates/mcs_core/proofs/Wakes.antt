@@ -58,7 +58,7 @@ module _ (system : System) (number from : ℕ) (each : IsOneEach system) where
         placed = placed-same system core _ refl x refl here;
       }
 
-  -- the woken thread goes on
+  -- the woken thread moves on
   away_from : (phase : Phase) (x : ℕ) (core : Core) → (thread_of core x).standing ≡ Blocked → RunsRight system phase core.running core → (state : Thread) → RunsRight system phase core.running (with_thread x state core)
   away_from phase x core e h state = runs-other system number from phase x state core core.running (λ f. cc) h
 

@@ -76,7 +76,7 @@ two_cores_at_work : schedule two_cores 7 ≡
     ∷ []
 two_cores_at_work = refl
 
--- Threads 0 and 1 have one priority, so they take turns only where one stops for another reason. Thread 2 has a greater one: the
+-- Threads 0 and 1 have one priority, so they take turns only if one stops for another reason. Thread 2 has a greater one: the
 -- thread that it preempts goes to the front and runs again before thread 1. Threads 3 and 4 have one priority, too: the signal of
 -- thread 3 wakes thread 4 before thread 3 stops at that moment, so thread 4 runs before it.
 abbrev one_core : System
@@ -134,7 +134,7 @@ one_core_at_work : schedule one_core 11 ≡
     ∷ []
 one_core_at_work = refl
 
--- The notification stands on core 1: the signal that core 0 makes at 2 arrives there at 4, and not on core 0, whose turn at 4 comes
+-- The notification is at home on core 1: the signal that core 0 makes at 2 arrives there at 4, and not on core 0, whose turn at 4 comes
 -- first.
 abbrev from_core_0 : System
 from_core_0 = record {
@@ -240,8 +240,8 @@ handlers_at_work : schedule handlers 12 ≡
     ∷ []
 handlers_at_work = refl
 
--- A server of priority 40 that is taken when a thread of priority 30 calls it: it stops in the middle where the budget of its caller is
--- spent, and who waits for it goes on when it is left.
+-- A server of priority 40 that is taken when a thread of priority 30 calls it: it stops in the middle when the budget of its caller is
+-- exhausted, and the thread that waits for it continues when it is left.
 abbrev a_server : System
 a_server = record {
   cores = 1;

@@ -1,4 +1,4 @@
--- The alarms of a core: of each beat of a source whose notification is at home here, the date that comes next.
+-- The alarms of a core: the next date of each beat of a source whose notification is at home here.
 use Rattle.std.specs.Prelude.{ℕ, zero, suc, ◌+◌, ◌-◌, ◌≤◌, ◌<◌, ◌^◌, Bool, false, ◌==◌, nat_le, if◌then◌else◌, List, [], ◌∷◌, map, filter, Option, Some, None}
 use Rattle.std.specs.List.{AllByRecursion}
 use Rattle.mcs_ticks.specs.Soonest.{sooner}
@@ -7,7 +7,8 @@ use Rattle.mcs_system.specs.declared.part.Beat.{Beat}
 use Rattle.mcs_system.specs.System.{System, note_part, source_part}
 use Rattle.mcs_core.specs.declared.alarm.Alarm.{Alarm}
 
--- of a beat at first: `left` dates come after the first, and without end where their number is never
+-- the initial alarm of a beat: `left` dates come after the first, without end if the file gives no
+-- number
 abbrev pub alarm_of : System → Beat → Alarm
 alarm_of system beat =
     record {
@@ -25,7 +26,7 @@ is_at_home system c beat = (note_part system (source_part system beat.source).no
 abbrev pub alarms_of : System → ℕ → List Alarm
 alarms_of system c = map (alarm_of system) (filter (is_at_home system c) system.beats)
 
--- what stands past the end of a list of alarms; it is never reached
+-- a placeholder past the end of a list of alarms; it is never reached
 abbrev pub no_alarm : Alarm
 no_alarm = record { source = 0; note = 0; badge = 0; date = None; period = 0; left = 0 }
 
@@ -34,7 +35,7 @@ abbrev pub later_by : ℕ → Option ℕ → Option ℕ
 later_by period None = None
 later_by period (Some date) = Some (date + period)
 
--- an alarm that has rung: its next date, where there is one
+-- an alarm that has rung: its next date, if there is one
 abbrev pub rung : Alarm → Alarm
 rung alarm =
     record alarm {
@@ -56,7 +57,7 @@ ringing t alarms = filter (rings t) alarms
 abbrev pub past : ℕ → List Alarm → List Alarm
 past t alarms = map (λ alarm. if rings t alarm then rung alarm else alarm) alarms
 
--- those that were these at first, before moment t
+-- the alarms before moment t, from the initial ones
 abbrev pub before_moment : ℕ → List Alarm → List Alarm
 before_moment zero alarms = alarms
 before_moment (suc t) alarms = past t (before_moment t alarms)

@@ -1,5 +1,5 @@
--- The first moment at which something does not hold, and what a busy moment may come from: the end of an item or of a
--- head, a better thread, a date, an order, an arrival.
+-- The first moment at which a property fails, and the causes of a busy moment: the end of an item
+-- or of a head, a better thread, a date, an order, an arrival.
 use Rattle.std.specs.Prelude.{◌≡◌, ◌≢◌, ℕ, ◌+◌, ◌<◌, ◌≤◌, ◌^◌, false, nat_lt, Option, Some, None, List, [], ◌∷◌}
 use Rattle.mcs_ticks.specs.declared.queue.Queued.{Queued}
 use Rattle.mcs_control.specs.declared.config.Order.{Order}
@@ -10,7 +10,7 @@ use Rattle.mcs_core.specs.Core.{Core, thread_of, with_thread}
 use Rattle.mcs_script.specs.Script.{left_after}
 use Rattle.mcs_core.specs.Turn.{its_context}
 
--- from the clock on, the first moment at which it does not hold, and none where it holds at all moments up to 2^42
+-- the first moment from the clock on at which P fails; `None` if it holds at all moments up to 2^42
 abbrev pub IsFirst : ℕ → (ℕ → Type 0) → Option ℕ → Type 0
 IsFirst clock P (Some moment) =
     (n : ℕ)
@@ -25,7 +25,7 @@ abbrev pub first_moment : List Order → Option ℕ
 first_moment [] = None
 first_moment (order ∷ orders) = Some order.moment
 
--- so many ticks were used by this thread, which runs
+-- this thread, which runs, used n ticks
 abbrev pub counted_by : ℕ → Chosen → Core → Core
 counted_by n chosen core =
     let state = thread_of core chosen.thread in
@@ -36,7 +36,7 @@ abbrev pub counted_for : ℕ → Option Chosen → Core → Core
 counted_for n None core = core
 counted_for n (Some chosen) core = counted_by n chosen core
 
--- no ready thread is to run instead of the one that runs
+-- no ready thread has to run instead of the running one
 abbrev pub IsBest : Core → Option Chosen → Option Queued → Type 0
 IsBest core (Some chosen) (Some best) = nat_lt (thread_of core chosen.thread).place.priority best.priority ≡ false
 IsBest core (Some chosen) None = Unit {0}
@@ -44,7 +44,7 @@ IsBest core None (Some best) = ⊥
 IsBest core None None = Unit {0}
 
 module _ (system : System) where
-  -- after so many ticks, the thread that runs neither ends its item nor uses up its head with one more
+  -- after n ticks, the running thread neither ends its item nor exhausts its head with one more
   abbrev pub GoesOnAfter : ℕ → Option Chosen → Core → Type 0
   GoesOnAfter n None core = Unit {0}
   GoesOnAfter n (Some chosen) core =

@@ -1,5 +1,5 @@
--- One clock over all cores: at each moment, each core in rising order takes its turn. Each core has its ready threads in one list in
--- order of entering, of which the first of greatest priority is chosen.
+-- One clock over all cores: at each moment, each core in rising order takes its turn. Each core has
+-- its ready threads in one list in order of entering; the first of maximum priority is chosen.
 use Rattle.std.specs.Prelude.{ℕ, zero, suc, Bool, ◌==◌, ◌&&◌, not, List, [], ◌++◌, map, filter, get_or, set, fold}
 use Rattle.std.specs.List.{range_with_len}
 use Rattle.mcs_ticks.specs.Queue.{Discipline, in_one_list, sorted}
@@ -9,12 +9,12 @@ use Rattle.mcs_system.specs.System.{System, note_part}
 use Rattle.mcs_core.specs.Core.{Core, opening_core}
 use Rattle.mcs_core.specs.Turn.{Turn, turn_with, stamped}
 
--- all cores, and the signals under way, in order of making
+-- all cores, and the signals under way, in the order in which they were made
 pub record World : Type 0 where
   pub cores : List Core
   pub mails : List Mail
 
--- the clock so far: the world, and all rows in order of making
+-- the clock so far: the world, and all rows in the order in which they were made
 pub record Clock : Type 0 where
   pub world : World
   pub rows : List Row

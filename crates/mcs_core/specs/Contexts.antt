@@ -1,10 +1,10 @@
--- The contexts of a core: by number, those that it holds.
+-- The contexts of a core, by number.
 use Rattle.std.specs.Prelude.{ℕ, Bool, true, false, List, get_or, Option, Some, None, unwrap_or}
 use Rattle.mcs_control.specs.declared.config.Mode.TheVariants.{Sporadic}
 use Rattle.mcs_control.specs.Context.{Context}
 use Rattle.mcs_control.specs.Context.Budget.{Slice}
 
--- what stands where the core holds no context; it is never reached
+-- a placeholder for a context that the core does not hold; it is never reached
 abbrev pub no_server : Context
 no_server = record { config = record { budget = 0; period = 0; extra = 0 }; mode = Sporadic; budget = Slice 0 }
 

@@ -15,8 +15,9 @@ use Rattle.mcs_system.specs.declared.part.ThreadPart.{ThreadPart}
 use Rattle.mcs_core.specs.Contexts.{held}
 use Rattle.mcs_system.specs.System.{System, core_of, start_of}
 
--- The ready threads stand as a discipline keeps them: in one list in order of entering, as the clock has them, or by priority, as
--- the state of a core shows them. Threads, contexts and notifications of other cores keep their places in the lists.
+-- The ready threads are as a discipline keeps them: in one list in order of entering, as on the
+-- clock, or by priority, as in the state of a core. Threads, contexts and notifications of other
+-- cores keep their places in the lists.
 pub record Core : Type 0 where
   pub running : Option Chosen
   pub threads : List Thread
@@ -46,7 +47,7 @@ with_context context state core = record core { contexts = set core.contexts con
 abbrev pub with_note : ℕ → Note → Core → Core
 with_note note state core = record core { notes = set core.notes note state }
 
--- the thread stands so
+-- the standing of the thread is set
 abbrev pub stands : ℕ → Standing → Core → Core
 stands thread standing core = with_thread thread (record (thread_of core thread) { standing = standing }) core
 

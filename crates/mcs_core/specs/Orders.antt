@@ -5,7 +5,7 @@ use Rattle.mcs_control.specs.Control.{checked, kind_of}
 use Rattle.mcs_control.specs.declared.config.Order.{Order}
 use Rattle.mcs_system.specs.System.{System, context_part}
 
--- an order among others by moment, behind those of its moment
+-- an order inserted by moment, after those of its moment
 abbrev pub with_order : List Order → Order → List Order
 with_order [] order = order ∷ []
 with_order (first ∷ others) order =
@@ -32,7 +32,7 @@ is_of t order = order.moment == t
 abbrev pub due_now : ℕ → List Order → List Order
 due_now t orders = filter (is_of t) orders
 
--- the first, if its moment has come at t, and what is left when it is taken
+-- the first, if its moment has come at t, and the rest after it is taken
 abbrev pub first_due : ℕ → List Order → Option Order
 first_due t [] = None
 first_due t (order ∷ orders) = if nat_le order.moment t then Some order else None

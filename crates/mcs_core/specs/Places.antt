@@ -1,10 +1,11 @@
--- Where a thread stands on its core, counted.
+-- The places of a thread on its core, counted.
 use Rattle.std.specs.Prelude.{ℕ, ◌+◌, ◌==◌, if◌then◌else◌, List, [], ◌∷◌}
 use Rattle.mcs_ticks.specs.declared.queue.Queued.{Queued}
 use Rattle.mcs_notify.specs.Note.{Note}
 use Rattle.mcs_release.specs.declared.dated.Dated.{Dated}
 
--- how often a thread stands in a queue, in the release queue, and among the waiters of all notifications
+-- how often a thread is in a queue, in the release queue, and among the waiters of all
+-- notifications
 abbrev pub times_queued : ℕ → List Queued → ℕ
 times_queued x [] = 0
 times_queued x (y ∷ ys) = (if y.thread == x then 1 else 0) + times_queued x ys

@@ -1,4 +1,4 @@
--- Turns that do nothing but count a tick, and the moment of the next one that does more.
+-- Turns that only count a tick, and the moment of the next one that does more.
 use Rattle.std.specs.Prelude.{◌≡◌, ℕ, zero, suc, ◌+◌, ◌<◌, ◌≤◌, ◌^◌, Option, Some, None, List, []}
 use Rattle.mcs_ticks.specs.Queue.{Discipline, in_one_list}
 use Rattle.mcs_mail.specs.declared.mail.Mail.{Mail}
@@ -14,7 +14,7 @@ module _ (system : System) (c : ℕ) where
   counted_of None core = core
   counted_of (Some chosen) core = counts chosen core
 
-  -- one more tick was used, where a thread runs
+  -- one more tick was used, if a thread runs
   abbrev pub counted : Core → Core
   counted core = counted_of core.running core
 
@@ -28,12 +28,13 @@ module _ (queue : Discipline) (system : System) (c : ℕ) where
   abbrev pub IsQuietWith : ℕ → List Mail → Core → Type 0
   IsQuietWith t mails core = turn_with queue system c t mails core ≡ silent (counted system c core)
 
-  -- from the clock on, the turns before this many moments are quiet
+  -- from the clock on, this many turns are quiet
   abbrev pub AreQuietWith : ℕ → List Mail → Core → ℕ → Type 0
   AreQuietWith clock box core many =
       (n : ℕ) → n < many → IsQuietWith (clock + n) (arriving (clock + n) box) (counted_times system c n core)
 
-  -- the next busy moment: the first whose turn is not quiet, and none where all turns up to 2^42 are quiet
+  -- the next busy moment: the first whose turn is not quiet; `None` if all turns up to 2^42 are
+  -- quiet
   abbrev pub IsNextBusyWith : ℕ → List Mail → Core → Option ℕ → Type 0
   IsNextBusyWith clock box core (Some moment) =
       (n : ℕ)
@@ -44,7 +45,7 @@ module _ (queue : Discipline) (system : System) (c : ℕ) where
   IsNextBusyWith clock box core None =
       (n : ℕ) → clock + n ≤ 2 ^ 42 → IsQuietWith (clock + n) (arriving (clock + n) box) (counted_times system c n core)
 
--- with the ready threads in one list, as the clock has them
+-- with the ready threads in one list, as on the clock
 module _ (system : System) (c : ℕ) where
   abbrev pub IsQuiet : ℕ → List Mail → Core → Type 0
   IsQuiet t mails core = IsQuietWith in_one_list system c t mails core
@@ -55,7 +56,8 @@ module _ (system : System) (c : ℕ) where
   abbrev pub IsNextBusy : ℕ → List Mail → Core → Option ℕ → Type 0
   IsNextBusy clock box core next = IsNextBusyWith in_one_list system c clock box core next
 
--- however the ready threads are kept, quiet turns make no row and no signal, leave the box as it was, and count their ticks
+-- for each discipline, quiet turns make no row and no signal, leave the box unchanged, and count
+-- their ticks
 abbrev pub OnlyCount : Type 0
 OnlyCount =
     (queue : Discipline) (system : System) (c n clock : ℕ) (core : Core) (box : List Mail) →

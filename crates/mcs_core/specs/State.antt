@@ -15,12 +15,13 @@ use Rattle.mcs_core.specs.Clock.{shown}
 use Rattle.mcs_core.specs.stored.Sound.{IsSound}
 use Rattle.mcs_core.specs.stored.Sound.Phase.{Between}
 
--- how long a signal of this core is under way to each core
+-- the delay of a signal of this core to each core
 abbrev pub delays_from : System → ℕ → List ℕ
 delays_from system c = map (delay_between system c) (range_with_len 0 64)
 
--- which core it is, the moment whose turn is next, the core, the orders that it is yet to obey, its alarms as they were at first, how long its signals are
--- under way to each core, and whether memory failed it
+-- `clock`: the time of the next turn; `orders`: those that it has yet to obey; `alarms`: the
+-- initial ones; `delays`: those of its signals to each core; `failed`: memory ran out, or a sink
+-- refused a row
 pub record State : Type 0 where
   pub number : ℕ
   pub clock : ℕ
@@ -42,9 +43,10 @@ opening_state system c =
       failed = false;
     }
 
--- the state is one of a core of this system: which threads, contexts and notifications there are and which are its own,
--- the threads' contexts and places, the kinds, the orders and the delays agree, and no budget in force is below the least;
--- after a failure nothing is asked
+-- the state is one of a core of this system: its threads, contexts and notifications, those of them
+-- that are its own, the threads' contexts and places, the kinds, the orders and the delays agree
+-- with the system; no budget in force is below the minimum. After a failure only number and clock
+-- have to be in range
 pub record Fits (system : System) (state : State) : Type 0 where
   pub known : state.number < system.cores
   pub early : state.clock ≤ 2 ^ 40 + 1
@@ -59,7 +61,7 @@ pub record IsExpected (system : System) (state : State) (mail : Mail) : Type 0 w
   pub home : (note_part system mail.note).core ≡ state.number
   pub arrives : state.clock ≤ mail.arrives
 
--- what the turns before moment `to` make, with this mail
+-- the results of the turns before moment `to`, with this mail
 abbrev pub made_by : System → State → ℕ → List Mail → Ran
 made_by system state to box = ran system state.number (to - state.clock) state.clock state.core box
 
@@ -72,19 +74,19 @@ state_after state to made =
       orders = to_come to state.orders;
     }
 
--- what turns make, as the state of a core shows it
+-- the results of turns, as the state of a core shows them
 abbrev pub ran_shown : Ran → Ran
 ran_shown made = record made { core = shown made.core }
 
--- these turns are those of each core that keeps its ready threads in one list and that the state shows: the same rows, the same signals, the
--- same box, and after them that core is shown
+-- these turns are those of each core that keeps its ready threads in one list and that the state
+-- shows: the same rows, signals and box, and after them the state shows that core
 abbrev pub AreOfOneList : System → State → ℕ → List Mail → Type 0
 AreOfOneList system state to box =
     (core : Core) → state.core ≡ shown core →
     made_by system state to box
     ≡ ran_shown (ran_with in_one_list system state.number (to - state.clock) state.clock core box)
 
--- the state when all turns before moment `to` are quiet and were taken: their ticks are counted
+-- the state after all turns before moment `to`, which are quiet: their ticks are counted
 abbrev pub skipped : System → ℕ → State → State
 skipped system to state =
     record state { clock = to; core = counted_times system state.number (to - state.clock) state.core }

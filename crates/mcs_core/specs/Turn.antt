@@ -1,4 +1,5 @@
--- The turn of one core at one moment: the end of the tick, interrupts, arrivals, orders, releases, and the choice.
+-- The turn of one core at one moment: the end of the tick, interrupts, arrivals, orders, releases,
+-- and the choice.
 use Rattle.std.specs.Prelude.{ℕ, ◌+◌, ◌-◌, Bool, ◌==◌, ◌&&◌, not, nat_lt, if◌then◌else◌, List, [], ◌∷◌, ◌++◌, map, filter, Option, Some, None}
 use Rattle.std.specs.List.{slice_get}
 use Rattle.mcs_ticks.specs.Queue.{Discipline, by_priority}
@@ -36,13 +37,14 @@ use Rattle.mcs_core.specs.declared.standing.Standing.{Standing}
 use Rattle.mcs_core.specs.declared.standing.Thread.{Thread}
 use Rattle.mcs_core.specs.declared.standing.Standing.TheVariants.{Blocked, Ready, Running, Done}
 
--- what a turn, or a part of it, makes: the core after it, its rows, and its signals for other cores
+-- the results of a turn, or a part of it: the core after it, its rows, and its signals for other
+-- cores
 pub record Turn : Type 0 where
   pub core : Core
   pub rows : List What
   pub mails : List Mail
 
--- the rows of what is told of core c at moment t
+-- events as rows of core c at moment t
 abbrev pub stamped : ℕ → ℕ → List What → List Row
 stamped c t told = map (λ what. record { moment = t; core = c; what = what }) told
 
@@ -76,7 +78,7 @@ module _ (system : System) where
   abbrev pub with_its_context : ℕ → Context → Core → Core
   with_its_context thread context core = with_context (part_of thread).context context core
 
-  -- the date with which a thread must wait for its context, if it isn't ready at t
+  -- the date until which a thread must wait for its context, if it is not ready at t
   abbrev pub date_of : ℕ → ℕ → Core → Option ℕ
   date_of t thread core =
       date_from t (its_context thread core)
@@ -85,19 +87,19 @@ module _ (system : System) where
   abbrev pub charged : ℕ → ℕ → Core → Core
   charged thread k core = with_its_context thread (context_charged k system.min_budget (its_context thread core)) core
 
--- a thread with its priority, which is that of the place where it is
+-- a thread with its priority, which is that of its place
 abbrev pub queued : ℕ → Core → Queued
 queued thread core = record { thread = thread; priority = (thread_of core thread).place.priority }
 
--- where threads enter
+-- how threads enter the queues
 module _ (queue : Discipline) where
-  -- to the back of the ready queue, or with a date into the release queue
+  -- at the back of the ready queue, or with a date into the release queue
   abbrev pub enters_back : ℕ → Option ℕ → Core → Core
   enters_back thread (Some date) core = pends thread date core
   enters_back thread None core =
       record (stands thread Ready core) { ready = queue.back (queued thread core) core.ready }
 
-  -- to the front of the ready queue, or with a date into the release queue
+  -- at the front of the ready queue, or with a date into the release queue
   abbrev pub enters_front : ℕ → Option ℕ → Core → Core
   enters_front thread (Some date) core = pends thread date core
   enters_front thread None core =
@@ -110,22 +112,23 @@ stops system thread why k standing core =
 
 -- stops at moment t
 module _ (queue : Discipline) (system : System) (t : ℕ) where
-  -- the running thread, whose context has been charged k ticks, leaves the core and enters again, so or with a date
+  -- the running thread, whose context has been charged k ticks, leaves the core and enters a queue
+  -- by `enters`
   abbrev pub leaves : (ℕ → Option ℕ → Core → Core) → ℕ → Why → ℕ → Core → Turn
   leaves enters thread why k core =
       let date = date_of system t thread core in
       says (row.Stop thread why k date) (enters thread date (off core))
 
-  -- to the back of the ready queue, when its context is charged
+  -- at the back of the ready queue, after its context is charged
   abbrev pub stops_to_back : ℕ → Why → ℕ → Core → Turn
   stops_to_back thread why k core =
       leaves (enters_back queue) thread why k (charged system thread k core)
 
-  -- to the front of it; the context has been charged
+  -- at the front of it; the context has been charged
   abbrev pub stops_to_front : ℕ → Why → ℕ → Core → Turn
   stops_to_front thread why k core = leaves (enters_front queue) thread why k core
 
-  -- at most one stop of the thread that has used so many ticks, by what follows its item
+  -- at most one stop of the thread that has used this many ticks, as its item requires
   abbrev pub may_stop : ℕ → ℕ → AfterItem → Core → Turn
   may_stop thread using after.Ends core = stops system thread why.Done using Done core
   may_stop thread using after.Blocks core = stops system thread why.Wait using Blocked core
@@ -137,7 +140,7 @@ module _ (queue : Discipline) (system : System) (t : ℕ) where
       then stops_to_back thread why.Spent using core
       else silent core
 
--- where a thread is in its script
+-- the place of a thread in its script
 module _ (system : System) where
   abbrev pub item_of : ℕ → Core → Option Item
   item_of thread core = slice_get (part_of system thread).script (thread_of core thread).place.item
@@ -147,7 +150,8 @@ module _ (system : System) where
       let part = part_of system thread in
       move_after part.script part.rounds (thread_of core thread).place
 
--- a wait gives this word at moment t: where it is the first item, the round begins, and the word is the round's
+-- a wait gives this word at moment t: if it is the first item, the round begins, and the word is
+-- the round's
 abbrev pub round_begun : List Item → ℕ → ℕ → Thread → Thread
 round_begun script t word state =
     let first = state.place.item == 0 in
@@ -160,9 +164,9 @@ abbrev pub given : System → ℕ → ℕ → ℕ → Core → Core
 given system t thread word core =
     with_thread thread (round_begun (part_of system thread).script t word (thread_of core thread)) core
 
--- how a thread goes through its script, at moment t
+-- the way of a thread through its script, at moment t
 module _ (system : System) (t : ℕ) where
-  -- the thread has the place after this move, and its round began at this moment
+  -- the thread has the place after this move, and its round began at `since`
   abbrev pub placed : ℕ → Moved → ℕ → Core → Core
   placed thread move since core =
       let state = thread_of core thread in
@@ -199,7 +203,7 @@ module _ (system : System) (t : ℕ) where
   enters_as thread server Blocks core =
       silent (with_note server (after_wait Blocks (queued thread core) (note_of core server)) core)
 
--- the thread is woken at moment t, or chosen: so is its context
+-- the context of a thread that is woken at moment t, or chosen
 abbrev pub with_woken_context : System → ℕ → ℕ → Core → Core
 with_woken_context system t thread core =
     with_its_context system thread (context_woken t (its_context system thread core)) core
@@ -210,7 +214,7 @@ with_chosen_context system t thread core =
 
 -- posts at moment t
 module _ (queue : Discipline) (system : System) (t : ℕ) where
-  -- a thread that has what it waited for moves on, and enters a queue
+  -- a thread that has got what it waited for moves on, and enters a queue
   abbrev pub resumes : ℕ → Core → Turn
   resumes thread core =
       moves_on system t thread core
@@ -220,7 +224,7 @@ module _ (queue : Discipline) (system : System) (t : ℕ) where
   abbrev pub wakes : ℕ → ℕ → Core → Turn
   wakes thread word core = resumes thread (given system t thread word (with_woken_context system t thread core))
 
-  -- a thread that enters the server for which it waited: the same, but it enters at the front
+  -- a thread that enters the server for which it waited: it is woken, but enters at the front
   abbrev pub let_in : ℕ → Core → Turn
   let_in thread core =
       moves_on system t thread (with_woken_context system t thread core)
@@ -248,7 +252,7 @@ module _ (queue : Discipline) (system : System) (t : ℕ) where
       says (row.Signal thread server 1) core
       followed_by λ core. frees_as server (posted 1 (note_of core server)) core
 
--- what follows a finished item
+-- the consequence of a finished item
 abbrev pub after_move : Moved → AfterItem → AfterItem
 after_move AllDone other = after.Ends
 after_move Next other = other
@@ -280,7 +284,7 @@ counts chosen core =
     with_thread chosen.thread (record state { place = record (state.place) { left = left_after 1 state.place.left } })
     (record core { running = Some (record { thread = chosen.thread; using = chosen.using + 1 }) })
 
--- the mail that a signal of core c at moment t is
+-- the mail of a signal of core c at moment t
 abbrev pub mail_to : System → ℕ → ℕ → ℕ → ℕ → Mail
 mail_to system c t note badge =
     record {
@@ -323,7 +327,8 @@ module _ (queue : Discipline) (system : System) (c t : ℕ) where
       takes_effect thread item core
       followed_by may_stop queue system t thread using (after_item system thread item core)
 
-  -- after the count: where nothing of the item is left it is finished, and else only a spent head stops the thread
+  -- after the count: an item without a rest is finished; otherwise only an exhausted head stops the
+  -- thread
   abbrev pub after_count : ℕ → ℕ → Core → Turn
   after_count thread using core =
       if (thread_of core thread).place.left == 0
@@ -377,7 +382,7 @@ module _ (queue : Discipline) (system : System) (t : ℕ) where
       each (released queue) (filter (is_due t) core.releases)
       (record core { releases = filter (λ dated. not (is_due t dated)) core.releases })
 
-  -- part 5: the choice; a running thread first gives way to one of greater priority ..
+  -- part 5: the choice; a running thread is first preempted by one of greater priority ..
   abbrev pub preempts_by : Option Chosen → Option Queued → Core → Turn
   preempts_by (Some chosen) (Some best) core =
       let after = charged system chosen.thread chosen.using core in
@@ -390,7 +395,7 @@ module _ (queue : Discipline) (system : System) (t : ℕ) where
   abbrev pub preempts : Core → Turn
   preempts core = preempts_by core.running (queue.best core.ready) core
 
-  -- .. and where none runs, the best one is chosen: in bandwidth mode its context is unblocked
+  -- .. and if no thread runs, the best one is chosen: in bandwidth mode its context is unblocked
   abbrev pub chooses_of : Option Chosen → Option Queued → Core → Turn
   chooses_of (Some chosen) best core = silent core
   chooses_of None None core = silent core
@@ -406,7 +411,8 @@ module _ (queue : Discipline) (system : System) (t : ℕ) where
 abbrev pub is_for_now : System → ℕ → ℕ → Order → Bool
 is_for_now system c t order = is_of t order && is_for_core system c order
 
--- the whole turn of core c at moment t, with the mail that arrives, and the ready threads kept by this discipline
+-- the whole turn of core c at moment t, with the mail that arrives, and the ready threads kept by
+-- this discipline
 abbrev pub turn_with : Discipline → System → ℕ → ℕ → List Mail → Core → Turn
 turn_with queue system c t mails core =
     tick queue system c t core
@@ -417,6 +423,6 @@ turn_with queue system c t mails core =
     followed_by preempts queue system t
     followed_by chooses queue system t
 
--- the turn with the ready threads by priority, which is what a core shows
+-- the turn with the ready threads by priority, as in the state of a core
 abbrev pub turn : System → ℕ → ℕ → List Mail → Core → Turn
 turn system c t mails core = turn_with by_priority system c t mails core

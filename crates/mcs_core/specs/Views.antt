@@ -1,4 +1,4 @@
--- The contexts of a core as a caller is shown them.
+-- The views of a core's contexts.
 use Rattle.std.specs.Prelude.{ℕ, suc, ◌==◌, if◌then◌else◌, List, [], ◌∷◌, ◌++◌, Option, Some, None}
 use Rattle.mcs_control.specs.declared.view.ContextView.{ContextView}
 use Rattle.mcs_control.specs.Context.{Context, view_of}
@@ -7,7 +7,7 @@ use Rattle.mcs_core.specs.Core.{Core}
 use Rattle.mcs_core.specs.declared.standing.Chosen.{Chosen}
 
 module _ (system : System) where
-  -- the ticks in use of a context: those of the running thread, where it is the one that is bound to it
+  -- the ticks in use of a context: those of the running thread, if it is bound to it
   abbrev pub using_of : ℕ → Option Chosen → ℕ
   using_of context None = 0
   using_of context (Some chosen) = if (thread_part system chosen.thread).context == context then chosen.using else 0

@@ -6,12 +6,12 @@ use mcs_control::Order;
 use mcs_ticks::{Soonest, Tick};
 use std::marker::Model;
 
-/// The orders that a core is yet to obey, by moment.
+/// The orders that a core has yet to obey, by moment.
 #[derive(Drop)]
 pub(crate) struct Agenda {
     orders: Vec<Order>,
     next: usize,
-    /// the moment of the next order, so that the order is looked at only when it has come
+    /// The moment of the next order: the order is looked at only when it has come.
     soonest: Soonest,
 }
 
@@ -43,7 +43,7 @@ impl Agenda {
         Some(order)
     }
 
-    /// The moment of the first order, or never where there is none.
+    /// The moment of the first order, or never if there is none.
     #[inline(always)]
     pub(crate) fn next(&self) -> Soonest
         ensures { result ≡ first_moment self.now }
@@ -51,7 +51,7 @@ impl Agenda {
         self.soonest
     }
 
-    /// These orders, of which none has been obeyed.
+    /// Returns an agenda of these orders, before any is obeyed.
     pub(crate) fn from_orders(orders: Vec<Order>) -> Self
         ensures { result ≡ orders.items }
     {
@@ -64,7 +64,7 @@ impl Agenda {
     }
 }
 
-/// The moment of the order at a place, or never where there is none.
+/// The moment of the order at a place, or never if there is none.
 fn moment_of(orders: &[Order], place: usize) -> Soonest
     ensures { result ≡ first_moment (drop place orders.now) }
 {

@@ -1,6 +1,7 @@
 use mcs_ticks::{NoteId, Soonest, SourceId};
 
-/// The date of a source that comes next, or never, of those that are a period from each other, and how many come after it.
+/// The next date of a source, or never, among dates that are a period apart, and the number of
+/// dates after it.
 #[derive(Clone, Copy, Debug)]
 pub struct Alarm {
     pub source: SourceId,
@@ -8,6 +9,6 @@ pub struct Alarm {
     pub badge: u32,
     pub date: Soonest,
     pub period: u64,
-    /// 2^64 - 1 where they are without end.
+    /// 2^64 - 1 for dates without end.
     pub left: u64,
 }

@@ -10,17 +10,17 @@ use mcs_ticks::{CoreId, NoMemory, Soonest, Tick};
 use std::alloc::Global;
 use std::marker::Model;
 
-/// How many alarms a block has, but the last, which may have fewer.
+/// Alarms in a block; the last block may have fewer.
 const BLOCK: usize = 64;
 
-/// The alarms of a core, in file order. One that rings is looked for in the blocks whose soonest date has come, so 4,096 alarms cost a look at
-/// 64 dates more than 64 do.
+/// The alarms of a core, in file order. The alarm that rings is searched in the blocks whose
+/// soonest date has come, so a core with 4,096 alarms looks at only 64 dates more than one with 64.
 #[derive(Drop)]
 pub(crate) struct Alarms {
     alarms: Vec<Alarm>,
-    /// the soonest date of each block
+    /// The soonest date of each block.
     firsts: Vec<Soonest>,
-    /// the soonest date, so that blocks are looked at only when an alarm rings
+    /// The soonest date: blocks are looked at only when an alarm rings.
     soonest: Soonest,
 }
 
@@ -40,7 +40,7 @@ impl Model for Alarms {
 }
 
 impl Alarm {
-    /// Of a beat at first.
+    /// Returns the initial alarm of a beat.
     fn of(system: &SystemParts, beat: Beat) -> Alarm
         requires { beat.source < length system.now.sources }
         ensures { result ≡ alarm_of system.now beat }
@@ -70,7 +70,7 @@ impl Alarm {
         }
     }
 
-    /// A date a period later.
+    /// The date one period later.
     fn later(&self, moment: Tick) -> Soonest
         requires rings { rings moment self.now ≡ true }
         requires soon { moment ≤ 2 ^ 40 }
@@ -83,7 +83,7 @@ impl Alarm {
         }
     }
 
-    /// Its next date, when it has rung.
+    /// The alarm after it has rung, with its next date.
     fn rung(&self, moment: Tick) -> Alarm
         requires rings { rings moment self.now ≡ true }
         requires soon { moment ≤ 2 ^ 40 }
@@ -110,7 +110,6 @@ impl Alarm {
     }
 }
 
-/// The alarms of a core at first.
 pub(crate) fn alarms_of(
     alloc: Global,
     system: &SystemParts,
@@ -129,7 +128,7 @@ pub(crate) fn alarms_of(
 }
 
 impl Alarms {
-    /// Alarms of which none has rung.
+    /// Returns these alarms, before any has rung.
     pub(crate) fn new(alloc: Global, beats: &[Alarm]) -> Result<Alarms, NoMemory>
         requires { AreShort beats.now }
         ensures { IfOk result (λ alarms. alarms ≡ beats.now) }
@@ -145,7 +144,7 @@ impl Alarms {
         })
     }
 
-    /// The first alarm that rings at a moment, if one does; it has rung then.
+    /// Takes the first alarm that rings at a moment, and moves it to its next date.
     #[inline(always)]
     pub(crate) fn take_ringing(&mut self, moment: Tick) -> Option<Alarm>
         requires { moment ≤ 2 ^ 40 }
@@ -171,7 +170,7 @@ impl Alarms {
         Some(alarm)
     }
 
-    /// The soonest date, or never where there is none.
+    /// The soonest date, or never if there is none.
     #[inline(always)]
     pub(crate) fn next(&self) -> Soonest
         ensures { result ≡ first_date self.now }
@@ -180,7 +179,6 @@ impl Alarms {
     }
 }
 
-/// A block of the alarms.
 fn block(alarms: &[Alarm], b: usize) -> &[Alarm]
     requires { 64 * b < length alarms.now }
     ensures { result.now ≡ block b alarms.now }
@@ -193,7 +191,7 @@ fn block(alarms: &[Alarm], b: usize) -> &[Alarm]
     }
 }
 
-/// The soonest date of each block.
+/// Returns the soonest date of each block.
 fn firsts_of(alloc: Global, alarms: &[Alarm]) -> Result<Vec<Soonest>, NoMemory>
     ensures { IfOk result (λ firsts. AreFirsts firsts.items alarms.now) }
 {
@@ -206,7 +204,7 @@ fn firsts_of(alloc: Global, alarms: &[Alarm]) -> Result<Vec<Soonest>, NoMemory>
     Ok(firsts)
 }
 
-/// An alarm takes the place of the one at place `k`, which is in this block.
+/// Replaces the alarm at place `k`, which is in block `b`.
 fn replace(alarms: &mut [Alarm], firsts: &mut [Soonest], b: usize, k: usize, alarm: Alarm)
     requires firsts { AreFirsts firsts.old alarms.old }
     requires known { b < length firsts.old }
@@ -219,7 +217,7 @@ fn replace(alarms: &mut [Alarm], firsts: &mut [Soonest], b: usize, k: usize, ala
     firsts[b] = first_date(block(alarms, b));
 }
 
-/// The soonest date, by those of the blocks.
+/// The soonest date of all, by those of the blocks.
 fn soonest_of(firsts: &[Soonest], alarms: &[Alarm]) -> Soonest
     requires { AreFirsts firsts.now alarms.now }
     ensures { result ≡ first_date alarms.now }
@@ -260,7 +258,6 @@ fn first_ringing(alarms: &[Alarm], moment: Tick) -> Option<usize>
     None
 }
 
-/// The soonest date.
 fn first_date(alarms: &[Alarm]) -> Soonest
     ensures { result ≡ first_date alarms.now }
 {

@@ -13,7 +13,7 @@ use mcs_mail::{Mail, Mailbox};
 use mcs_ticks::{FlowFault, Sink, What};
 
 impl Local {
-    /// A signal of another core arrives.
+    /// Takes a signal of another core.
     #[inline(always)]
     fn arrive<S: Sink>(
         &mut self,
@@ -36,7 +36,7 @@ impl Local {
         self.post(here, note, badge, log)
     }
 
-    /// The signals that arrive now, in the order of their delivery.
+    /// Takes the signals that arrive now, in the order of their delivery.
     #[inline(always)]
     pub(crate) fn arrivals<S: Sink>(
         &mut self,

@@ -15,7 +15,6 @@ use mcs_ticks::{ContextId, NoMemory, ThreadId, Tick};
 use std::alloc::Global;
 
 impl Local {
-    /// The context of the thread is charged so many ticks.
     pub(crate) fn charge(&mut self, system: &SystemParts, thread: ThreadId, ticks: u64)
         requires part { thread < length system.now.threads }
         requires has { has_context (thread_part system.now thread).context self.old ≡ true }
@@ -28,8 +27,8 @@ impl Local {
             .charge(system.thread(thread).context, ticks, system.min_budget);
     }
 
-    /// The context of the thread is charged so many ticks. Answers the date with which the thread has to wait for it, if it isn't
-    /// ready then.
+    /// Charges the context of the thread. Returns the date until which the thread then has to wait
+    /// for it, if it is not ready.
     #[inline(always)]
     pub(crate) fn charge_until(
         &mut self,
@@ -50,7 +49,7 @@ impl Local {
             .charge_until(context, ticks, here.system.min_budget, here.moment)
     }
 
-    /// The date with which the thread has to wait for its context, if the context isn't ready.
+    /// The date until which the thread has to wait for its context, if it is not ready.
     #[inline(always)]
     pub(crate) fn date_of(&self, here: &Here<'_>, thread: ThreadId) -> Option<Tick>
         requires part { thread < length here.now.system.now.threads }
@@ -71,7 +70,6 @@ impl Local {
         self.contexts.head_amount(system.thread(thread).context)
     }
 
-    /// The thread of a context is woken.
     pub(crate) fn wake_context(&mut self, context: ContextId, moment: Tick)
         requires own { has_context context self.old ≡ true }
         requires soon { moment ≤ 2 ^ 40 }
@@ -80,7 +78,8 @@ impl Local {
         self.contexts.wake(context, moment);
     }
 
-    /// The thread is chosen: in bandwidth mode its context is unblocked. Answers the head of the context then, in ticks.
+    /// Chooses the thread; in bandwidth mode its context is unblocked. Returns the head of the
+    /// context then, in ticks.
     #[inline(always)]
     pub(crate) fn choose_context(&mut self, here: &Here<'_>, thread: ThreadId) -> u64
         requires part { thread < length here.now.system.now.threads }
@@ -94,7 +93,7 @@ impl Local {
             .chosen(here.system.thread(thread).context, here.moment)
     }
 
-    /// An order changes its context.
+    /// Changes the context of an order.
     pub(crate) fn apply(&mut self, moment: Tick, order: Order)
         requires own { has_context order.context self.old ≡ true }
         requires soon { moment ≤ 2 ^ 40 }
@@ -105,15 +104,14 @@ impl Local {
         self.contexts.order(order.context, moment, order.config);
     }
 
-    /// The contexts.
     pub(crate) fn contexts(&self) -> &Contexts
         ensures { result.now ≡ self.now.contexts }
     {
         &self.contexts
     }
 
-    /// What there is to see of a context, if the core holds it. `NoMemory` is answered where the list of refills is
-    /// refused.
+    /// The view of a context, if the core holds it. Fails if memory runs out for the list of
+    /// refills.
     pub(crate) fn view_context(
         &self,
         alloc: Global,

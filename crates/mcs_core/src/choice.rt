@@ -16,7 +16,7 @@ use crate::{Chosen, Standing};
 use mcs_ticks::{FlowFault, Sink, Soonest, ThreadId, Tick, What, Why};
 
 impl Local {
-    /// A running thread gives way to a ready one of greater priority.
+    /// Preempts the running thread if a ready one has a greater priority.
     #[inline(always)]
     pub(crate) fn preempt<S: Sink>(
         &mut self,
@@ -44,7 +44,7 @@ impl Local {
         Ok(())
     }
 
-    /// This moment, where a ready thread has a priority above this one.
+    /// This moment, if a ready thread has a priority above this one; otherwise never.
     #[inline(always)]
     fn better(&self, priority: u8, moment: Tick) -> Soonest
         ensures { result ≡ better priority moment (first_of self.now.ready) }
@@ -55,8 +55,9 @@ impl Local {
         }
     }
 
-    /// This thread, which stands in no queue, is chosen, and in bandwidth mode its context is unblocked. Answers the first moment after this
-    /// one at which it ends its item or uses up its head, or a ready thread is to run instead.
+    /// Chooses this thread, which is in no queue; in bandwidth mode its context is unblocked.
+    /// Returns the first moment after this one at which the thread ends its item or exhausts its
+    /// head, or a ready thread has to run instead.
     #[inline(always)]
     fn start(&mut self, here: &Here<'_>, thread: ThreadId) -> Soonest
         requires known { thread < length self.old.threads }
@@ -78,8 +79,9 @@ impl Local {
         ends
     }
 
-    /// Where no thread runs, the best ready one is chosen; in bandwidth mode its context is unblocked. Answers the first moment after this one
-    /// at which the thread that runs then ends its item or uses up its head, or a ready thread is to run instead.
+    /// Chooses the best ready thread if no thread runs; in bandwidth mode its context is unblocked.
+    /// Returns the first moment after this one at which the thread that then runs ends its item or
+    /// exhausts its head, or a ready thread has to run instead.
     #[inline(always)]
     pub(crate) fn choose<S: Sink>(
         &mut self,

@@ -10,7 +10,8 @@ use mcs_ticks::{ContextId, NoMemory, Tick};
 use std::alloc::Global;
 use std::marker::Model;
 
-/// The contexts of a system by number, of which a core holds its own. One of another core takes a word.
+/// The contexts of a system by number; a core holds its own. A context of another core takes one
+/// word.
 #[derive(Drop)]
 pub(crate) struct Contexts {
     contexts: Vec<Option<Box<Context>>>,
@@ -29,7 +30,6 @@ impl Model for Contexts {
 }
 
 impl Contexts {
-    /// A context is charged so many ticks.
     pub(crate) fn charge(&mut self, number: ContextId, ticks: u64, min_budget: u64)
         requires own { is_own number self.old ≡ true }
         requires some { 1 ≤ ticks }
@@ -43,7 +43,8 @@ impl Contexts {
         }
     }
 
-    /// A context is charged so many ticks. Answers the date with which its thread has to wait, if it isn't ready at a moment then.
+    /// Charges a context. Returns the date until which its thread then has to wait, if it is not
+    /// ready at this moment.
     #[inline(always)]
     pub(crate) fn charge_until(
         &mut self,
@@ -69,7 +70,6 @@ impl Contexts {
         }
     }
 
-    /// The thread of a context is woken.
     pub(crate) fn wake(&mut self, number: ContextId, moment: Tick)
         requires own { is_own number self.old ≡ true }
         requires soon { moment ≤ 2 ^ 40 }
@@ -81,7 +81,7 @@ impl Contexts {
         }
     }
 
-    /// The thread of a context is chosen. Answers the head of the context then, in ticks.
+    /// Chooses the thread of a context. Returns the head of the context then, in ticks.
     #[inline(always)]
     pub(crate) fn chosen(&mut self, number: ContextId, moment: Tick) -> u64
         requires own { is_own number self.old ≡ true }
@@ -100,7 +100,7 @@ impl Contexts {
         }
     }
 
-    /// A context is ordered to have this configuration, of the same kind.
+    /// Gives a context the configuration of an order, of the same kind.
     pub(crate) fn order(&mut self, number: ContextId, moment: Tick, config: Config)
         requires own { is_own number self.old ≡ true }
         requires soon { moment ≤ 2 ^ 40 }
@@ -114,7 +114,7 @@ impl Contexts {
         }
     }
 
-    /// The date with which the thread of a context has to wait, if the context isn't ready at a moment.
+    /// The date until which the thread of a context has to wait, if it is not ready at a moment.
     #[inline(always)]
     pub(crate) fn date(&self, number: ContextId, moment: Tick) -> Option<Tick>
         requires own { is_own number self.now ≡ true }
@@ -138,7 +138,7 @@ impl Contexts {
         }
     }
 
-    /// These contexts, each with room for as many refills as any configuration may ask for.
+    /// Returns these contexts, each with room for as many refills as any configuration may have.
     pub(crate) fn from_parts(contexts: Vec<Option<Box<Context>>>) -> Self
         requires { HaveRoom contexts.items }
         ensures { result ≡ seen_contexts contexts.items }
@@ -146,7 +146,6 @@ impl Contexts {
         Contexts { contexts }
     }
 
-    /// A context, if the core holds it.
     pub(crate) fn get(&self, number: ContextId) -> Option<&Context>
         requires known { number < length self.now }
         ensures { option_map (λ kept. kept.context) (option_copied result) ≡ get_or self.now number None }
@@ -154,8 +153,8 @@ impl Contexts {
         self.contexts[number.0].as_deref()
     }
 
-    /// What there is to see of a context, if the core holds it. `NoMemory` is answered where the list of refills is
-    /// refused.
+    /// The view of a context, if the core holds it. Fails if memory runs out for the list of
+    /// refills.
     pub(crate) fn view(
         &self,
         alloc: Global,
@@ -172,7 +171,7 @@ impl Contexts {
     }
 }
 
-/// The date with which the thread of a context has to wait, if the context isn't ready at a moment.
+/// The date until which the thread of a context has to wait, if it is not ready at a moment.
 fn date_from(context: &Context, moment: Tick) -> Option<Tick>
     ensures { result ≡ date_from moment context.now.context }
 {

@@ -14,7 +14,8 @@ use mcs_system::SystemParts;
 use mcs_ticks::{Soonest, Tick};
 
 impl Local {
-    /// The first moment from this one on at which the thread that runs ends its item or uses up its head, if there is one up to 2^42.
+    /// The first moment from `from` on at which the running thread ends its item or exhausts its
+    /// head, if there is one up to 2^42.
     #[inline(always)]
     pub(crate) fn next_end(&self, system: &SystemParts, from: Tick) -> Soonest
         requires { IfSome self.now.running (IsUnspent system.now self.now) }
@@ -28,7 +29,7 @@ impl Local {
         Soonest::after(from, ticks_before_end(left, chosen.using, head))
     }
 
-    /// This moment, where a ready thread is to run instead of the one that runs.
+    /// This moment, if a ready thread has to run instead of the running one; otherwise never.
     #[inline(always)]
     pub(crate) fn next_choice(&self, here: &Here<'_>) -> Soonest
         requires well_formed { IsWellFormed here.now.system.now }
@@ -50,7 +51,7 @@ impl Local {
         }
     }
 
-    /// This thread, which runs, counts so many ticks. Answers what is left of its item.
+    /// Counts ticks of this thread, which runs. Returns what is left of its item.
     #[inline(always)]
     pub(crate) fn count(&mut self, chosen: Chosen, ticks: u64) -> u64
         requires known { chosen.thread < length self.old.threads }
@@ -66,7 +67,7 @@ impl Local {
         self.use_up(thread, ticks)
     }
 
-    /// The thread that runs, if there is one, counts so many ticks.
+    /// Counts ticks of the running thread, if there is one.
     #[inline(always)]
     pub(crate) fn count_many(&mut self, ticks: u64)
         requires known { IfSome self.old.running (λ chosen. chosen.thread < length self.old.threads) }
@@ -79,7 +80,8 @@ impl Local {
     }
 }
 
-/// How many ticks come before the one that ends an item with so many left, or a head of which so many are used.
+/// The number of ticks before the one that ends an item with `left` ticks left, or a head with
+/// `used` of its ticks used.
 #[inline(always)]
 pub(crate) fn ticks_before_end(left: u64, used: u64, head: u64) -> u64
     requires { used < head }

@@ -14,7 +14,7 @@ use crate::log::{Here, Log};
 use mcs_ticks::{FlowFault, Sink, What};
 
 impl Local {
-    /// A source interrupts.
+    /// Posts the interrupt of a source.
     #[inline(always)]
     fn interrupt<S: Sink>(
         &mut self,
@@ -44,7 +44,7 @@ impl Local {
         self.post(here, note, badge, log)
     }
 
-    /// The sources of which this moment is a date, in file order.
+    /// Posts the interrupts of all sources with a date at this moment, in file order.
     #[inline(always)]
     pub(crate) fn interrupts<S: Sink>(
         &mut self,

@@ -25,7 +25,7 @@ use mcs_ticks::{ContextId, NoMemory, NoteId, Soonest, ThreadId, Tick};
 use std::alloc::Global;
 use std::marker::Model;
 
-/// What stands on a core: its threads, the queues, the contexts and the notifications.
+/// The parts of a core: its threads, the queues, the contexts and the notifications.
 #[derive(Drop)]
 pub(crate) struct Local {
     running: Option<Chosen>,
@@ -56,7 +56,6 @@ impl Model for Local {
 }
 
 impl Local {
-    /// The thread stands so.
     pub(crate) fn stand(&mut self, thread: ThreadId, standing: Standing)
         requires { thread < length self.old.threads }
         ensures { self.new ≡ stands thread standing self.old }
@@ -64,7 +63,7 @@ impl Local {
         self.threads[thread.0].standing = standing;
     }
 
-    /// The thread is at this place of its script, and its round began at this moment.
+    /// Sets the place of the thread in its script, and the beginning of its round.
     pub(crate) fn set_place(&mut self, thread: ThreadId, place: Place, since: Tick)
         requires { thread < length self.old.threads }
         ensures { self.new
@@ -75,7 +74,7 @@ impl Local {
         state.since = since;
     }
 
-    /// So many ticks less are left of the thread's item, and no less than none. Answers how many are.
+    /// Takes ticks off the rest of the thread's item, down to 0. Returns the rest.
     pub(crate) fn use_up(&mut self, thread: ThreadId, ticks: u64) -> u64
         requires { thread < length self.old.threads }
         ensures core { let state = thread_of self.old thread in
@@ -88,7 +87,7 @@ impl Local {
         state.place.left
     }
 
-    /// The thread is in the release queue with this date.
+    /// Puts the thread into the release queue with this date.
     #[tactic(auto, using(crate::proofs::Counts::not_held_releases))]
     pub(crate) fn pend(&mut self, thread: ThreadId, date: Tick)
         requires known { thread < length self.old.threads }
@@ -99,7 +98,7 @@ impl Local {
         self.releases.enter(thread, date);
     }
 
-    /// The running thread leaves the core.
+    /// Takes the running thread off the core.
     #[inline(always)]
     pub(crate) fn leave(&mut self)
         ensures { self.new ≡ off self.old }
@@ -108,7 +107,7 @@ impl Local {
     }
 
     #[tactic(auto, using(crate::proofs::Counts::not_held_ready))]
-    /// The thread enters the ready queue at the back, or the release queue with a date.
+    /// Puts the thread at the back of the ready queue, or into the release queue with a date.
     pub(crate) fn enter_back(&mut self, thread: ThreadId, until: Option<Tick>)
         requires known { thread < length self.old.threads }
         requires not_ready { times_queued thread self.old.ready ≡ 0 }
@@ -126,7 +125,7 @@ impl Local {
     }
 
     #[tactic(auto, using(crate::proofs::Counts::not_held_ready))]
-    /// The thread enters the ready queue at the front, or the release queue with a date.
+    /// Puts the thread at the front of the ready queue, or into the release queue with a date.
     #[inline(always)]
     pub(crate) fn enter_front(&mut self, thread: ThreadId, until: Option<Tick>)
         requires known { thread < length self.old.threads }
@@ -144,7 +143,6 @@ impl Local {
         }
     }
 
-    /// The state of a thread of the core.
     pub(crate) fn thread(&self, thread: ThreadId) -> Thread
         requires { thread < length self.now.threads }
         ensures { result ≡ thread_of self.now thread }
@@ -152,7 +150,7 @@ impl Local {
         self.threads[thread.0]
     }
 
-    /// A badge is posted on a notification: whom it wakes leaves the waiters.
+    /// Posts a badge on a notification. A thread that it wakes leaves the waiters.
     pub(crate) fn post_note(&mut self, note: NoteId, badge: u32) -> Posted
         requires { note < length self.old.notes }
         ensures posted { result ≡ posted badge (note_of self.old note) }
@@ -162,7 +160,7 @@ impl Local {
     }
 
     #[tactic(auto, using(crate::proofs::Counts::not_waiting))]
-    /// A thread waits on a notification.
+    /// Makes a thread wait on a notification.
     pub(crate) fn wait_note(&mut self, note: NoteId, thread: ThreadId) -> Waited
         requires note { note < length self.old.notes }
         requires known { thread < length self.old.threads }
@@ -175,7 +173,6 @@ impl Local {
             .wait(note, thread, self.threads[thread.0].place.priority)
     }
 
-    /// The word of a notification.
     pub(crate) fn word(&self, note: NoteId) -> u32
         requires { note < length self.now.notes }
         ensures { result ≡ (note_of self.now note).word }
@@ -183,35 +180,32 @@ impl Local {
         self.notes.word(note)
     }
 
-    /// The ready queue.
     pub(crate) fn ready_queue(&self) -> &Ready
         ensures { result.now.queue ≡ self.now.ready }
     {
         &self.ready
     }
 
-    /// The release queue.
     pub(crate) fn release_queue(&self) -> &Releases
         ensures { result.now.queue ≡ self.now.releases }
     {
         &self.releases
     }
 
-    /// The notifications.
     pub(crate) fn notes(&self) -> &Notes
         ensures { result.now.notes ≡ self.now.notes }
     {
         &self.notes
     }
 
-    /// The thread that runs, and the ticks that it has used.
+    /// The running thread, and the ticks that it has used.
     pub(crate) fn running(&self) -> Option<Chosen>
         ensures { result ≡ self.now.running }
     {
         self.running
     }
 
-    /// This thread runs, and has used so many ticks.
+    /// Sets the running thread, and the ticks that it has used.
     pub(crate) fn set_running(&mut self, chosen: Chosen)
         ensures { self.new ≡ record self.old { running = Some chosen } }
     {
@@ -227,7 +221,7 @@ impl Local {
         self.releases.pop_due(moment)
     }
 
-    /// The least date of the release queue, or never where it is empty.
+    /// The soonest date of the release queue, or never if it is empty.
     #[inline(always)]
     pub(crate) fn next_date(&self) -> Soonest
         ensures { result ≡ next_date self.now.releases }
@@ -235,7 +229,7 @@ impl Local {
         self.releases.soonest()
     }
 
-    /// The greatest priority of the ready threads.
+    /// The maximum priority of the ready threads.
     #[inline(always)]
     pub(crate) fn best(&self) -> Option<u8>
         ensures { result ≡ priority_of (by_priority.best self.now.ready) }
@@ -243,7 +237,7 @@ impl Local {
         self.ready.best()
     }
 
-    /// Takes the first thread of greatest priority out of the ready queue.
+    /// Takes the first thread of maximum priority out of the ready queue.
     #[inline(always)]
     pub(crate) fn take_best(&mut self) -> Option<ThreadId>
         ensures taken { result ≡ thread_of_queued (by_priority.best self.old.ready) }
@@ -252,7 +246,7 @@ impl Local {
         self.ready.pop_best()
     }
 
-    /// A core with these parts, on which no thread runs.
+    /// Returns a core with these parts, and no running thread.
     pub(crate) fn from_parts(
         threads: Vec<Thread>,
         ready: Ready,

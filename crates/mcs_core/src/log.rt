@@ -5,8 +5,8 @@ use mcs_mail::Mail;
 use mcs_system::SystemParts;
 use mcs_ticks::{CoreId, FlowFault, Limits, Row, Sink, Tick, What};
 
-/// Where and when a part of a turn is taken: on a core of a system, from which a signal has a delay to each core, at a
-/// moment.
+/// The place and time of a part of a turn: a core of a system, the delays of its signals to each
+/// core, and a moment.
 #[derive(Drop)]
 pub(crate) struct Here<'a> {
     pub(crate) system: &'a SystemParts,
@@ -15,7 +15,7 @@ pub(crate) struct Here<'a> {
     pub(crate) moment: Tick,
 }
 
-/// What takes the rows of turns, and the signals that they make for other cores.
+/// The sink for the rows of turns, and the list for their signals to other cores.
 #[derive(Drop)]
 pub(crate) struct Log<'a, S: Sink> {
     pub(crate) sink: &'a mut S,
@@ -23,7 +23,7 @@ pub(crate) struct Log<'a, S: Sink> {
 }
 
 impl<S: Sink> Log<'_, S> {
-    /// Tells what happens here.
+    /// Emits the row of an event here.
     #[inline(always)]
     pub(crate) fn tell(&mut self, here: &Here<'_>, what: What) -> Result<(), FlowFault>
         ensures { OnOk result (Adds S.takes here.now (what ∷ []) [] self.old self.new) }

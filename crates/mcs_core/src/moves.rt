@@ -10,7 +10,6 @@ use mcs_system::SystemParts;
 use mcs_ticks::{FlowFault, Sink, ThreadId, What};
 
 impl Local {
-    /// The item at which the thread is.
     pub(crate) fn item_of(&self, system: &SystemParts, thread: ThreadId) -> Option<Item>
         requires known { thread < length self.now.threads }
         requires part { thread < length system.now.threads }
@@ -22,7 +21,7 @@ impl Local {
             .get(self.thread(thread).place.item)
     }
 
-    /// What follows the item at which the thread is.
+    /// The move after the current item of the thread.
     pub(crate) fn move_of(&self, system: &SystemParts, thread: ThreadId) -> Moved
         requires known { thread < length self.now.threads }
         requires placed { IsPlaced system.now thread self.now }
@@ -33,7 +32,7 @@ impl Local {
         place.advance(&part.script, system.call, part.rounds)
     }
 
-    /// The thread's item is finished, and the thread moves on in its script.
+    /// Finishes the thread's item, and moves the thread on in its script.
     #[inline(always)]
     pub(crate) fn move_on<S: Sink>(
         &mut self,
@@ -68,7 +67,8 @@ impl Local {
         Ok(moved)
     }
 
-    /// A wait gives this word: where it is the first item, the round begins, and the word is the round's.
+    /// Gives the word of a wait to the thread. If the wait is the first item, the round begins, and
+    /// the word is the round's.
     pub(crate) fn give(&mut self, here: &Here<'_>, thread: ThreadId, word: u32)
         requires known { thread < length self.old.threads }
         requires part { thread < length here.now.system.now.threads }

@@ -13,9 +13,9 @@ use mcs_system::System;
 use mcs_ticks::{Soonest, Tick};
 
 impl CoreState {
-    /// The next busy moment, with this mail as arrivals: the first moment whose turn does more than count a tick, or
-    /// None where no turn up to 2^42 does. It is that of each core that keeps its ready threads in one list, and that the state
-    /// shows.
+    /// The next busy moment, with this mail as arrivals: the first moment whose turn does more than
+    /// count a tick. `None` if no turn up to 2^42 does. It is that of each core that keeps its
+    /// ready threads in one list, and that the state shows.
     #[inline(always)]
     pub fn next_busy(&self, system: &System, mail: &Mailbox) -> Option<Tick>
         requires fits { Fits system.now self.now }
@@ -28,7 +28,8 @@ impl CoreState {
         self.soonest(system, mail, self.ends(system)).moment()
     }
 
-    /// The first moment from the clock on at which the thread that runs ends its item or uses up its head, or a ready thread is to run instead.
+    /// The first moment from the clock on at which the running thread ends its item or exhausts its
+    /// head, or a ready thread has to run instead.
     #[inline(always)]
     pub(crate) fn ends(&self, system: &System) -> Soonest
         requires fits { Fits system.now self.now }
@@ -45,8 +46,8 @@ impl CoreState {
         self.local.next_end(here.system, here.moment).or(better)
     }
 
-    /// The next busy moment, which is the soonest of this one, at which the thread that runs ends its item or uses up its head, or a ready
-    /// thread is better, and of those at which the least date, the next order, the first mail or an interrupt comes.
+    /// The next busy moment: the soonest of `ends`, the first release date, the next order, the
+    /// next interrupt and the first mail.
     #[inline(always)]
     pub(crate) fn soonest(&self, system: &System, mail: &Mailbox, ends: Soonest) -> Soonest
         requires fits { Fits system.now self.now }
@@ -63,9 +64,10 @@ impl CoreState {
         ends.or(date).or(order).or(alarm).or(arrival)
     }
 
-    /// Takes the turns from the clock up to, not including, moment `to`, all of which are quiet, at once: the thread
-    /// that runs counts their ticks. Moment `to` may be the clock. Of each core that keeps its ready threads in one list, and
-    /// that the state shows, these turns are quiet too, and the state shows what it is after them.
+    /// Takes the turns from the clock to before `to` at once; all of them must be quiet. The
+    /// running thread counts their ticks. `to` may be the clock. The turns of each core that keeps
+    /// its ready threads in one list, and that the state shows, are quiet too, and the state shows
+    /// that core after them.
     pub fn skip(&mut self, system: &System, to: Tick)
         requires fits { Fits system.now self.old }
         requires going { self.old.failed ≡ false }

@@ -21,10 +21,10 @@ use mcs_system::{ContextPart, SystemParts, ThreadPart};
 use mcs_ticks::{ContextId, CoreId, Limits, NoMemory, NoteId, ThreadId, Tick};
 use std::alloc::Global;
 
-/// Room for as many refills as any configuration may ask for.
+/// Refills for which a context has room: as many as any configuration may have.
 const ROOM: usize = 2 + Limits::EXTRA_REFILLS as usize;
 
-/// A thread at the start: pending, if it is one of the core's.
+/// Returns the initial state of a thread: pending, if it is one of the core's.
 fn opening_thread(system: &SystemParts, core: CoreId, thread: &ThreadPart) -> Thread
     ensures { result ≡ opening_thread system.now core thread.now }
 {
@@ -55,7 +55,7 @@ fn opening_threads(
     Ok(threads)
 }
 
-/// The threads of the core wait for their starts.
+/// Returns the initial release queue: the threads of the core wait for their starts.
 fn opening_releases(alloc: Global, system: &SystemParts, core: CoreId) -> Result<Releases, NoMemory>
     ensures queue { IfOk result (λ releases. releases.queue ≡ opening_releases system.now core 0 system.now.threads) }
     ensures room { IfOk result (λ releases. releases.room ≡ length system.now.threads) }
@@ -69,7 +69,7 @@ fn opening_releases(alloc: Global, system: &SystemParts, core: CoreId) -> Result
     Ok(releases)
 }
 
-/// For each context the start of its thread, or 0 where it has none.
+/// Returns the start of each context's thread, or 0 if it has no thread.
 fn context_starts(alloc: Global, system: &SystemParts) -> Result<Vec<Tick>, NoMemory>
     requires { IsWellFormed system.now }
     ensures many { IfOk result (λ starts. length starts.items ≡ length system.now.contexts) }
@@ -85,7 +85,7 @@ fn context_starts(alloc: Global, system: &SystemParts) -> Result<Vec<Tick>, NoMe
     Ok(starts)
 }
 
-/// A context of the core is new. One of another core takes no memory.
+/// Returns a new context of the core. A context of another core takes no memory.
 fn opening_context(
     alloc: Global,
     core: CoreId,
@@ -107,7 +107,6 @@ fn opening_context(
     Ok(Some(context))
 }
 
-/// A context, if there is one, where a core keeps it.
 fn boxed(alloc: Global, context: Option<Context>) -> Result<Option<Box<Context>>, NoMemory>
     ensures { IfOk result (λ kept. unboxed kept ≡ context) }
 {
@@ -132,7 +131,7 @@ fn opening_contexts(alloc: Global, system: &SystemParts, core: CoreId) -> Result
     Ok(Contexts::from_parts(contexts))
 }
 
-/// The notification, on which nothing was posted, holds its first word.
+/// Posts the first word of a notification that has none yet.
 fn hold_first(notes: &mut Notes, note: NoteId, word: u32)
     requires known { note < length notes.old.notes }
     requires quiet { note_of notes.old.notes note ≡ quiet_note }
@@ -141,7 +140,7 @@ fn hold_first(notes: &mut Notes, note: NoteId, word: u32)
     notes.post(note, word);
 }
 
-/// The notifications with their first words.
+/// Returns the notifications with their first words.
 fn opening_notes(alloc: Global, system: &SystemParts) -> Result<Notes, NoMemory>
     ensures notes { IfOk result (λ notes. notes.notes ≡ map opening_note system.now.notes) }
     ensures room { IfOk result (λ notes. notes.threads ≡ length system.now.threads) }
@@ -154,7 +153,8 @@ fn opening_notes(alloc: Global, system: &SystemParts) -> Result<Notes, NoMemory>
 }
 
 impl Local {
-    /// The core with which a run opens: its threads wait for their starts, its contexts are new, and nothing runs.
+    /// Returns the core at the opening of a run: its threads wait for their starts, its contexts
+    /// are new, and no thread runs.
     pub(crate) fn open(alloc: Global, system: &SystemParts, core: CoreId) -> Result<Local, NoMemory>
         requires { IsWellFormed system.now }
         ensures { IfOk result (λ local. local ≡ opening_core system.now core) }
@@ -170,7 +170,7 @@ impl Local {
     }
 }
 
-/// Puts orders in order by moment; those of one moment stay as they stand.
+/// Sorts orders by moment; those of one moment keep their order.
 fn sort_orders(orders: &mut Vec<Order>) -> Result<(), NoMemory>
     ensures { OnOk result (orders.new.items ≡ by_moment orders.old.items) }
 {
@@ -179,7 +179,8 @@ fn sort_orders(orders: &mut Vec<Order>) -> Result<(), NoMemory>
 }
 
 impl Agenda {
-    /// The orders for the contexts of a core, by moment, and in file order within one moment.
+    /// Returns the orders for the contexts of a core, by moment, and in file order within one
+    /// moment.
     pub(crate) fn new(alloc: Global, system: &SystemParts, core: CoreId) -> Result<Agenda, NoMemory>
         ensures { IfOk result (λ agenda. agenda ≡ orders_of system.now core) }
     {

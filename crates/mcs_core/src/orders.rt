@@ -16,7 +16,7 @@ use mcs_control::Order;
 use mcs_ticks::{FlowFault, Sink, What, Why};
 
 impl Local {
-    /// The thread that runs is charged, and then its context takes the order's configuration.
+    /// Charges the running thread, and then applies the order's configuration to its context.
     #[inline(always)]
     fn charge_and_apply(&mut self, here: &Here<'_>, order: Order, chosen: Chosen)
         requires well_formed { IsWellFormed here.now.system.now }
@@ -33,7 +33,7 @@ impl Local {
         self.apply(here.moment, order);
     }
 
-    /// An order for the context of the thread that runs: the thread is charged, and stops.
+    /// Obeys an order for the context of the running thread: the thread is charged, and stops.
     #[inline(always)]
     fn obey_running<S: Sink>(
         &mut self,
@@ -60,7 +60,7 @@ impl Local {
         self.stop_to_front(here, thread, Why::Order, used, until, log)
     }
 
-    /// An order for a context of the core.
+    /// Obeys an order for a context of the core.
     #[inline(always)]
     fn obey<S: Sink>(
         &mut self,
@@ -87,7 +87,7 @@ impl Local {
         Ok(())
     }
 
-    /// The orders of this moment.
+    /// Obeys the orders of this moment.
     #[inline(always)]
     pub(crate) fn orders<S: Sink>(
         &mut self,

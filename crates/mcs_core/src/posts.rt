@@ -10,7 +10,7 @@ use mcs_notify::Posted;
 use mcs_ticks::{FlowFault, NoteId, Sink, ThreadId, What};
 
 impl Local {
-    /// The thread is woken: its context is unblocked, unless it is in bandwidth mode.
+    /// Unblocks the context of a woken thread, unless it is in bandwidth mode.
     #[inline(always)]
     pub(crate) fn wake_its_context(&mut self, here: &Here<'_>, thread: ThreadId)
         requires free { IsFree here.now.system.now thread self.old }
@@ -21,7 +21,7 @@ impl Local {
         self.wake_context(here.system.thread(thread).context, here.moment);
     }
 
-    /// A thread that has what it waited for moves on, and enters a queue.
+    /// Moves a thread on that has got what it waited for, and puts it into a queue.
     #[inline(always)]
     fn resume<S: Sink>(
         &mut self,
@@ -40,7 +40,7 @@ impl Local {
         Ok(())
     }
 
-    /// A thread that has left the waiters is woken with a word.
+    /// Wakes a thread that has left the waiters, with a word.
     #[inline(always)]
     pub(crate) fn wake<S: Sink>(
         &mut self,
@@ -60,7 +60,7 @@ impl Local {
         self.resume(here, thread, log)
     }
 
-    /// A thread that has left the waiters enters the server for which it waited.
+    /// Lets a thread that has left the waiters into the server for which it waited.
     #[inline(always)]
     fn let_in<S: Sink>(
         &mut self,
@@ -81,7 +81,7 @@ impl Local {
         Ok(())
     }
 
-    /// The thread leaves a server of the core, which is taken by the first waiter, or free.
+    /// Leaves a server of the core: its first waiter takes it, or it is free.
     #[inline(always)]
     pub(crate) fn free<S: Sink>(
         &mut self,
@@ -121,7 +121,7 @@ impl Local {
         }
     }
 
-    /// A post on a notification of the core.
+    /// Posts on a notification of the core.
     #[inline(always)]
     pub(crate) fn post<S: Sink>(
         &mut self,

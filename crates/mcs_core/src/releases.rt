@@ -12,7 +12,7 @@ use crate::log::{Here, Log};
 use mcs_ticks::{FlowFault, Sink, ThreadId, What};
 
 impl Local {
-    /// A thread that has left the release queue goes to the back of its ready queue.
+    /// Puts a thread that has left the release queue at the back of its ready queue.
     #[inline(always)]
     fn release<S: Sink>(
         &mut self,
@@ -30,7 +30,8 @@ impl Local {
         Ok(())
     }
 
-    /// The threads whose date has come, in the order in which they entered the release queue.
+    /// Releases the threads whose date has come, in the order in which they entered the release
+    /// queue.
     #[inline(always)]
     pub(crate) fn releases<S: Sink>(
         &mut self,

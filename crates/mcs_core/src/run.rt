@@ -13,15 +13,15 @@ use mcs_system::System;
 use mcs_ticks::{FlowFault, Measured, NoMemory, Row, Sink, Soonest, Tick};
 
 impl CoreState {
-    /// Whether the clock is before a moment.
     fn is_before(&self, to: Tick) -> bool
         ensures { IsTrue result ↔ (self.now.clock < to) }
     {
         self.clock.get() < to.get()
     }
 
-    /// The turn at a moment, with the quiet ones before it. It is told the first moment from the clock on at which the thread that runs ends its
-    /// item or uses up its head, or a ready thread is to run instead, and answers that from the new clock on.
+    /// Takes the turn at a moment, with the quiet ones before it. `ends` is the first moment from
+    /// the clock on at which the running thread ends its item or exhausts its head, or a ready
+    /// thread has to run instead. Returns that moment from the new clock on.
     #[inline(always)]
     fn turn_at<S: Sink>(
         &mut self,
@@ -76,9 +76,9 @@ impl CoreState {
         Ok(ends)
     }
 
-    /// The quiet turns up to the next busy one, and that one, of those before moment `to`. It is told the first moment from the clock on at which
-    /// the thread that runs ends its item or uses up its head, or a ready thread is to run instead, and answers that from the new clock on, where
-    /// it is before `to`. Where memory or a row is refused the state is spent.
+    /// Takes the quiet turns up to the next busy one, and that one, of those before `to`. `ends` is
+    /// as in `turn_at`; returns it from the new clock on, if that is before `to`. If memory runs
+    /// out or a row is refused, the state has failed.
     #[inline(always)]
     fn advance<S: Sink>(
         &mut self,
@@ -124,7 +124,8 @@ impl CoreState {
         Ok(next)
     }
 
-    /// As `run`, but each row goes to the sink as soon as it is made. Where memory or a row is refused the state is spent.
+    /// Takes the turns as `run` does, but gives each row to the sink as soon as it is made. If
+    /// memory runs out or the sink refuses a row, the state has failed.
     pub fn run_to<S: Sink>(
         &mut self,
         system: &System,
@@ -157,11 +158,13 @@ impl CoreState {
         self.run_some_to(system, mail, to, 1, &mut unmeasured, signals)
     }
 
-    /// Takes the turns from the clock up to, not including, moment `to`, with the mail of the box as arrivals. Rows are
-    /// appended, and so are the signals for other cores; mail that does not arrive stays in the box. Where memory is
-    /// refused the state is spent, with its number kept and its clock at a moment on the way to `to`, and nothing is
-    /// said of the box, the rows and the signals; a state that is spent refuses at once and changes nothing. Each core that keeps its ready
-    /// threads in one list, and that the state shows, makes the same.
+    /// Takes the turns from the clock to before `to`, with the mail of the box as arrivals. Appends
+    /// the rows, and the signals for other cores. Mail that does not arrive stays in the box. Each
+    /// core that keeps its ready threads in one list, and that the state shows, makes the same.
+    ///
+    /// If memory runs out, the state has failed: it keeps its number, its clock is a moment on the
+    /// way to `to`, and box, rows and signals are unspecified. A failed state returns `NoMemory` at
+    /// once and changes nothing.
     pub fn run(
         &mut self,
         system: &System,
@@ -197,8 +200,9 @@ impl CoreState {
         Ok(())
     }
 
-    /// As `run_to`, but it ends after the turn with which the sink's size is at least `most`: so it takes a turn where the
-    /// clock is before moment `to`, and the caller can go on from the new clock.
+    /// Takes the turns as `run_to` does, but ends after the turn with which the sink's size is at
+    /// least `most`. It takes at least one turn if the clock is before `to`. The caller can
+    /// continue from the new clock.
     pub fn run_some_to<S: Measured>(
         &mut self,
         system: &System,
@@ -251,8 +255,9 @@ impl CoreState {
         Ok(())
     }
 
-    /// As `run`, but it ends after the turn with which `rows` holds at least `most` rows: so it takes a turn where the
-    /// clock is before moment `to`, and the caller can hand the rows on before it goes on from the new clock.
+    /// Takes the turns as `run` does, but ends after the turn with which `rows` holds at least
+    /// `most` rows. It takes at least one turn if the clock is before `to`. The caller can pass the
+    /// rows on, and continue from the new clock.
     pub fn run_some(
         &mut self,
         system: &System,

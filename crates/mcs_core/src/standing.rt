@@ -1,7 +1,7 @@
 use mcs_script::Place;
 use mcs_ticks::{ThreadId, Tick};
 
-/// How a thread stands on a core.
+/// The standing of a thread on a core.
 #[derive(Clone, Copy, Debug, PartialEq, Eq)]
 pub enum Standing {
     /// It waits on a notification.
@@ -18,7 +18,8 @@ pub enum Standing {
     Elsewhere,
 }
 
-/// The state of a thread: how it stands, its place in its script, and the moment at which its round began.
+/// The state of a thread: its standing, its place in its script, and the time at which its round
+/// began.
 #[derive(Clone, Copy, Debug, PartialEq, Eq)]
 pub struct Thread {
     pub standing: Standing,
@@ -26,24 +27,24 @@ pub struct Thread {
     pub since: Tick,
 }
 
-/// The thread that runs, and the ticks that it has run since it was chosen.
+/// The running thread, and the ticks that it has run since it was chosen.
 #[derive(Clone, Copy, Debug, PartialEq, Eq)]
 pub struct Chosen {
     pub thread: ThreadId,
     pub using: u64,
 }
 
-/// What follows a thread's item, at the end of a tick.
+/// The consequence of a thread's item, at the end of a tick.
 #[derive(Clone, Copy, Debug, PartialEq, Eq)]
 pub enum AfterItem {
-    /// The thread goes on, unless the head is spent.
+    /// The thread continues, unless its head is exhausted.
     GoesOn,
     /// It was the last item of the last round.
     Ends,
-    /// The thread waits on a notification whose word is 0.
+    /// The thread waits on a notification with word 0.
     Blocks,
     /// The thread waits for a server that is taken.
     Calls,
-    /// The item gives the rest of the head away.
+    /// The item gives up the rest of the head.
     Yields,
 }

@@ -12,8 +12,9 @@ use mcs_ticks::{CoreId, Limits, NoMemory, Tick};
 use std::alloc::Global;
 use std::marker::Model;
 
-/// The state of one core between two turns: the moment whose turn is next, what stands on the core, the orders that it is
-/// yet to obey, its alarms, and how long its signals are under way. After a call was refused memory the state is spent.
+/// The state of one core between two turns: the time of the next turn, the core itself, the orders
+/// that it has yet to obey, its alarms, and the delays of its signals. After a call ran out of
+/// memory, or a sink refused a row, the state has failed.
 #[derive(Drop)]
 pub struct CoreState {
     pub(crate) number: CoreId,
@@ -21,7 +22,7 @@ pub struct CoreState {
     pub(crate) failed: bool,
     pub(crate) local: Local,
     pub(crate) agenda: Agenda,
-    /// Its alarms as they were at first.
+    /// Its initial alarms.
     pub(crate) beats: Vec<Alarm>,
     pub(crate) alarms: Alarms,
     /// The delay of a signal of this core to each core.
@@ -49,8 +50,8 @@ impl Model for CoreState {
 }
 
 impl CoreState {
-    /// The first state of a core: each of its threads is pending with its start as date. `NoMemory` is answered where
-    /// the room for its threads, contexts, notifications or orders is refused; what a turn needs is made here.
+    /// Returns the initial state of a core: each of its threads is pending until its start. All
+    /// that a turn needs is allocated here. Fails only if memory runs out.
     pub fn new(alloc: Global, system: &System, core: CoreId) -> Result<Self, NoMemory>
         requires { core < system.now.cores }
         ensures state { IfOk result (λ state. state ≡ opening_state system.now core) }
@@ -73,8 +74,8 @@ impl CoreState {
         })
     }
 
-    /// What there is to see of the core's contexts, in file order, with the ticks in use of the thread that runs.
-    /// `NoMemory` is answered where a growth is refused, and by a state that is spent.
+    /// The views of the core's contexts, in file order, with the ticks in use of the running
+    /// thread. Returns `NoMemory` if memory runs out, and if the state has failed.
     pub fn contexts(&self, alloc: Global, system: &System) -> Result<Vec<ContextView>, NoMemory>
         requires { Fits system.now self.now }
         ensures views { IfOk result (λ views. views.items ≡ views_of system.now self.now.core) }
@@ -86,21 +87,20 @@ impl CoreState {
         self.local.views(alloc, system.parts())
     }
 
-    /// What stands on the core.
     pub(crate) fn local(&self) -> &Local
         ensures { result.now ≡ self.now.core }
     {
         &self.local
     }
 
-    /// The moment whose turn is next.
+    /// The time of the next turn.
     pub fn clock(&self) -> Tick
         ensures { result ≡ self.now.clock }
     {
         self.clock
     }
 
-    /// Whether a call was refused memory, or a row by a sink: then the state is spent.
+    /// Whether a call ran out of memory, or a sink refused a row: the state has then failed.
     pub fn failed(&self) -> bool
         ensures { result ≡ self.now.failed }
     {

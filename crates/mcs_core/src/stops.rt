@@ -12,7 +12,8 @@ use crate::{AfterItem, Standing};
 use mcs_ticks::{FlowFault, Sink, ThreadId, Tick, What, Why};
 
 impl Local {
-    /// The running thread leaves the core for the back of the ready queue, or for the release queue with this date.
+    /// Moves the running thread to the back of the ready queue, or into the release queue with this
+    /// date.
     #[inline(always)]
     fn leave_to_back(&mut self, here: &Here<'_>, thread: ThreadId, until: Option<Tick>)
         requires { IsFree here.now.system.now thread self.old }
@@ -22,7 +23,8 @@ impl Local {
         self.enter_back(thread, until);
     }
 
-    /// The running thread leaves the core for the front of the ready queue, or for the release queue with this date.
+    /// Moves the running thread to the front of the ready queue, or into the release queue with
+    /// this date.
     #[inline(always)]
     fn leave_to_front(&mut self, here: &Here<'_>, thread: ThreadId, until: Option<Tick>)
         requires { IsFree here.now.system.now thread self.old }
@@ -32,7 +34,7 @@ impl Local {
         self.enter_front(thread, until);
     }
 
-    /// The running thread stops for good, or until a signal.
+    /// Stops the running thread for good, or until a signal.
     #[inline(always)]
     pub(crate) fn stop<S: Sink>(
         &mut self,
@@ -53,7 +55,8 @@ impl Local {
         log.tell(here, stopped(thread, why, ticks, None))
     }
 
-    /// The running thread stops, and goes to the back of the ready queue, or into the release queue.
+    /// Charges and stops the running thread, and puts it at the back of the ready queue, or into
+    /// the release queue.
     #[inline(always)]
     pub(crate) fn stop_to_back<S: Sink>(
         &mut self,
@@ -74,8 +77,8 @@ impl Local {
         log.tell(here, stopped(thread, why, ticks, until))
     }
 
-    /// The running thread, whose context has been charged, stops, and goes to the front of the ready queue, or into the
-    /// release queue with the date with which it has to wait.
+    /// Stops the running thread, whose context has been charged. Puts it at the front of the ready
+    /// queue, or into the release queue with the date until which it has to wait.
     #[inline(always)]
     pub(crate) fn stop_to_front<S: Sink>(
         &mut self,
@@ -97,7 +100,7 @@ impl Local {
         log.tell(here, stopped(thread, why, ticks, until))
     }
 
-    /// At most one stop of the running thread, which has used so many ticks, by what follows its item.
+    /// Stops the running thread, which has used `used` ticks, at most once, as its item requires.
     #[inline(always)]
     pub(crate) fn may_stop<S: Sink>(
         &mut self,

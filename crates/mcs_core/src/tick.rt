@@ -22,7 +22,7 @@ use mcs_script::{Item, Moved};
 use mcs_ticks::{FlowFault, NoteId, Sink, ThreadId, Tick, What};
 
 impl Local {
-    /// What follows a wait: the thread blocks where the word is 0.
+    /// The consequence of a wait: the thread blocks if the word is 0.
     fn after_wait(&self, note: NoteId) -> AfterItem
         requires { note < length self.now.notes }
         ensures { result ≡ after_waited (waited (note_of self.now note)) }
@@ -34,7 +34,7 @@ impl Local {
         }
     }
 
-    /// A signal: a post at home, and mail for another core.
+    /// Makes a signal: a post at home, or mail for another core.
     #[inline(always)]
     fn signal<S: Sink>(
         &mut self,
@@ -69,7 +69,7 @@ impl Local {
         }
     }
 
-    /// A wait: a word that is not 0 is taken, and at word 0 the thread joins the waiters.
+    /// Waits: takes a word that is not 0; if it is 0 the thread joins the waiters.
     #[inline(always)]
     fn wait_on<S: Sink>(
         &mut self,
@@ -97,7 +97,7 @@ impl Local {
         }
     }
 
-    /// What follows a call: the thread blocks where the server is taken.
+    /// The consequence of a call: the thread blocks if the server is taken.
     fn after_enter(&self, server: NoteId) -> AfterItem
         requires { server < length self.now.notes }
         ensures { result ≡ after_entered (waited (note_of self.now server)) }
@@ -109,7 +109,7 @@ impl Local {
         }
     }
 
-    /// A call: a server that is free is taken, and for one that is taken the thread waits.
+    /// Calls a server: takes it if it is free, and waits for it otherwise.
     #[inline(always)]
     fn enter<S: Sink>(
         &mut self,
@@ -143,7 +143,8 @@ impl Local {
         }
     }
 
-    /// The thread's item takes effect, and the thread moves on unless it blocks. It answers what follows the item.
+    /// Lets the thread's item take effect, and moves the thread on unless it blocks. Returns the
+    /// consequence of the item.
     #[inline(always)]
     fn take_effect<S: Sink>(
         &mut self,
@@ -196,7 +197,7 @@ impl Local {
         }
     }
 
-    /// The running thread's item is finished: it takes effect, and at most one stop follows.
+    /// Finishes the running thread's item: it takes effect, and at most one stop follows.
     #[inline(always)]
     fn finish<S: Sink>(
         &mut self,
@@ -221,7 +222,8 @@ impl Local {
         self.may_stop(here, thread, used, after, log)
     }
 
-    /// The end of a tick, before which so many quiet ones are to be counted. It is told whether the thread that runs is known to go on with it.
+    /// Ends a tick, after `quiet` quiet ones that are counted with it. If `goes_on`, the running
+    /// thread is known to continue.
     #[inline(always)]
     pub(crate) fn tick<S: Sink>(
         &mut self,
@@ -262,7 +264,7 @@ impl Local {
     }
 }
 
-/// A signal to a notification of another core.
+/// The mail of a signal to a notification of another core.
 #[inline(always)]
 fn mail_to(here: &Here<'_>, note: NoteId, badge: u32) -> Mail
     requires soon { here.now.moment ≤ 2 ^ 40 }
@@ -281,7 +283,7 @@ fn mail_to(here: &Here<'_>, note: NoteId, badge: u32) -> Mail
     }
 }
 
-/// What follows a move: after the last round the thread is done.
+/// The consequence of a move: after the last round the thread is done.
 fn after_move(moved: Moved, other: AfterItem) -> AfterItem
     ensures { result ≡ after_move moved other }
 {

@@ -18,10 +18,11 @@ use mcs_mail::Mailbox;
 use mcs_ticks::{FlowFault, Sink, Soonest};
 
 impl Local {
-    /// The whole turn of a core at a moment, before which so many quiet ticks are to be counted: it costs what happens in it, however
-    /// many threads, contexts and orders there are. It is told whether the thread that runs is known to go on with the tick of this turn, and
-    /// answers the first moment after this one at which the thread that runs then ends its item or uses up its head, or a ready thread is to run
-    /// instead.
+    /// Takes the whole turn of a core at a moment, after `quiet` quiet ticks that are counted with
+    /// it. Its cost depends on the events of the turn only, not on the number of threads, contexts
+    /// and orders. If `goes_on`, the running thread is known to continue after the tick of this
+    /// turn. Returns the first moment after this one at which the thread that then runs ends its
+    /// item or exhausts its head, or a ready thread has to run instead.
     #[inline(always)]
     pub(crate) fn turn<S: Sink>(
         &mut self,

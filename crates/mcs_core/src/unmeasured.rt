@@ -1,16 +1,16 @@
-//! The sink of a run that no size ends.
+//! A sink without a size, for a run that does not end by its rows.
 ghost use Rattle.std.specs.Prelude.{◌≡◌};
 
 use mcs_ticks::{Measured, Refused, Row, Sink};
 
-/// Tells rows to a sink, and has no size.
+/// Gives rows to a sink, and has no size.
 #[derive(Drop)]
 pub(crate) struct Unmeasured<'a, S: Sink> {
     sink: &'a mut S,
 }
 
 impl<'a, S: Sink> Unmeasured<'a, S> {
-    /// Tells rows to this sink.
+    /// Returns a sink without a size over this one.
     pub(crate) fn new(sink: &'a mut S) -> Unmeasured<'a, S>
         ensures sink { result.sink.ghost_name ≡ sink.entry.ghost_name }
         ensures now { result.sink.now ≡ sink.old }

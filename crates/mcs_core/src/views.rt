@@ -8,7 +8,7 @@ use mcs_ticks::{ContextId, NoMemory};
 use std::alloc::Global;
 
 impl Local {
-    /// The ticks in use of a context: those of the thread that runs, where it is bound to this context.
+    /// The ticks in use of a context: those of the running thread, if it is bound to this context.
     fn in_use(&self, system: &SystemParts, context: ContextId) -> u64
         requires { IfSome self.now.running (λ chosen. chosen.thread < length system.now.threads) }
         ensures { result ≡ using_of system.now context self.now.running }

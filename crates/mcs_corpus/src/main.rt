@@ -1,7 +1,9 @@
-//! Runs the systems that stand as files below the working folder, and says of each run whether it writes what it must.
+//! Runs the systems that are stored as files below the working folder, and prints for each run
+//! whether its output is the expected one.
 //!
-//! The system `NAME` of a part is the file `PART/NAME.toml`. Each of its runs has two files in the folder `PART/NAME`: `RUN.words`, the words
-//! of its command line, and `RUN.stdout`, the bytes that it must write.
+//! The system `NAME` of a part is the file `PART/NAME.toml`. Each of its runs has two files in the
+//! folder `PART/NAME`. `RUN.words` holds the options of its command line, `RUN.stdout` the expected
+//! output.
 #![tactic(auto)]
 
 ghost use Rattle.std.specs.Prelude.{Ok, Err, IfNone, IfSome, ℕ, ◌≡◌, ◌≢◌};
@@ -32,16 +34,16 @@ static PARTS: [&str; 8] = [
     "files",
 ];
 
-/// What came of a run.
+/// The result of a run.
 #[derive(Drop)]
 enum Outcome {
-    /// It wrote the bytes that it must write.
+    /// The output is the expected one.
     Agrees,
-    /// It wrote other bytes. They differ first in this line, counted from 1.
+    /// The output differs. The first difference is in this line, from 1.
     Differs(usize),
-    /// It did not end well.
+    /// The run failed.
     Fails(RunFault),
-    /// It was not begun, since its words are not understood.
+    /// The run did not begin, since its options were refused.
     NoWords,
 }
 
@@ -66,7 +68,7 @@ fn main(rt: HostRuntime) -> io::Result<()> {
     Ok(())
 }
 
-/// Runs a system once for each file of words in its folder, and prints what came of it.
+/// Runs a system once per file of options in its folder, and prints the result.
 fn tell_runs(
     rt: &(impl Files + Print + Alloc + Clone + Threads + Wait + Sync),
     alloc: Global,
@@ -81,7 +83,7 @@ fn tell_runs(
     Ok(())
 }
 
-/// The names in a folder that have this ending, without it, in order.
+/// Returns the names in a folder that have this ending, without it, in order.
 fn names_in(
     rt: &(impl Files + Alloc + Clone),
     alloc: Global,
@@ -98,7 +100,7 @@ fn names_in(
     Ok(names)
 }
 
-/// What came of a run of the system that a text describes.
+/// Runs the system that a text describes, and returns the result.
 fn outcome_of(
     rt: &(impl Files + Alloc + Threads + Wait + Sync),
     alloc: Global,
@@ -117,7 +119,7 @@ fn outcome_of(
     }
 }
 
-/// Compares what a run of the system that a text describes writes with what it must write.
+/// Compares the output of a run with the expected output.
 fn compared(
     rt: &(impl Threads + Wait + Sync),
     alloc: Global,
@@ -142,7 +144,7 @@ fn compared(
     }
 }
 
-/// The number of the first line in which two texts differ, from 1; None where they are the same.
+/// Returns the first line in which two texts differ, from 1, or `None` if they are equal.
 fn line_of_difference(written: &[u8], wanted: &[u8]) -> Option<usize>
     ensures same { IfNone result (written.now ≡ wanted.now) }
     ensures other { IfSome result (λ _. written.now ≢ wanted.now) }

@@ -10,14 +10,14 @@ use Rattle.mcs_fields.specs.declared.cell.Cell.TheVariants as cell
 abbrev pub Text : Type 0
 Text = List ℕ
 
--- a number, one that is so far below 0, a name, or none of them
+-- a number, the negative of a number, a name, or empty
 pub data Value : Type 0 where
   amount : ℕ → Value
   below : ℕ → Value
   name : Text → Value
   empty : Value
 
--- as the code has it
+-- the value of a cell
 abbrev pub value_of : Cell → Value
 value_of (cell.Number n) = amount n
 value_of (cell.Below n) = below n
@@ -31,19 +31,19 @@ is_empty _ = false
 abbrev pub field_of : Bor Text × Cell → Text × Value
 field_of f = (f.0.now, value_of f.1)
 
--- texts with a comma between two of them, and a line feed
+-- texts separated by commas, and a line feed
 abbrev pub parts_text : Bool → List Text → Text
 parts_text later [] = 10 ∷ []
 parts_text later (part ∷ parts) = comma_if later ++ (part ++ parts_text true parts)
 
--- the number that is so far below 0
+-- the negative of n
 abbrev pub below_zero : ℕ → ℤ
 below_zero n = neg_ℤ (pos n)
 
 abbrev pub below_text : ℕ → Text
 below_text n = signed_decimal (below_zero n)
 
--- a value stands as it is: names have no comma, no quote and no line feed
+-- the text of a value without quotes: names have no comma, no quote and no line feed
 abbrev pub value_text : Value → Text
 value_text (amount n) = decimal n
 value_text (below n) = below_text n
@@ -54,11 +54,11 @@ value_text empty = []
 abbrev pub row_text : List Value → Text
 row_text values = parts_text false (map value_text values)
 
--- its first line
+-- the header line of CSV
 abbrev pub names_text : List Text → Text
 names_text names = parts_text false names
 
--- the members of an object, in this order: what is empty is none
+-- the members of an object, in this order; an empty value adds no member
 abbrev pub with_member : Text → Value → Members → Members
 with_member key (amount n) members = member key (number (unsigned n)) members
 with_member key (below n) members = member key (number (negative (below_zero n))) members

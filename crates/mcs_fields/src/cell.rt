@@ -9,11 +9,11 @@ use mcs_ticks::NoMemory;
 #[derive(Clone, Copy, Debug, PartialEq, Eq)]
 pub enum Cell<'a> {
     Number(u64),
-    /// A number that is so far below 0.
+    /// The negative of this number.
     Below(u64),
     /// A name of the system, or a word of this program: letters, digits, `_` and `-`.
     Name(&'a str),
-    /// This line has no such value.
+    /// A value that this line does not have.
     Empty,
 }
 
@@ -25,10 +25,10 @@ impl Cell<'_> {
     }
 }
 
-/// A value and what it is called.
+/// A value and its name.
 pub type Field<'a> = (&'static str, Cell<'a>);
 
-/// Appends a number. After a refusal a first part of it may stand behind the text.
+/// Appends a number. If memory runs out, a first part of it may have been appended.
 pub(crate) fn append_number(text: &mut Vec<u8>, number: u64) -> Result<(), NoMemory>
     ensures ok { OnOk result (text.new.items ≡ text.old.items ++ decimal number) }
     ensures kept { StartsWith text.new.items text.old.items }
@@ -38,7 +38,8 @@ pub(crate) fn append_number(text: &mut Vec<u8>, number: u64) -> Result<(), NoMem
     Ok(())
 }
 
-/// Appends a number that is so far below 0. After a refusal a first part of it may stand behind the text.
+/// Appends the negative of a number: `-` and its digits, or `0` for 0. If memory runs out, a first
+/// part of it may have been appended.
 pub fn append_below(text: &mut Vec<u8>, number: u64) -> Result<(), NoMemory>
     ensures ok { OnOk result (text.new.items ≡ text.old.items ++ below_text number) }
     ensures kept { StartsWith text.new.items text.old.items }

@@ -11,7 +11,8 @@ use mcs_ticks::NoMemory;
 use serde_json::Value;
 use std::alloc::Global;
 
-/// Appends a JSON object of the values that are not empty, in this order, and a line feed. After a refusal the text is as it was.
+/// Appends a JSON object of the values that are not empty, in this order, and a line feed. If
+/// memory runs out, the text is unchanged.
 pub fn put_object(alloc: Global, text: &mut Vec<u8>, fields: &[Field<'_>]) -> Result<(), NoMemory>
     ensures ok { OnOk result (text.new.items ≡ text.old.items ++ object_text (map field_of fields.now)) }
     ensures err { OnErr result (text.new.items ≡ text.old.items) }
@@ -51,7 +52,7 @@ fn append_members(alloc: Global, text: &mut Vec<u8>, fields: &[Field<'_>]) -> Re
     Ok(())
 }
 
-/// Appends a member, behind a comma where another one stands before.
+/// Appends a member, after a comma if `later` is set.
 fn append_member(
     alloc: Global,
     text: &mut Vec<u8>,
@@ -73,7 +74,7 @@ fn append_member(
     }
 }
 
-/// Appends what a member is called, and a colon.
+/// Appends the name of a member, and a colon.
 fn append_key(alloc: Global, text: &mut Vec<u8>, later: bool, name: &str) -> Result<(), NoMemory>
     ensures ok { OnOk result (text.new.items
         ≡ text.old.items ++ comma_if later ++ compact_text (string name.now) ++ 58 ∷ []) }
@@ -85,7 +86,7 @@ fn append_key(alloc: Global, text: &mut Vec<u8>, later: bool, name: &str) -> Res
     Ok(())
 }
 
-/// Appends a text as JSON has it.
+/// Appends a text as a JSON string.
 fn append_quoted(alloc: Global, text: &mut Vec<u8>, word: &str) -> Result<(), NoMemory>
     ensures ok { OnOk result (text.new.items ≡ text.old.items ++ compact_text (string word.now)) }
     ensures kept { StartsWith text.new.items text.old.items }

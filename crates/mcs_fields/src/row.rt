@@ -7,7 +7,7 @@ use crate::cell::{append_below, append_number};
 use crate::{Cell, Field};
 use mcs_ticks::NoMemory;
 
-/// Appends a line of the values, with a comma between two of them. After a refusal the text is as it was.
+/// Appends a line of the values, separated by commas. If memory runs out, the text is unchanged.
 pub fn put_row(text: &mut Vec<u8>, fields: &[Field<'_>]) -> Result<(), NoMemory>
     ensures ok { OnOk result (text.new.items ≡ text.old.items ++ row_text (map (λ f. value_of f.1) fields.now)) }
     ensures err { OnErr result (text.new.items ≡ text.old.items) }
@@ -34,7 +34,7 @@ fn append_row(text: &mut Vec<u8>, fields: &[Field<'_>]) -> Result<(), NoMemory>
     Ok(())
 }
 
-/// Appends a line of names, with a comma between two of them. After a refusal the text is as it was.
+/// Appends a line of names, separated by commas. If memory runs out, the text is unchanged.
 pub fn put_names(text: &mut Vec<u8>, names: &[&str]) -> Result<(), NoMemory>
     ensures ok { OnOk result (text.new.items ≡ text.old.items ++ names_text (map (λ name. name.now) names.now)) }
     ensures err { OnErr result (text.new.items ≡ text.old.items) }
@@ -61,7 +61,7 @@ fn append_names(text: &mut Vec<u8>, names: &[&str]) -> Result<(), NoMemory>
     Ok(())
 }
 
-/// Appends a comma, where something stands before.
+/// Appends a comma if `later` is set.
 pub(crate) fn append_comma(text: &mut Vec<u8>, later: bool) -> Result<(), NoMemory>
     ensures ok { OnOk result (text.new.items ≡ text.old.items ++ comma_if later) }
     ensures kept { StartsWith text.new.items text.old.items }

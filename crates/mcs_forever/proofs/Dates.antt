@@ -1,4 +1,4 @@
--- What is done to dates that are later by d is what is done to the dates, later by d.
+-- Operations on dates that are later by d: their results are those for the dates, later by d.
 use Rattle.std.proofs.Common.{◌≡◌, ℕ, zero, suc, ◌+◌, ◌≤◌, Bool, true, false, ◌||◌, cond, List, [], ◌∷◌, ◌++◌, length, map, take, drop, refl, sym, ap, subst, ◌∙◌, arith}
 use Rattle.std.specs.Prelude.{◌==◌, nat_lt}
 use Rattle.std.specs.List.{range_with_len}

@@ -1,4 +1,5 @@
--- Rows tell of the core's own threads and notifications: at each moment no other thread has a place on the core, and no part of a turn gives it one.
+-- Rows name the core's own threads and notifications: at each moment no other thread has a place on
+-- the core, and no part of a turn gives it one.
 use Rattle.std.proofs.Common.{◌≡◌, ◌≢◌, ℕ, zero, suc, ◌+◌, ◌<◌, ◌≤◌, ◌⊎◌, inl, inr, Bool, true, false, cond, not, List, [], ◌∷◌, ◌++◌, map, length, get_or, refl, sym, ap, subst, ◌∙◌, Option, Some, None, arith}
 use Rattle.std.specs.Prelude.{filter, ◌==◌, ◌&&◌, nat_lt, All, flat_map}
 use Rattle.std.specs.List.{AllByRecursion, slice_get, range_with_len}

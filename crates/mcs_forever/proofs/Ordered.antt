@@ -1,6 +1,7 @@
--- A worked system that recurs though its ready threads became ready in another order. L runs first, since M starts at 4. There H preempts L just
--- after M was released, so that L stands before M in the list in order of entering. From then on H preempts M, which so stands before L. By
--- priority M is before L each time, and no turn asks for more.
+-- A worked system that recurs though its ready threads became ready in another order. L runs first,
+-- since M starts at 4. There H preempts L just after M was released, so that L is before M in the
+-- list in order of entering. Later H preempts M, which is then before L. M is before L by priority
+-- each time, and turns depend only on that.
 use Rattle.std.proofs.Common.{◌≡◌, ℕ, zero, suc, ◌≤◌, ◌⊎◌, inr, Bool, true, false, cond, List, [], ◌∷◌, refl, sym, ap, subst, ◌∙◌, Some, arith}
 use Rattle.std.specs.Prelude.{◌==◌, ◌<◌, filter, map}
 use Rattle.std.specs.List.{AllByRecursion}

@@ -1,4 +1,5 @@
--- A worked system of two cores, of which core 0 signals core 1: core 0 may recur by itself, and core 1 with core 0 alone.
+-- A worked system of two cores; core 0 signals core 1. Core 0 may recur alone, and core 1 only
+-- together with core 0.
 use Rattle.std.proofs.Common.{◌≡◌, ℕ, zero, suc, ◌<◌, Bool, true, false, List, [], ◌∷◌, get_or, refl, Some, arith}
 use Rattle.std.specs.List.{slice_get}
 use Rattle.mcs_control.specs.declared.config.Mode.TheVariants.{Sporadic}

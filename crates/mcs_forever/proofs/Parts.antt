@@ -97,7 +97,7 @@ module _ (system : System) (shift : Shift) (x : ℕ) where
   pub none-order : IsInOrder system shift x no_server
   none-order = record { fit = tt; mode = λ e. refl }
 
--- with which date a thread must wait, where the row of its stop agrees
+-- the date with which a thread must wait, if the row of its stop agrees
 module _ (system : System) (shift : Shift) (x : ℕ) (cause : Why) (k t : ℕ) where
   pub date-later : (c : Context) → shift.contexts (thread_part system x).context ≤ shift.by → Agrees system shift (row.Stop x cause k (date_from t c)) →
       option_map (λ date. date + shift.by) (date_from t c) ≡ date_from (t + shift.by) (later_context (shift.contexts (thread_part system x).context) c)

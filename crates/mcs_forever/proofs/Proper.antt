@@ -35,7 +35,7 @@ second [] ys h = h
 second (x ∷ xs) ys h = second xs ys h.1
 
 module _ (system : System) (well : IsWellFormed system) (shift : Shift) (c t : ℕ) (known : c < system.cores) where
-  -- what the rows tell of the charges of each of the core's contexts
+  -- the charges of each of the core's contexts in the rows
   abbrev AreCharged : List What → Type 0
   AreCharged rows = (x : ℕ) → IsOwnThread system c x → AllSome (told.charges_told system (thread_part system x).context rows)
 
@@ -56,7 +56,7 @@ module _ (system : System) (well : IsWellFormed system) (shift : Shift) (c t : �
   others : (what : What) (rows : List What) → AreCharged (what ∷ rows) → AreCharged rows
   others what rows h x own = second (told.charge_told system (thread_part system x).context what) (told.charges_told system (thread_part system x).context rows) (h x own)
 
-  -- a stop tells a charge of its own thread's context
+  -- a stop has a charge of its thread's context
   stop-some : (x : ℕ) (cause : Why) (k : ℕ) (until : Option ℕ) (rows : List What) → IsOwnThread system c x → AreCharged (row.Stop x cause k until ∷ rows) → 1 ≤ k
   stop-some x cause k until rows own h = by (context == context) (itself context) (h x own)
     where

@@ -1,4 +1,4 @@
--- What repeats, and so is so for ever.
+-- Properties that repeat, and so hold for ever.
 use Rattle.std.proofs.Common.{◌≡◌, ℕ, zero, suc, ◌+◌, ◌-◌, ◌<◌, ◌≤◌, Bool, true, false, not, ◌&&◌, ◌||◌, List, [], ◌∷◌, map, refl, sym, ap, subst, ◌∙◌, arith}
 use Rattle.std.specs.Prelude.{nat_lt, nat_le, ◌==◌}
 use Rattle.std.specs.List.{AllByRecursion}
@@ -23,7 +23,8 @@ module _ (system : System) (group : ℕ → Bool) (shifts : Shifts) (a : ℕ) (w
   abbrev rows : ℕ → ℕ → List What
   rows t c = (clocks.turn_of system c t).rows
 
-  -- what is so of a row is so of the same row later: so it is of all rows, where it is of those before a + d
+  -- a property of a row holds for the same row later: it holds for all rows if it holds for those
+  -- before a + d
   module _ (Test : ℕ → What → Type 0) (timeless : (c : ℕ) (what : What) → Test c what → Test c (later_what (shift_of shifts c) what))
       (from : ℕ) (early : from ≤ a) (first : (t c : ℕ) → from ≤ t → t < a + d → c < system.cores → group c ≡ true → AllByRecursion (Test c) (rows t c)) where
     kept : (c : ℕ) (rows : List What) → AllByRecursion (Test c) rows → AllByRecursion (Test c) (map (later_what (shift_of shifts c)) rows)

@@ -1,4 +1,4 @@
--- What is so of all rows of a schedule is so of those of its turns.
+-- A property of all rows of a schedule is one of the rows of its turns.
 use Rattle.std.proofs.Common.{◌≡◌, ◌≢◌, ℕ, zero, suc, ◌+◌, ◌<◌, ◌≤◌, Bool, true, false, List, [], ◌∷◌, ◌++◌, refl, sym, subst, arith}
 use Rattle.std.specs.Prelude.{flat_map, ◌==◌, nat_lt}
 use Rattle.std.specs.List.{range_with_len, AllByRecursion}

@@ -1,4 +1,4 @@
--- What a turn asks of a core and of its rows, so that a later core makes the same rows, but later.
+-- Conditions on a core and its rows under which a later core makes the same rows, but later.
 use Rattle.std.proofs.Common.{◌≡◌, ℕ, ◌+◌, ◌<◌, ◌≤◌, ◌⊎◌, List, [], ◌∷◌, length, Option, Some, None}
 use Rattle.std.specs.Prelude.{unwrap_or}
 use Rattle.std.specs.List.{AllByRecursion}

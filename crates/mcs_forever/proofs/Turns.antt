@@ -1,4 +1,5 @@
--- A turn at t + d of a core that is later by d makes what the turn at t of the core makes, later by d, where the rows of that turn agree.
+-- The turn at t + d of a core that is later by d. If the rows of the turn at t agree, it makes the
+-- same, later by d.
 use Rattle.std.proofs.Common.{◌≡◌, ℕ, ◌+◌, ◌-◌, ◌≤◌, inl, inr, Bool, true, false, cond, not, List, [], ◌∷◌, ◌++◌, map, min, ◌^◌, refl, sym, ap, ◌∙◌, Option, Some, None, option_map, arith}
 use Rattle.std.specs.Prelude.{filter, ◌==◌, nat_lt, nat_le}
 use Rattle.std.specs.List.{slice_get}
@@ -184,7 +185,7 @@ module _ (queue : Discipline) (system : System) (shift : Shift) (is_shift : IsSh
   keeping-up x cause None e = omega arith
   keeping-up x cause (Some date) e = (omega arith, e)
 
-  -- where threads enter
+  -- places that threads enter
   pends-later : (x date : ℕ) (k : Core) → later (pends x date k) ≡ pends x (date + d) (later k)
   pends-later x date k =
       ap (λ (core : Core). record core { releases = map (later_dated d) (k.releases ++ record { thread = x; date = date } ∷ []) }) (stands-later x Pending k)
@@ -278,7 +279,7 @@ module _ (queue : Discipline) (system : System) (shift : Shift) (is_shift : IsSh
       (charged-goes (turns.enters_back queue) back x why.Spent using k s) (λ r. record { sound = s; alike = refl }) r)
       (ap (λ n. cond (using == n) (turns.stops_to_back queue system now x why.Spent using (later k)) (silent (later k))) (sym (head-later x k)))
 
-  -- where a thread is in its script
+  -- the place of a thread in its script
   item-same : (x : ℕ) (k : Core) → turns.item_of system x (later k) ≡ turns.item_of system x k
   item-same x k = thread-same shift.threads shift.rounds (λ y. slice_get (thread_part system x).script y.place.item) x k.threads (λ y. refl)
 
@@ -716,7 +717,7 @@ module _ (queue : Discipline) (system : System) (shift : Shift) (is_shift : IsSh
         then_part (freed t mails k) (freed now (map (later_mail d) mails) (later k)) (turns.preempts queue system t) (turns.preempts queue system now)
         (freed-goes mails k e f g s (agree-first (freed t mails k).rows (turns.preempts queue system t (freed t mails k).core).rows r)) preempts-goes r
 
-    -- a whole turn, where no order is for its moment, and the alarms are later
+    -- a whole turn, if no order is for its moment and the alarms are later
     pub turn-goes : (mails : List Mail) (k : Core) → filter (turns.is_for_now system c t) system.orders ≡ [] → filter (turns.is_for_now system c now) system.orders ≡ [] →
         RingLater → Sound k → Agree (turns.turn_with queue system c t mails k).rows →
         Goes (turns.turn_with queue system c t mails k) (turns.turn_with queue system c now (map (later_mail d) mails) (later k))

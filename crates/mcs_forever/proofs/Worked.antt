@@ -1,5 +1,6 @@
--- Worked systems that recur. In the first one a context falls back for ever: H has half of the core, and L, which may have three quarters of it,
--- has what is left. From moment 13 on all is repeated after 12 ticks, but the dates of L's context are only 8 later.
+-- Worked systems that recur. In the first one a context falls back for ever: H has half of the
+-- core, and L, which may have three quarters of it, has what is left. All is repeated after 12
+-- ticks from moment 13 on, but the dates of L's context are only 8 later.
 use Rattle.std.proofs.Common.{◌≡◌, ℕ, zero, suc, ◌+◌, ◌<◌, ◌≤◌, ◌⊎◌, inl, inr, Bool, true, false, cond, not, ◌||◌, List, [], ◌∷◌, map, refl, sym, ap, subst, ◌∙◌, Some, None, arith}
 use Rattle.std.specs.Prelude.{◌==◌, filter, flat_map}
 use Rattle.std.proofs.lemmas.Bool.Decides.{nat_tests}
@@ -247,8 +248,8 @@ in-time = (refl, (refl, (refl, (refl, (refl, (refl, (refl, (refl, (refl, (refl, 
 pub never : IsWellFormed (worked 0) → (horizon : ℕ) → IsNeverLate (worked 0) all horizon
 never well horizon = never-late (worked 0) all shifts 13 well (recurs 0) (subst (AllByRecursion IsInTime) (sym told-up-to-25) in-time) horizon
 
--- A system that has come to rest recurs at each moment: its one thread ends its one round at moment 1. Nothing of it is later any more, and
--- nothing is compared with now.
+-- A system at rest recurs at each moment: its one thread ends its one round at moment 1. No part of
+-- it is later any more, and no date is compared with now.
 abbrev pub ended : System
 ended =
     record {

@@ -1,6 +1,7 @@
--- The same core later: its state, the rows of its turns, the signals under way and its sources' next dates, each later by as many ticks. What no turn
--- compares with now may lag: the dates of a context, and the beginning of a thread's round. A thread with no last round may have ended
--- some rounds more.
+-- A core later: its state, the rows of its turns, the signals under way and its sources' next
+-- dates, each later by the same number of ticks. Dates that no turn compares with now may lag: the
+-- dates of a context, and the beginning of a thread's round. A thread with no last round may have
+-- ended some rounds more.
 use Rattle.std.specs.Prelude.{◌≡◌, ℕ, zero, suc, ◌+◌, ◌-◌, ◌^◌, ◌≤◌, ◌⊎◌, min, List, [], ◌∷◌, map, Option, Some, None, option_map}
 use Rattle.mcs_control.specs.declared.config.Mode.TheVariants.{Sporadic}
 use Rattle.mcs_control.specs.Context.{Context, Budget}
@@ -15,8 +16,8 @@ use Rattle.mcs_core.specs.declared.standing.Thread.{Thread}
 use Rattle.mcs_core.specs.Core.{Core}
 use Rattle.mcs_core.specs.declared.alarm.Alarm.{Alarm}
 
--- how much later a core is: its releases and its signals, the dates of each context, the beginning of each thread's round, and how many
--- rounds more each thread has ended
+-- how much later a core is: its releases and its signals, the dates of each context, the beginning
+-- of each thread's round, and how many rounds more each thread has ended
 pub record Shift : Type 0 where
   pub by : ℕ
   pub contexts : ℕ → ℕ
@@ -38,7 +39,7 @@ abbrev pub later_contexts : (ℕ → ℕ) → ℕ → List (Option Context) → 
 later_contexts by n [] = []
 later_contexts by n (context ∷ contexts) = option_map (later_context (by n)) context ∷ later_contexts by (n + 1) contexts
 
--- the number of a round, so many rounds later: 64 bits hold no more than 2^64 - 1, where it stays
+-- the number of a round, n rounds later: 64 bits hold at most 2^64 - 1, and it stays there
 abbrev pub more_rounds : ℕ → ℕ → ℕ
 more_rounds zero round = round
 more_rounds (suc n) round = min (round + suc n) (2 ^ 64 - 1)
@@ -60,12 +61,12 @@ later_dated by dated = record { thread = dated.thread; date = dated.date + by }
 abbrev pub later_mail : ℕ → Mail → Mail
 later_mail by mail = record mail { arrives = mail.arrives + by; made = mail.made + by }
 
--- a source's next date, with as many dates left behind it
+-- a source's next date, with as many dates left after it
 abbrev pub later_alarm : ℕ → Alarm → Alarm
 later_alarm by alarm = record alarm { date = option_map (λ date. date + by) alarm.date }
 
 module _ (shift : Shift) where
-  -- who runs, the queues' orders, the words and who waits for them are the same
+  -- the running thread, the queues' orders, the words and their waiters are the same
   abbrev pub later_core : Core → Core
   later_core core =
       record core {
@@ -89,12 +90,13 @@ module _ (shift : Shift) where
   later_what (row.Interrupt source note badge) = row.Interrupt source note badge
 
 module _ (system : System) (shift : Shift) where
-  -- nothing is later than the core, and only a thread with no last round has ended more rounds
+  -- no context is later than the core, and only a thread with no last round has ended more rounds
   pub record IsShift : Type 0 where
     pub lags : (context : ℕ) → shift.contexts context ≤ shift.by
     pub endless : (thread : ℕ) → (shift.rounds thread ≡ 0) ⊎ ((thread_part system thread).rounds ≡ 0)
 
-  -- the dates of the thread's context are as much later as the core, and so is the beginning of its round
+  -- the dates of the thread's context are as much later as the core, and so is the beginning of its
+  -- round
   abbrev pub ContextKeepsUp : ℕ → Type 0
   ContextKeepsUp thread = shift.contexts (thread_part system thread).context ≡ shift.by
 
@@ -104,8 +106,10 @@ module _ (system : System) (shift : Shift) where
   abbrev pub IsSporadic : ℕ → Type 0
   IsSporadic thread = (context_part system (thread_part system thread).context).mode ≡ Sporadic
 
-  -- what the core compares with now where it says this row has not lagged. A wake moves the dates of a sporadic context, and a choice those of
-  -- one in bandwidth mode; a stop looks whether the date has come; a round is timed where it ends, and may begin where a word is given
+  -- the dates that the core compares with now, if it emits this row, have not lagged. A wake moves
+  -- the dates of a sporadic context, and a choice those of a context in bandwidth mode; a stop
+  -- checks whether the date has come; a round is timed when it ends, and may begin when a word is
+  -- given
   abbrev pub KeepsUp : What → Type 0
   KeepsUp (row.Wake thread note word) = ContextKeepsUp thread × RoundKeepsUp thread
   KeepsUp (row.Run thread) = ContextKeepsUp thread ⊎ IsSporadic thread

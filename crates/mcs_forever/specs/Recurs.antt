@@ -1,4 +1,5 @@
--- A group of cores recurs: no core outside it signals one in it, and before some moment it stands as it stood so many ticks earlier, but later.
+-- A group of cores recurs: no core outside it signals one in it, and before some moment its state
+-- is that of a number of ticks earlier, but later.
 use Rattle.std.specs.Prelude.{◌≡◌, ℕ, ◌+◌, ◌<◌, ◌≤◌, Bool, true, map, filter, length, Some}
 use Rattle.std.specs.List.{AllByRecursion, slice_get}
 use Rattle.mcs_control.specs.declared.config.Order.{Order}
@@ -38,16 +39,18 @@ module _ (system : System) (group : ℕ → Bool) where
   is_for mail = group (note_part system mail.note).core
 
   module _ (shifts : Shifts) where
-    -- in one world the group stands as in the other, but later. Its cores do so as their states show them, with the ready threads by priority:
-    -- in which order those of different priorities became ready plays no part
+    -- in one world the group is as in the other, but later. Its cores are compared as their states
+    -- show them, with the ready threads by priority: the order in which threads of different
+    -- priorities became ready does not matter
     pub record IsLater (before after : World) : Type 0 where
       pub cores : (c : ℕ) → c < system.cores → group c ≡ true → core_shown system after c
           ≡ later_core (shift_of shifts c) (core_shown system before c)
       pub mails : filter is_for after.mails ≡ map (later_mail shifts.by) (filter is_for before.mails)
 
-    -- the group stands before moment `from` + `by` as before `from`, but later, and no order comes from then on; each source of its cores has
-    -- its next date later and as many dates left, so it has no last date, or none to come; what its cores compare with now in the turns between
-    -- has not lagged
+    -- the group is before moment `from` + `by` as before `from`, but later, and no order comes from
+    -- then on. Each source of its cores has its next date later and as many dates left, so it has
+    -- no last date, or no date to come. The dates that its cores compare with now in the turns
+    -- between have not lagged
     pub record Recurs (from : ℕ) : Type 0 where
       pub closed : IsClosed
       pub some : 1 ≤ shifts.by

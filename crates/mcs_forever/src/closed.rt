@@ -1,4 +1,4 @@
-//! The least groups of cores that no other core signals, by the scripts of all threads.
+//! The smallest groups of cores that no other core signals, by the scripts of all threads.
 ghost use Rattle.std.specs.Prelude.{◌≡◌, ◌+◌, ◌<◌, ◌≤◌, false, true, length, set, replicate, IfOk, IfSome, MatchOption};
 ghost use Rattle.mcs_system.specs.System.{core_of, thread_part};
 ghost use Rattle.mcs_forever.specs.Closed.{AreLeastClosed};
@@ -9,11 +9,12 @@ use mcs_system::System;
 use mcs_ticks::{CoreId, Limits, NoMemory, ThreadId};
 use std::alloc::Global;
 
-/// A set of cores: for each core whether it is one of them.
+/// A set of cores: for each core whether it is in the set.
 pub type CoreSet = [bool; Limits::CORES];
 
-/// For each core, by its number, the least set of cores with it that no core outside the set signals. What the cores of such a set do rests on
-/// them alone, so that they may recur by themselves. `NoMemory` where a growth was refused.
+/// Returns for each core, by its number, the smallest set with it that no core outside the set
+/// signals. The behaviour of such a set depends only on its own cores, so it may recur alone. Fails
+/// only if memory runs out.
 pub fn closed_sets(alloc: Global, system: &System) -> Result<Vec<CoreSet>, NoMemory>
     ensures { IfOk result (λ sets. AreLeastClosed system.now sets.items) }
 {
@@ -26,7 +27,7 @@ pub fn closed_sets(alloc: Global, system: &System) -> Result<Vec<CoreSet>, NoMem
     Ok(sets)
 }
 
-/// For each core those whose threads signal it.
+/// Returns for each core the cores whose threads signal it.
 fn makers(alloc: Global, system: &System) -> Result<Vec<CoreSet>, NoMemory>
     ensures { IfOk result (λ makers. AreMakers system.now makers.items) }
 {
@@ -37,7 +38,7 @@ fn makers(alloc: Global, system: &System) -> Result<Vec<CoreSet>, NoMemory>
     Ok(makers)
 }
 
-/// No script was read yet.
+/// Returns the makers before any script was read: no core signals another.
 fn no_makers(alloc: Global, system: &System) -> Result<Vec<CoreSet>, NoMemory>
     ensures { IfOk result (λ makers. AreMakersUntil system.now 0 0 makers.items) }
 {
@@ -49,7 +50,7 @@ fn no_makers(alloc: Global, system: &System) -> Result<Vec<CoreSet>, NoMemory>
     Ok(makers)
 }
 
-/// Notes the signals of one thread more.
+/// Adds the signals of one more thread.
 fn add_maker(system: &System, thread: ThreadId, makers: &mut [CoreSet])
     requires known { thread < length system.now.threads }
     requires before { AreMakersUntil system.now thread 0 makers.old }
@@ -60,7 +61,7 @@ fn add_maker(system: &System, thread: ThreadId, makers: &mut [CoreSet])
     add_items(system, thread, maker, makers);
 }
 
-/// Notes the signals of a thread's items, whose maker is the thread's core.
+/// Adds the signals of a thread's items, whose maker is the thread's core.
 fn add_items(system: &System, thread: ThreadId, maker: CoreId, makers: &mut [CoreSet])
     requires known { thread < length system.now.threads }
     requires own { maker ≡ core_of system.now (thread_part system.now thread) }
@@ -96,7 +97,7 @@ fn home_signalled(system: &System, item: &Option<Item>) -> Option<CoreId>
     }
 }
 
-/// One maker more that signals the home.
+/// Adds a maker that signals the home.
 fn add(makers: &mut [CoreSet], home: CoreId, maker: CoreId)
     requires home { home < length makers.old }
     requires maker { maker < 64 }
@@ -105,7 +106,7 @@ fn add(makers: &mut [CoreSet], home: CoreId, maker: CoreId)
     makers[home.0][maker.0] = true;
 }
 
-/// The least set with this core that has each maker of each of its cores.
+/// Returns the smallest set with this core that has each maker of each of its cores.
 fn closed_set(makers: &[CoreSet], core: CoreId) -> CoreSet
     requires { core < 64 }
     ensures { IsLeastFor makers.now core result }
@@ -117,7 +118,7 @@ fn closed_set(makers: &[CoreSet], core: CoreId) -> CoreSet
     set
 }
 
-/// The set with this core alone.
+/// Returns the set with this core alone.
 fn only(core: CoreId) -> CoreSet
     requires { core < 64 }
     ensures { result ≡ set (replicate 64 false) core true }
@@ -142,7 +143,7 @@ fn outside(makers: &[CoreSet], set: &CoreSet) -> Option<CoreId>
     None
 }
 
-/// The first core of the one set that is not in the other one.
+/// The first core of `some` that is not in `set`.
 fn missing(some: &CoreSet, set: &CoreSet) -> Option<CoreId>
     ensures { MatchOption result (Has set.now some.now) (IsMissing set.now some.now) }
 {

@@ -1,6 +1,6 @@
-//! Schedules that repeat, of which a first part tells all. The laws are contracts of functions whose bodies are empty: such a function may be
-//! called for what its contract says. Who looks for a period keeps in `Marks` what rows show to have been compared with now, and finds in
-//! `closed_sets` the groups of cores that may recur by themselves.
+//! Schedules that repeat, so that a first part determines all of them. Each law is the contract of
+//! a function with an empty body. For a search for a period, `Marks` keeps which dates rows
+//! compared with now, and `closed_sets` gives the groups of cores that may recur alone.
 #![tactic(auto)]
 
 mod closed;

@@ -19,7 +19,7 @@ pub struct Mark {
 }
 
 impl Mark {
-    /// Nothing was compared yet.
+    /// The mark before any comparison.
     fn none() -> Self
         ensures { result ≡ no_mark }
     {
@@ -29,7 +29,7 @@ impl Mark {
         }
     }
 
-    /// What either mark says.
+    /// Both marks together.
     fn joined(self, other: Mark) -> Self
         ensures { result ≡ joined self other }
     {
@@ -40,7 +40,7 @@ impl Mark {
     }
 }
 
-/// The mode of the thread's context, as the file has it.
+/// The mode of the thread's context in the file.
 fn mode_of(parts: &SystemParts, thread: ThreadId) -> Mode
     ensures { result ≡ mode_of parts.now thread }
 {
@@ -54,7 +54,7 @@ fn mode_of(parts: &SystemParts, thread: ThreadId) -> Mode
     }
 }
 
-/// The thread of whose dates a row shows that they were compared with now, and which of them.
+/// The thread whose dates a row shows to have been compared with now, and which of them.
 fn compared(parts: &SystemParts, what: &What) -> Option<(ThreadId, Mark)>
     ensures { result ≡ compared parts.now what.now }
 {
@@ -76,8 +76,8 @@ fn compared(parts: &SystemParts, what: &What) -> Option<(ThreadId, Mark)>
     Some((thread, Mark { context, round }))
 }
 
-/// What rows show to have been compared with now, of each thread of a system. Contracts see the list of what is marked, by the numbers of the
-/// threads. A row more takes constant time and no memory.
+/// Which dates of each thread of a system were compared with now, by the rows seen. Contracts see
+/// the list of marks, by the numbers of the threads. A new row takes constant time and no memory.
 #[derive(Drop)]
 pub struct Marks {
     marks: Vec<Mark>,
@@ -93,7 +93,7 @@ impl Model for Marks {
 }
 
 impl Marks {
-    /// Before the first row: nothing is marked. `NoMemory` where a growth was refused.
+    /// Returns the marks before the first row. Fails only if memory runs out.
     pub fn new(alloc: Global, system: &System) -> Result<Self, NoMemory>
         ensures { IfOk result (λ marks. marks ≡ marks_of system.now []) }
     {
@@ -101,7 +101,7 @@ impl Marks {
         Ok(Marks { marks })
     }
 
-    /// After one row more of a run of the system.
+    /// Adds one more row of a run of the system.
     pub fn see(&mut self, system: &System, what: &What)
         ensures { (rows : List TheWhat) → self.old ≡ marks_of system.now rows →
             self.new ≡ marks_of system.now (rows ++ what.now ∷ []) }
@@ -114,7 +114,7 @@ impl Marks {
         }
     }
 
-    /// What is marked of the thread, and nothing where there is no such thread.
+    /// The mark of the thread; the empty mark if there is no such thread.
     pub fn of(&self, thread: ThreadId) -> Mark
         ensures { result ≡ get_or self.now thread no_mark }
     {
@@ -125,7 +125,7 @@ impl Marks {
         }
     }
 
-    /// As before the first row: what was marked is forgotten.
+    /// Forgets all marks, as before the first row.
     pub fn clear(&mut self)
         ensures forgotten { self.new ≡ replicate (length self.old) no_mark }
         ensures anew { (system : TheSystem) (rows : List TheWhat) → self.old ≡ marks_of system rows → self.new ≡ marks_of system [] }

@@ -90,7 +90,8 @@ product_le (f ∷ fractions) all =
     let more : 1048576 ^ (2 * length (f ∷ fractions) + 1) ≡ w * 1048576 * 1048576 = two-digits (length fractions) in
     omega arith
 
--- After so many digits, what these fractions must be above together, for the first ones to be above one.
+-- After a number of digits: the sum that these fractions must exceed for the first ones to exceed
+-- one.
 pub record Digits (first now : List Fraction) (digits bar : ℕ) : Type 0 where
   pub all : All IsFraction now
   pub as_many : length now ≡ length first

@@ -1,4 +1,4 @@
--- What contexts are granted, and that a core's sum is in range.
+-- The utilisation of contexts, and the range of a core's sum.
 use Rattle.std.proofs.Common.{◌≡◌, ◌≢◌, ℕ, ◌+◌, ◌*◌, ◌<◌, ◌≤◌, ◌⊎◌, inl, inr, Bool, true, false, cond, eqb, List, [], ◌∷◌, length, get_or, Result, Ok, Err, IsOk, refl, sym, ap, subst, ◌∙◌, arith}
 use Rattle.std.specs.List.{filter, sum_by}
 use Rattle.std.proofs.Math.Nat.{zero-add, mul-le-mul_right, div-le_of_le-mul}

@@ -52,7 +52,7 @@ signalled = refl
 signalled_by_itself : hints_of (system one (thread 0 (Wait 1 ∷ Signal 1 1 ∷ []) ∷ [])) ≡ []
 signalled_by_itself = refl
 
--- a signal of another notification is none of this
+-- a signal of another notification does not count
 other_is_signalled : hints_of (system one (thread 0 (Wait 1 ∷ Signal 0 1 ∷ []) ∷ [])) ≡ Unsignalled 1 ∷ []
 other_is_signalled = refl
 
@@ -78,7 +78,7 @@ unused_share = refl
 just_enough : hints_of (system (context 1 2 10 ∷ context 1 8 10 ∷ []) (thread 0 (Compute 1 ∷ []) ∷ thread 1 (Compute 1 ∷ []) ∷ [])) ≡ []
 just_enough = refl
 
--- each core by itself
+-- each core is summed separately
 on_two_cores : hints_of (system (context 0 3 10 ∷ context 1 8 10 ∷ []) (thread 0 (Compute 1 ∷ []) ∷ thread 1 (Compute 1 ∷ []) ∷ [])) ≡ []
 on_two_cores = refl
 
@@ -105,7 +105,8 @@ interrupted = refl
 other_is_interrupted : hints_of (with_source (system one (thread 0 (Wait 0 ∷ Compute 1 ∷ []) ∷ []))) ≡ Unsignalled 0 ∷ []
 other_is_interrupted = refl
 
--- Three thirds and two parts of which neither is a millionth are more than all of the time, though the shares that are rounded down sum to less.
+-- Three thirds and two parts, neither of them a millionth, exceed the whole time, though the shares
+-- that are rounded down sum to less.
 abbrev thirds : ℕ → ℕ → List ContextPart
 thirds budget period = context 0 1 3 ∷ context 0 1 3 ∷ context 0 1 3 ∷ context 0 budget period ∷ []
 
@@ -115,7 +116,7 @@ on_each = thread 0 (Compute 1 ∷ []) ∷ thread 1 (Compute 1 ∷ []) ∷ thread
 above_by_less_than_a_millionth : hints_of (system (thirds 1 1000001) on_each) ≡ Overcommitted 0 999999 ∷ []
 above_by_less_than_a_millionth = refl
 
--- all of the time, of which each share is rounded down or not
+-- the whole time, with shares that are rounded down or not
 three_thirds : hints_of (system (context 0 1 3 ∷ context 0 1 3 ∷ context 0 1 3 ∷ []) (thread 0 (Compute 1 ∷ []) ∷ thread 1 (Compute 1 ∷ []) ∷ thread 2 (Compute 1 ∷ []) ∷ [])) ≡ []
 three_thirds = refl
 

@@ -1,4 +1,4 @@
--- Contexts to which no thread is bound, and what of its core's time a context is granted.
+-- Contexts to which no thread is bound, and the utilisation of a context.
 use Rattle.std.specs.Prelude.{ℕ, Bool, ◌==◌, ◌*◌, ◌/◌, if◌then◌else◌, List, Option, Some, None}
 use Rattle.std.specs.List.{list_any}
 use Rattle.mcs_control.specs.declared.config.Config.{Config}
@@ -22,7 +22,7 @@ unbound threads context = if is_bound threads context then None else Some (Unbou
 abbrev pub millionths : Config → ℕ
 millionths config = config.budget * 1000000 / config.period
 
--- a round robin context's budget is a slice, and no part of its core's time
+-- the budget of a round-robin context is a slice, not a share of its core's time
 abbrev pub share_by : Kind → Config → ℕ
 share_by RoundRobin config = 0
 share_by Sporadic config = millionths config
@@ -30,7 +30,7 @@ share_by Sporadic config = millionths config
 abbrev pub share : Config → ℕ
 share config = share_by (kind_of config) config
 
--- nobody uses what a context without a thread is granted
+-- a context without a thread has no utilisation
 abbrev pub share_where : Bool → Config → ℕ
 share_where bound config = if bound then share config else 0
 
@@ -38,7 +38,7 @@ share_where bound config = if bound then share config else 0
 abbrev pub share_of : System → ℕ → ℕ
 share_of system context = share_where (is_bound system.threads context) (context_part system context).config
 
--- and as it is, not rounded, where it is granted something
+-- the exact utilisation, if there is any
 abbrev pub part_by : Kind → Config → Option Fraction
 part_by RoundRobin config = None
 part_by Sporadic config = Some (record { numerator = config.budget; denominator = config.period })

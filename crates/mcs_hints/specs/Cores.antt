@@ -1,4 +1,4 @@
--- Cores whose contexts are granted more than all of their time.
+-- Cores whose contexts have a total utilisation above 1.
 use Rattle.std.specs.Prelude.{ℕ, ◌==◌, ◌&&◌, if◌then◌else◌, List, length, Option, Some, None}
 use Rattle.std.specs.List.{filter, filter_map, sum_by}
 use Rattle.mcs_system.specs.System.{System, context_part}
@@ -13,7 +13,7 @@ use Rattle.mcs_hints.specs.Exact.{is_above_one}
 abbrev pub contexts_on : System → ℕ → List ℕ
 contexts_on system core = filter (λ context. (context_part system context).core == core) (numbers (length system.contexts))
 
--- what a context of the core is granted of its time, as it is
+-- the exact utilisation of a context of the core
 abbrev pub part_of : System → ℕ → ℕ → Option Fraction
 part_of system core context =
     let part = context_part system context in
@@ -22,7 +22,7 @@ part_of system core context =
 abbrev pub parts_of : System → ℕ → List Fraction
 parts_of system core = filter_map (part_of system core) (numbers (length system.contexts))
 
--- what a core's contexts are granted of its time together, in millionths, each share rounded down
+-- the total utilisation of a core's contexts in millionths, each share rounded down
 abbrev pub granted : System → ℕ → ℕ
 granted system core = sum_by (share_of system) (contexts_on system core)
 

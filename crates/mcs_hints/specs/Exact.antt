@@ -1,4 +1,4 @@
--- Sums of fractions, as they are.
+-- Exact sums of fractions.
 use Rattle.std.specs.Prelude.{ℕ, Bool, ◌+◌, ◌*◌, ◌/◌, ◌%◌, ◌^◌, ◌≤◌, nat_lt, List, [], ◌∷◌}
 use Rattle.mcs_hints.specs.declared.exact.Fraction.{Fraction}
 
@@ -7,7 +7,7 @@ abbrev pub product : List Fraction → ℕ
 product [] = 1
 product (f ∷ fractions) = f.denominator * product fractions
 
--- the numerator of the sum, where its denominator is that product
+-- the numerator of the sum over this product
 abbrev pub over_product : List Fraction → ℕ
 over_product [] = 0
 over_product (f ∷ fractions) = f.numerator * product fractions + f.denominator * over_product fractions
@@ -16,13 +16,13 @@ over_product (f ∷ fractions) = f.numerator * product fractions + f.denominator
 abbrev pub is_above_one : List Fraction → Bool
 is_above_one fractions = nat_lt (product fractions) (over_product fractions)
 
--- at most one, of a denominator in range
+-- at most one, with a denominator in range
 pub record IsFraction (f : Fraction) : Type 0 where
   pub within : f.numerator ≤ f.denominator
   pub some : 1 ≤ f.denominator
   pub short : f.denominator ≤ 2 ^ 40
 
--- 2^20 of the fraction are so many wholes, and this rest
+-- the whole part and the remainder of 2^20 times the fraction
 abbrev pub wholes_of : Fraction → ℕ
 wholes_of f = f.numerator * 1048576 / f.denominator
 

@@ -1,4 +1,4 @@
--- What of a system is likely a mistake, by its file alone.
+-- Likely mistakes in a system, found from its file alone.
 use Rattle.std.specs.Prelude.{List, ◌++◌, length}
 use Rattle.std.specs.List.{filter_map}
 use Rattle.mcs_system.specs.System.{System}
@@ -8,7 +8,7 @@ use Rattle.mcs_hints.specs.Notes.{items_of, unsignalled}
 use Rattle.mcs_hints.specs.Contexts.{unbound}
 use Rattle.mcs_hints.specs.Cores.{overcommitted}
 
--- of notifications, then of contexts, then of cores, each by number
+-- those of notifications, then of contexts, then of cores, each by number
 abbrev pub hints_of : System → List Hint
 hints_of system =
     filter_map (unsignalled (items_of system.threads) system.sources) (numbers (length system.notes))

@@ -10,8 +10,11 @@ use mcs_system::System;
 use mcs_ticks::NoMemory;
 use std::alloc::Global;
 
-/// The hints of a system, whatever the horizon: first of notifications, then of contexts, then of cores, each by number. It takes time
-/// linear in the items of the scripts, and in the contexts for each core. `NoMemory` where a growth was refused.
+/// Returns the hints of a system, for any horizon: first those of notifications, then of contexts,
+/// then of cores, each by number. Fails with `NoMemory` if memory runs out.
+///
+/// Takes time linear in the items of the scripts, and in the contexts for each core, unless a
+/// core's exact utilisation is 1.
 pub fn hints(alloc: Global, system: &System) -> Result<Vec<Hint>, NoMemory>
     ensures { IfOk result (λ hints. hints.items ≡ hints_of system.now) }
 {

@@ -28,7 +28,7 @@ fn bind_threads(bounds: &mut [bool], threads: &[ThreadPart])
     }
 }
 
-/// Of each context whether a thread is bound to it, in one pass over the threads.
+/// Returns for each context whether a thread is bound to it, in one pass over the threads.
 pub(crate) fn bind_contexts(alloc: Global, parts: &SystemParts) -> Result<Vec<bool>, NoMemory>
     ensures { IfOk result (λ bounds. bounds.items ≡ bounds_of (length parts.now.contexts) parts.now.threads) }
 {

@@ -45,7 +45,7 @@ fn part(config: Config, bound: bool) -> Option<Fraction>
     }
 }
 
-/// What each of the core's contexts is granted, as it is.
+/// Returns the exact utilisation of each context of the core that has one.
 fn parts_of(
     alloc: Global,
     system: &System,

@@ -1,9 +1,10 @@
-//! Whether a sum of fractions is above one, as it is and not rounded.
+//! Whether a sum of fractions is above one, computed exactly.
 ghost use Rattle.std.specs.Prelude.{◌≡◌, ◌≤◌, length, map};
 ghost use Rattle.std.specs.List.{All, sum_by};
 ghost use Rattle.mcs_hints.specs.Exact.{IsFraction, wholes_of, rest_of, is_above_one};
 
-/// A part of a core's time. It is at most one where it is a context's share, and its denominator a period, 1 to 2^40.
+/// A part of a core's time. As the utilisation of a context it is at most one, and its denominator
+/// is a period, 1 to 2^40.
 #[derive(Clone, Copy, Debug, PartialEq, Eq)]
 pub(crate) struct Fraction {
     pub numerator: u64,
@@ -11,10 +12,10 @@ pub(crate) struct Fraction {
 }
 
 impl Fraction {
-    /// By this each fraction is multiplied at a time: 2^20, so that no product is above 2^60.
+    /// Factor by which each fraction is multiplied in a step: 2^20, so no product exceeds 2^60.
     const BASE: u64 = 1_048_576;
 
-    /// How many wholes 2^20 of it are.
+    /// Returns the whole part of 2^20 times the fraction.
     fn wholes(&self) -> u64
         requires { IsFraction self.now }
         ensures { result ≡ wholes_of self.now }
@@ -22,7 +23,7 @@ impl Fraction {
         self.numerator * Self::BASE / self.denominator
     }
 
-    /// What is left of 2^20 of it without those wholes.
+    /// Replaces the fraction by the remainder of 2^20 times it, without the whole part.
     fn keep_rest(&mut self)
         requires { IsFraction self.old }
         ensures { self.new ≡ rest_of self.old }
@@ -52,15 +53,17 @@ fn keep_rests(fractions: &mut [Fraction])
     }
 }
 
-/// Whether the sum of these fractions, at most 4,096, is above one. Digit by digit to the base 2^20, in as many as two for each fraction
-/// and one more it is told from one: a sum that is above one is so by at least one over the product of the denominators. Mostly one or two
-/// digits do. The fractions are used up.
+/// Whether the sum of these fractions, at most 4,096, is above one. The fractions are used up.
+///
+/// The sum is compared digit by digit to the base 2^20. Two digits for each fraction and one more
+/// suffice: a sum above one exceeds it by at least one over the product of the denominators.
+/// Usually one or two digits decide.
 pub(crate) fn is_above_one(fractions: &mut [Fraction]) -> bool
     requires all { All IsFraction fractions.old }
     requires few { length fractions.old ≤ 4096 }
     ensures { result ≡ is_above_one fractions.old }
 {
-    // what the fractions must be above, together
+    // the sum that the remaining fractions must exceed
     let mut bar = 1;
     for _digit in 0..2 * fractions.len() + 1 {
         let wholes = wholes(fractions);

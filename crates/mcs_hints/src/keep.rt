@@ -4,7 +4,7 @@ ghost use Rattle.std.specs.Option.{option_to_list};
 use crate::Hint;
 use mcs_ticks::NoMemory;
 
-/// Where there is a hint, it is the last.
+/// Appends the hint, if there is one.
 pub(crate) fn keep(hints: &mut Vec<Hint>, hint: Option<Hint>) -> Result<(), NoMemory>
     ensures { IfOk result (λ _. hints.new.items ≡ hints.old.items ++ option_to_list hint) }
 {

@@ -1,5 +1,5 @@
-//! What of a system is likely a mistake, by its file alone: notifications that nobody signals, contexts without a thread, and cores whose
-//! contexts are granted more than all of their time.
+//! Likely mistakes in a system, found from its file alone: notifications that are never signalled,
+//! contexts without a thread, and cores whose total utilisation exceeds 100 %.
 #![tactic(auto)]
 
 mod all;

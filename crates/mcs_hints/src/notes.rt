@@ -13,7 +13,7 @@ use mcs_system::{SourcePart, SystemParts, ThreadPart};
 use mcs_ticks::{NoMemory, NoteId};
 use std::alloc::Global;
 
-/// What scripts and sources do with a notification.
+/// The use of a notification by scripts and sources.
 #[derive(Clone, Copy)]
 pub(crate) struct Mark {
     waits: bool,
@@ -26,14 +26,14 @@ impl Mark {
         signals: false,
     };
 
-    /// A script waits on it.
+    /// Records that a script waits on it.
     fn wait(&mut self)
         ensures { self.new ≡ waits_with self.old }
     {
         self.waits = true;
     }
 
-    /// A script signals it, or a source interrupts on it.
+    /// Records that a script signals it, or that a source interrupts on it.
     fn signal(&mut self)
         ensures { self.new ≡ signals_with self.old }
     {
@@ -104,7 +104,7 @@ fn mark_sources(marks: &mut [Mark], sources: &[SourcePart])
     }
 }
 
-/// In one pass over all items, and one over the sources.
+/// Marks all notifications, in one pass over all items and one over the sources.
 pub(crate) fn mark_notes(alloc: Global, parts: &SystemParts) -> Result<Vec<Mark>, NoMemory>
     ensures { IfOk result (λ marks. marks.items ≡ all_marks_of (length parts.now.notes) (items_of parts.now.threads) parts.now.sources) }
 {

@@ -8,7 +8,7 @@ use mcs_system::System;
 use mcs_ticks::NoMemory;
 use std::alloc::Global;
 
-/// All of a core's time, in millionths.
+/// The whole time of a core, in millionths (ppm).
 const WHOLE: u64 = 1_000_000;
 
 fn share(config: Config) -> u64
@@ -28,7 +28,7 @@ fn share_of(config: Config, bound: bool) -> u64
     if bound { share(config) } else { 0 }
 }
 
-/// What each context is granted, once for all cores.
+/// Returns the utilisation of each context, computed once for all cores.
 pub(crate) fn shares(alloc: Global, system: &System, bounds: &[bool]) -> Result<Vec<u64>, NoMemory>
     requires { bounds.now ≡ bounds_of (length system.now.contexts) system.now.threads }
     ensures { IfOk result (λ shares. shares.items ≡ shares_of system.now) }

@@ -7,7 +7,7 @@ use Rattle.std.proofs.lemmas.Bool.{cases_lt, cases_order, le-leb, lt-leb}
 use Rattle.std.proofs.lemmas.List.Sums.{sum_by-cons}
 use Rattle.mcs_histogram.specs.Buckets.{doublings, width, bucket, bucket_end}
 
--- how many of so many powers of two, from 2^a on, are at most v
+-- how many of n powers of two, from 2^a on, are at most v
 abbrev powers : ℕ → ℕ → ℕ → ℕ
 powers v a n = count_by (λ k. leb (2 ^ k) v) (range_with_len a n)
 
@@ -50,7 +50,7 @@ are_powers (suc n) v a = by (cases_lt v (2 ^ a)) (are_powers n v (a + 1))
     by (inl h) rest = subst (ArePowers v a (suc n)) (omega (arith, powers-more v a n false (lt-leb (2 ^ a) v h))) (none_more v a n (powers v (a + 1) n) h rest)
     by (inr h) rest = subst (ArePowers v a (suc n)) (omega (arith, powers-more v a n true (le-leb (2 ^ a) v h))) (one_more v a n (powers v (a + 1) n) h rest)
 
--- d tells how often the width was doubled up to v
+-- d is how often the width was doubled up to v
 pub record IsDoubled (v d : ℕ) : Type 0 where
   pub within : d ≤ 57
   pub low : 0 < d → 64 * 2 ^ d ≤ v
@@ -87,7 +87,8 @@ doublings_is v d h = by (cases_order (doublings v) d)
     by (inr (inl l)) = absurd (less (doublings v) d is h l)
     by (inr (inr l)) = absurd (less d (doublings v) h is l)
 
--- how many widths of its bucket lie below a value: where they were doubled, at least 64, and where they can still be, fewer than 128
+-- how many widths of its bucket lie below a value: at least 64 after a doubling, and fewer than 128
+-- if a further doubling is possible
 pub record HasSteps (v d q : ℕ) : Type 0 where
   pub within : d ≤ 57
   pub low : 0 < d → 64 ≤ q
@@ -159,7 +160,7 @@ bucket-mono a b h = by (doublings a) (a / width a) (doublings b) (b / width b) (
         cases (inr (inl less)) = omega (arith, s.high (omega (arith, t.within)), t.low (omega arith))
         cases (inr (inr more)) = omega arith
 
--- a number tells how often the width was doubled, and how many widths lie below
+-- a bucket number determines how often the width was doubled, and how many widths lie below
 pub same_steps : (a b d q e r : ℕ) → HasSteps a d q → HasSteps b e r → 64 * d + q ≡ 64 * e + r → (d ≡ e) × (q ≡ r)
 same_steps a b d q e r s t h = by (cases_order d e)
   where
@@ -200,7 +201,8 @@ bucket_of_end v =
 
 -- ---- what the code computes
 
--- where 2^r is the greatest power of two that is at most the value, or else 2^6
+-- the doublings from the logarithm: 2^r is the maximum power of two that is at most the value, or
+-- 2^6
 pub log_doubled : (v m r : ℕ) → m ≡ max v 64 → 2 ^ r ≤ m → m < 2 * 2 ^ r → r < 64 → (6 ≤ r) × IsDoubled v (r - 6)
 log_doubled v m r is low high bound = by (cases_lt r 6)
   where
@@ -231,7 +233,7 @@ number-lt v h = by (cases_lt (doublings v) 57) (steps v)
         let same : v / width v ≡ v / 2 ^ 57 = ap (λ d. v / 2 ^ d) most in
         omega arith
 
--- what a number tells of its bucket
+-- the doublings and widths that a number gives for its bucket
 pub end_found : (v number d q : ℕ) → HasSteps v d q → number ≡ 64 * d + q → number < 3776
     → (number / 64 - 1 ≡ d) × (number - 64 * (number / 64 - 1) ≡ q)
 end_found v number d q s e h = by (cases_lt 0 d) (cases_lt d 57)

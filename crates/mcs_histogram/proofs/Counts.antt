@@ -10,7 +10,7 @@ use Rattle.mcs_histogram.specs.Histogram.{count_in, counts_of}
 use Rattle.mcs_histogram.proofs.Lists.{tally, count_by-cons, count_by-add, count_by-none}
 use Rattle.mcs_histogram.proofs.Percentiles.{below}
 
--- ---- the first so many of the values, the latest first
+-- ---- the first `most` of the values, the latest first
 abbrev pub kept : ℕ → List ℕ → List ℕ
 kept most values = drop (length values - most) values
 

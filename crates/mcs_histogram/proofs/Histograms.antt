@@ -1,4 +1,4 @@
--- What is kept after one value more, and what is told of it.
+-- The state after one more value, and the percentile that is returned.
 use Rattle.std.proofs.Common.{◌≡◌, ℕ, suc, ◌+◌, ◌-◌, ◌*◌, ◌^◌, ◌<◌, ◌≤◌, min, max, List, ◌∷◌, length, get_or, set, map, take, sum, Some, sym, ap, ◌∙◌, arith}
 use Rattle.std.specs.Int.{div_ceil}
 use Rattle.std.specs.Option.{option_map}
@@ -28,7 +28,7 @@ counted_more limit value values h =
     ap (map (λ (v : ℕ). min v limit))
     (kept_more (2 ^ 64 - 1) value values (omega (arith, length-map (kept (2 ^ 64 - 1) values) (λ (v : ℕ). min v limit))))
 
--- where no more values count, nothing changes
+-- if no further value counts, the state does not change
 pub full : (limit value : ℕ) (values : List ℕ) → 2 ^ 64 - 1 ≤ length (counted limit values) → histogram_of limit (value ∷ values) ≡ histogram_of limit values
 full limit value values h =
     ap (λ values. of_counted limit (map (λ (v : ℕ). min v limit) values))
@@ -69,7 +69,7 @@ sum_more counts number before count e known is =
     let more = sum_by-set (λ x. x) counts number (before + 1) before known in
     (omega arith, omega arith)
 
--- the first bucket up to which there are so many values as the rank says
+-- the reported percentile comes from the first bucket up to which there are at least `rank` values
 pub told : (percent number rank last greatest : ℕ) (limit count : ℕ) (counts : List ℕ) (l : ℕ) (values : List ℕ)
     → made limit count greatest counts ≡ histogram_of l values → rank ≡ div_ceil (percent * count) 100
     → number < length counts → sum (take number counts) < rank → rank ≤ sum (take (number + 1) counts)

@@ -38,7 +38,7 @@ count_by-none p [] each = refl
 count_by-none p (x ∷ xs) each =
     omega (arith, count_by-cons p x xs, ap tally (each x (inl refl)), count_by-none p xs (λ y i. each y (inr i)))
 
--- where as many pass as there are, each passes
+-- if the predicate holds for as many elements as there are, it holds for each
 pub all_pass : (p : ℕ → Bool) (xs : List ℕ) (x : ℕ) → length xs ≤ count_by p xs → In x xs → p x ≡ true
 all_pass p [] x h i = absurd i
 all_pass p (y ∷ ys) x h i = by (p y) refl i (all_pass p ys x)

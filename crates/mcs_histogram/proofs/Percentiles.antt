@@ -1,4 +1,4 @@
--- Percentiles by counts of buckets, and how near they are told.
+-- Percentiles by counts of buckets, and their distance from the reported ones.
 use Rattle.std.proofs.Common.{◌≡◌, ℕ, ◌+◌, ◌*◌, ◌<◌, ◌≤◌, min, inl, inr, Bool, true, leb, ltb, List, length, Option, Some, None, refl, ap, arith}
 use Rattle.std.specs.List.{count_by, filter}
 use Rattle.std.specs.Option.{option_map}
@@ -13,7 +13,8 @@ use Rattle.mcs_histogram.proofs.Lists.{In, count_by-le, all_pass, IsGreatest, gr
 abbrev pub below : List ℕ → ℕ → ℕ
 below values number = count_by (λ value. ltb (bucket value) number) values
 
--- the percentile lies in the first bucket up to which there are so many percent of the values
+-- the percentile lies in the first bucket up to which there are at least `percent` percent of the
+-- values
 pub percentile_found : (percent number : ℕ) (values : List ℕ) → 100 * below values number < percent * length values
     → percent * length values ≤ 100 * below values (number + 1)
     → (value : ℕ) × (percentile percent values ≡ Some value) × (bucket value ≡ number)
@@ -52,7 +53,7 @@ percentile_found percent number values less enough = with_greatest (greatest_tha
         in
         with_least x g (has_least (filter (covers percent values) values) x i) i
 
--- ---- what is told
+-- ---- the reported percentile
 pub told-le : (percent : ℕ) (values : List ℕ) (value : ℕ) → percentile percent values ≡ Some value → value ≤ greatest_of values
 told-le percent values value e =
     le-fold-max values value (from_filter (covers percent values) values value (is_least (filter (covers percent values) values) value e).is_in).0

@@ -13,7 +13,7 @@ use Rattle.mcs_histogram.specs.Percentile.{covers, percentile}
 use Rattle.mcs_histogram.specs.Histogram.{counted}
 use Rattle.mcs_histogram.proofs.Lists.{In, tally, count_by-cons, is_least, has_least, in_filter, from_filter}
 
--- the least value that covers so many percent
+-- the minimum value that covers `percent` percent
 percentile_is : (percent : ℕ) (values : List ℕ) (m : ℕ) → In m values → covers percent values m ≡ true
     → ((y : ℕ) → covers percent values y ≡ true → m ≤ y) → percentile percent values ≡ Some m
 percentile_is percent values m i enough least = by (has_least (filter (covers percent values) values) m is_in)
@@ -48,7 +48,7 @@ in_at [] k h = absurd (omega arith)
 in_at (x ∷ xs) zero h = inl refl
 in_at (x ∷ xs) (suc k) h = inr (in_at xs k (omega arith))
 
--- the first so many pass
+-- the first n elements satisfy the predicate
 at_least : (p : ℕ → Bool) (xs : List ℕ) (n : ℕ) → n ≤ length xs → ((i : ℕ) → i < n → p (get_or xs i 0) ≡ true) → n ≤ count_by p xs
 at_least p [] n h each = h
 at_least p (x ∷ xs) zero h each = omega arith
@@ -69,7 +69,7 @@ at_most p (x ∷ xs) (suc n) each =
 
 -- ---- nearest rank
 module _ (percent : ℕ) (values rising : List ℕ) (some : 0 < percent) (whole : percent ≤ 100) (same : IsPermutation values rising) (sorted : IsNonDecreasing rising) where
-  -- the place, from 0, where there is a value
+  -- the index, from 0, of an existing value
   bounds : (place : ℕ) → 0 < length values → place ≡ div_ceil (percent * length values) 100 - 1
       → (place < length values) × (100 * place < percent * length values) × (percent * length values ≤ 100 * (place + 1))
   bounds place known is =

@@ -55,7 +55,8 @@ greatest_number : bucket 18446744073709551615 ≡ 3775
 unfolding doublings
 greatest_number = refl
 
--- ---- percentiles: of 15, 20, 35, 40 and 50 the places of 5, 30, 40, 50 and 100 percent are 1, 2, 2, 3 and 5
+-- ---- percentiles: among 15, 20, 35, 40 and 50 the ranks of 5, 30, 40, 50 and 100 percent are 1,
+-- 2, 2, 3 and 5
 five : List ℕ
 five = 35 ∷ 20 ∷ 15 ∷ 50 ∷ 40 ∷ []
 
@@ -114,7 +115,8 @@ all_fields : histogram_of 3 (9 ∷ 1 ∷ []) ≡ record { limit = 3; count = 2; 
 unfolding doublings
 all_fields = refl
 
--- ---- what is told: of 260, 300 and 1000 the place of 50 percent is 2, and the bucket of 300 ends at 303
+-- ---- the reported percentile: of 260, 300 and 1000 the rank of 50 percent is 2, and the bucket of
+-- 300 ends at 303
 told_50 : told_percentile 50 (300 ∷ 260 ∷ 1000 ∷ []) ≡ Some 303
 unfolding doublings
 told_50 = refl

@@ -1,10 +1,11 @@
 ghost use Rattle.std.specs.Prelude.{◌≡◌, ℕ, ◌<◌};
 ghost use Rattle.mcs_histogram.specs.Buckets.{bucket, bucket_end};
 
-/// How many buckets the values of 64 bits have: 128 of width 1, and 64 of each of the widths from 2 to 2^57.
+/// Number of buckets for the values of 64 bits: 128 of width 1, and 64 of each of the widths from 2
+/// to 2^57.
 pub(crate) const BUCKETS: usize = 128 + 57 * 64;
 
-/// The number of the bucket in which the value lies.
+/// Returns the number of the bucket of a value.
 pub(crate) fn bucket(value: u64) -> usize
     ensures number { result ≡ bucket value }
     ensures known { result < BUCKETS }
@@ -14,13 +15,13 @@ pub(crate) fn bucket(value: u64) -> usize
     64 * doublings as usize + (value >> doublings) as usize
 }
 
-/// The greatest value of the bucket with this number.
+/// Returns the maximum value of the bucket with this number.
 pub(crate) fn bucket_end(number: usize) -> u64
     requires { number < BUCKETS }
     ensures { (value : ℕ) → number ≡ bucket value → result ≡ bucket_end value }
 {
     let doublings = (number / 64).saturating_sub(1);
-    // how many buckets of this width would lie below, from 0 on
+    // how many buckets of this width fit below it, from 0 on
     let steps = number - 64 * doublings;
     let width = 1u64 << doublings;
     steps as u64 * width + (width - 1)

@@ -7,9 +7,10 @@ use mcs_ticks::NoMemory;
 use std::alloc::Global;
 use std::marker::Model;
 
-/// How values from 0 to a limit are spread: how many of them lie in each bucket. Each value below 128 has a bucket of its own, and from there
-/// on 64 buckets lie from each power of two up to the next, each at most 1/64 of its least value wide. A value above the limit counts as the
-/// limit. The first 2^64 - 1 values count, and none after them.
+/// The distribution of values from 0 to a limit: the number of values in each bucket. Each value
+/// below 128 has a separate bucket. Above that, each interval from a power of two to the next has
+/// 64 buckets, each at most 1/64 of its minimum value wide. A value above the limit counts as the
+/// limit. Only the first 2^64 - 1 values count.
 #[derive(Debug, Drop)]
 pub struct Histogram {
     limit: u64,
@@ -29,7 +30,7 @@ impl Model for Histogram {
     ghost invariant = { λ a. AreFields a.limit a.count a.counts.items };
 }
 
-/// By nearest rank: the place of the percentile among so many values in rising order, from 1.
+/// Returns the nearest rank of the percentile among `count` values in rising order, from 1.
 fn rank(percent: u64, count: u64) -> u64
     requires { percent ≤ 100 }
     ensures { result ≡ div_ceil (percent * count) 100 }
@@ -37,7 +38,7 @@ fn rank(percent: u64, count: u64) -> u64
     (u128::from(percent) * u128::from(count)).div_ceil(100) as u64
 }
 
-/// The number of the bucket in which the value of this place lies.
+/// Returns the number of the bucket of the value with this rank.
 fn bucket_at(counts: &[u64], place: u64) -> usize
     requires { (0 < place) × (place ≤ sum counts.now) }
     ensures known { result < length counts.now }
@@ -51,13 +52,14 @@ fn bucket_at(counts: &[u64], place: u64) -> usize
         }
         left -= *count;
     }
-    // not reached: the place is one of those that are counted
+    // not reached: the rank is at most the number of counted values
     counts.len()
 }
 
 impl Histogram {
-    /// A histogram of no values yet, with all the room that it ever takes: 8 bytes for each bucket up to that of `limit`, at most 3,776 of
-    /// them. `NoMemory` where a growth was refused.
+    /// Returns a histogram without values. It allocates 8 bytes for each bucket up to that of
+    /// `limit`, at most 3,776 of them, and nothing later. Fails with `NoMemory` if the allocation
+    /// fails.
     pub fn new(alloc: Global, limit: u64) -> Result<Self, NoMemory>
         ensures { IfOk result (λ histogram. histogram ≡ histogram_of limit []) }
     {
@@ -69,7 +71,8 @@ impl Histogram {
         })
     }
 
-    /// One value more, in constant time and without memory. One above the limit counts as the limit.
+    /// Counts one more value, in constant time and without allocation. A value above the limit
+    /// counts as the limit.
     pub fn record(&mut self, value: u64)
         ensures { (limit : ℕ) (values : List ℕ) → self.old ≡ histogram_of limit values → self.new ≡ histogram_of limit (value ∷ values) }
     {
@@ -81,16 +84,16 @@ impl Histogram {
         }
     }
 
-    /// How many values count: all that were recorded, up to 2^64 - 1.
+    /// Returns the number of counted values: all recorded ones, up to 2^64 - 1.
     pub fn count(&self) -> u64
         ensures { result ≡ self.now.count }
     {
         self.count
     }
 
-    /// The greatest value of the bucket in which this percentile of the values lies, by nearest rank, but never one above the greatest of
-    /// all values: at least the percentile and above it by at most 1/64 of it, and exact for 100. `percent` is 1 to 100. None where
-    /// nothing was recorded.
+    /// Returns the percentile by nearest rank, rounded up to the end of its bucket but at most the
+    /// maximum of all values. The result is at least the percentile, above it by at most 1/64 of
+    /// it, and exact for 100. `percent` is 1 to 100. Returns `None` if no value was recorded.
     pub fn percentile(&self, percent: u64) -> Option<u64>
         requires { (0 < percent) × (percent ≤ 100) }
         ensures some { IsSome result ↔ (0 < self.now.count) }

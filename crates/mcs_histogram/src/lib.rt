@@ -1,4 +1,5 @@
-//! How values are spread: a histogram that takes each value in constant time, in room that is taken once, and tells percentiles.
+//! The distribution of values: a histogram that records each value in constant time, allocates
+//! memory once, and returns percentiles.
 #![tactic(auto)]
 
 mod bucket;

@@ -4,7 +4,8 @@ use crate::queues::queues_are_same;
 use mcs_ticks::Queued;
 use std::marker::Model;
 
-/// A notification at a moment: its word, and the threads that wait on it in the order in which they began to wait. Contracts see the note.
+/// A notification at a moment: its word, and the threads that wait for it, in the order in which
+/// they began to wait. Contracts see the notification.
 #[derive(Debug, Drop)]
 pub(crate) struct NoteImage {
     word: u32,
@@ -20,7 +21,7 @@ impl Model for NoteImage {
 }
 
 impl NoteImage {
-    /// A notification with this word and these waiters.
+    /// Returns a notification with this word and these waiters.
     pub(crate) fn new(word: u32, waiters: Vec<Queued>) -> Self
         ensures { result ≡ record { word = word; waiters = waiters.items } }
     {

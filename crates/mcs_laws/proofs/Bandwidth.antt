@@ -166,7 +166,7 @@ module _ (system : System) (well : IsWellFormed system) (x : ℕ) (has : HasBand
   keeps_at : (t : ℕ) → KeepsItsBudget (told.context_before system context t)
   keeps_at t = (budgets-kept system well context t context_known).keeps
 
-  -- it runs in tick t, and has used so much of the head before
+  -- it runs in tick t, and has used this many ticks of the head before
   Runs : ℕ → ℕ → Type 0
   Runs t using = running (suc t) ≡ Some (record { thread = x; using = using })
 

@@ -47,7 +47,7 @@ split (suc k) low high (u ∷ us) l h =
     let s = split k (u + 1) high us (omega (arith, h.1)) h.2 in
     record { mid = s.mid; from = omega (arith, h.0, s.from); to = s.to; used = (h.0, omega (arith, s.from), s.used); left = s.left }
 
--- after a charge the first date is none of those that were used
+-- after a charge the first date is not one of those that were used
 first-after : (period low mid : ℕ) (us ws vs : List ℕ) → mid ≤ low + period → IsWithin mid (low + period) us → IsWithin low mid ws → IsUnder (us ++ map (λ date. date + period) ws) vs → IsFrom mid vs
 first-after period low mid us ws [] l p q r = tt
 first-after period low mid [] [] (v ∷ vs) l p q r = absurd r

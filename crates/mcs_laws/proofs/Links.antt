@@ -99,7 +99,7 @@ module _ (system : System) (c t x : ℕ) where
       said-append (turns.takes_effect by_priority system c t x item core).mails _ (takes_effect-said i item core e)
       (may_stop-none by_priority system c t x using (turns.after_item system x item core) _)
 
-  -- the end of the tick where x runs
+  -- the end of the tick if x runs
   after_count-said : (using : ℕ) (core : Core) → AreSaidBy (turns.after_count by_priority system c t x using core).mails
   after_count-said using core =
       said-cond ((thread_of core x).place.left == 0) _ _
@@ -121,7 +121,7 @@ one-runs k chosen e none =
     differs x e = grind (arith, nat_tests)
 
 module _ (system : System) (well : IsWellFormed system) where
-  -- a thread that runs on core b is one of its own
+  -- a thread that runs on core b is one of core b's threads
   pub runs-at-home : (b t : ℕ) → b < system.cores → (chosen : Chosen) → (clocks.core_shown system (clocks.world system t) b).running ≡ Some chosen →
       core_of system (thread_part system chosen.thread) ≡ b
   unfolding own_core

@@ -44,7 +44,7 @@ start-is (part ∷ parts) (suc x) known sole =
     another : (a b s u : ℕ) → a ≢ b → cond (a == b) s u ≡ u
     another a b s u e = grind (arith, nat_tests)
 
--- a new context's head comes where it may be used from
+-- a new context's head comes when it may first be used
 first-head : (config : Config) (mode : Mode) (at : ℕ) → head_moment (new_context config mode at) ≤ at
 first-head config mode at = by (kind_of config)
   where

@@ -1,4 +1,4 @@
--- Threads are ready and run where the dates of their contexts have come.
+-- Threads are ready and run only when the dates of their contexts have come.
 use Rattle.std.proofs.Common.{◌≡◌, ◌≢◌, ℕ, suc, ◌+◌, ◌<◌, ◌≤◌, ◌⊎◌, inl, inr, Bool, true, false, not, cond, List, [], ◌∷◌, ◌++◌, length, set, get_or, Option, Some, None, refl, sym, ap, subst, ◌∙◌, arith}
 use Rattle.std.specs.Prelude.{filter, ◌==◌, nat_lt, nat_le}
 use Rattle.std.specs.List.{AllByRecursion}
@@ -71,7 +71,7 @@ ready-come t context e = by context.budget e
     by (Slice left) e = omega arith
 
 module _ (x : ℕ) where
-  -- a thread that is in none of these places
+  -- a thread without any of these places
   none-dated : (m : ℕ) (releases : List Dated) → times_dated x releases ≡ 0 → AllByRecursion (λ (dated : Dated). dated.thread ≡ x → m ≤ dated.date) releases
   none-dated m [] e = tt
   none-dated m (dated ∷ others) e =
@@ -122,7 +122,7 @@ module _ (system : System) (t x : ℕ) where
   abbrev pub IsAlone : Core → Type 0
   IsAlone k = (y : ℕ) → Owns y → places y k ≤ held.one x y
 
-  -- whoever stops or wakes and has the context is the thread, and it is in no queue
+  -- a thread that stops or wakes and has the context is the thread, and it is in no queue
   pub record IsFree (y : ℕ) (k : Core) : Type 0 where
     pub same : y ≡ x
     pub ready : times_queued x k.ready ≡ 0
@@ -138,7 +138,7 @@ module _ (system : System) (t x : ℕ) where
   moved : (a b past : ℕ) (o : Option Chosen) (ready : List Queued) (releases : List Dated) → a ≡ b → IsOnTime x a past o ready releases → IsOnTime x b past o ready releases
   moved a b past o ready releases e h = let P : ℕ → Type 0 = λ m. IsOnTime x m past o ready releases in subst P e h
 
-  -- where a thread enters
+  -- the place that a thread enters
   abbrev pub Fits : ℕ → Option ℕ → Type 0
   Fits m None = m < suc t
   Fits m (Some date) = m ≤ date

@@ -468,7 +468,7 @@ module _ (system : System) (c t y : ℕ) where
       chain : (a b z d e f g h : ℕ) → b ≤ a → z ≤ b → d ≤ z → e ≤ d → f ≤ e → g ≤ f → h ≤ g → h ≤ a
       chain a b z d e f g h p o q r s u v = omega arith
 
--- at first a thread has a place where it starts
+-- at first a thread has the place of its start
 opening-dated : (system : System) (c y number : ℕ) (threads : List ThreadPart) → times_dated y (opening_releases system c number threads) ≤ cond (nat_lt y number) 0 1
 opening-dated system c y number [] = omega arith
 opening-dated system c y number (part ∷ parts) = by (core_of system part == c) (opening-dated system c y (number + 1) parts)

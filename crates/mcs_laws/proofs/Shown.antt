@@ -28,7 +28,7 @@ module _ (system : System) (x : ℕ) where
       by true e = omega (arith, h (equal (thread_part system chosen.thread).context x e))
       by false e = omega arith
 
-  -- nothing is in use unless its thread runs
+  -- no ticks are in use unless its thread runs
   none-used : (t : ℕ) (o : Option Chosen) → (told.home_before system x t).running ≡ o → ¬ ItsThreadRuns system x t → using_of system x o ≡ 0
   none-used t None e h = refl
   none-used t (Some chosen) e h = by ((thread_part system chosen.thread).context == x) refl

@@ -157,7 +157,7 @@ module _ (system : System) (well : IsWellFormed system) (x : ℕ) (has : HasSlic
       by (k ∷ []) f l = let h = first k [] f in (h.0, omega (arith, h.1, is_left), tt)
       by (k ∷ j ∷ ks) f l = absurd (omega (arith, l))
 
-  -- over moments before the last of which none comes
+  -- over moments without an order before the last one
   within : (from n : ℕ) → told.IsUnordered system x from (n - 1) → AreWithin (charges_from system x from n) (budget system x from) (holds from).left
   within from zero unordered = tt
   within from (suc n) unordered =

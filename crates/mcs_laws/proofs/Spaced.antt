@@ -141,7 +141,7 @@ changes-spaced system well x known kind changes none sound = rw opening (rw step
         consumed-spaced config.budget config.period (max_refills_of config) (steps_of system.min_budget mode changes) (dates_from at config.budget)
         (kept-new config.budget config.period at fits) steps.proper
 
--- no order comes where the system has none for the context
+-- no order comes if the system has none for the context
 pub no-orders : (system : System) (x : ℕ) (history : told.History system x) → told.IsNeverReconfigured system x → (t : ℕ) →
     orders_of (told.changes_before system x history t) ≡ []
 no-orders system x history unordered t =

@@ -1,4 +1,5 @@
--- What a thread has used is charged: a turn charges at least the ticks in use, where the thread is no longer running.
+-- The charge for used ticks: a turn charges at least the ticks in use, if the thread is no longer
+-- running.
 use Rattle.std.proofs.Common.{◌≡◌, ℕ, ◌+◌, ◌<◌, ◌≤◌, Bool, true, false, not, cond, List, [], ◌∷◌, ◌++◌, Option, Some, None, refl, sym, ap, subst, ◌∙◌, arith}
 use Rattle.std.specs.Prelude.{filter, ◌==◌, nat_lt, sum}
 use Rattle.std.proofs.lemmas.Bool.Decides.{nat_tests}
@@ -175,7 +176,7 @@ module _ (system : System) (c t x : ℕ) where
       (stop y using using why.Spent (turns.date_of system t y (turns.charged system y using k)) k.running stopped e refl (λ own. omega arith))
       (quiet k.running (silent k) refl)
 
-  -- a yield charges the whole head, of which no more is in use
+  -- a yield charges the whole head, and at most that is in use
   may_stop-spends : (y using : ℕ) (cause : AfterItem) (k : Core) → k.running ≡ Some (record { thread = y; using = using }) →
       (cause ≡ after.Yields → y ≡ x → using ≤ head_amount (turns.its_context system y k)) → Spends k.running (turns.may_stop by_priority system t y using cause k)
   may_stop-spends y using after.Ends k e l = stop y using using why.Done None k.running (turns.may_stop by_priority system t y using after.Ends k) e refl (λ own. omega arith)

@@ -62,7 +62,7 @@ record Goes (core : Core) (made : Turn) : Type 0 where
 abbrev AtMostOne : Turn → Type 0
 AtMostOne made = (stops made.rows ≡ 0) ⊎ ((stops made.rows ≡ 1) × (made.core.running ≡ None))
 
--- a part in which at most one stops, and none where none runs
+-- a part in which at most one thread stops, and none if no thread runs
 record Rests (core : Core) (made : Turn) : Type 0 where
   idle : core.running ≡ None → (stops made.rows ≡ 0) × (made.core.running ≡ None)
   one : AtMostOne made
@@ -90,7 +90,7 @@ one-then first part e (inr f) = inr (stops-append first.rows (part first.core).r
 rests : (core : Core) (made : Turn) → Goes core made → Rests core made
 rests core made g = record { idle = λ e. (g.none, g.same ∙ e); one = inl g.none }
 
--- where one runs
+-- a thread runs
 runs-one : (core : Core) (made : Turn) (chosen : Chosen) → core.running ≡ Some chosen → AtMostOne made → Rests core made
 runs-one core made chosen e h = record { idle = λ f. absurd (no (sym f ∙ e)); one = h }
   where
@@ -355,7 +355,7 @@ module _ (queue : Discipline) (system : System) (c t : ℕ) where
       by (inl e) = whole (omega (arith, e))
       by (inr p) = whole (omega (arith, p.0))
 
--- each charge is told by a stop
+-- each charge is in the row of a stop
 charges-few : (system : System) (x : ℕ) (rows : List What) → length (charges_told system x rows) ≤ stops rows
 charges-few system x [] = omega arith
 charges-few system x (what ∷ rows) = by what (charges-few system x rows)

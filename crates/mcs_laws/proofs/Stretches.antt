@@ -1,4 +1,4 @@
--- What the turns of some moments do to a context, in which no order for it may come.
+-- Changes of a context by the turns of some moments, without an order for it.
 use Rattle.std.proofs.Common.{◌≡◌, ◌≢◌, ℕ, zero, suc, ◌+◌, ◌<◌, ◌≤◌, Bool, true, false, cond, List, [], ◌∷◌, ◌++◌, refl, sym, ap, ◌∙◌, arith}
 use Rattle.std.specs.Prelude.{filter, ◌==◌, ◌&&◌, nat_le, nat_lt}
 use Rattle.std.specs.List.{AllByRecursion}
@@ -17,7 +17,7 @@ use Rattle.mcs_laws.proofs.InForce.{is_now, obeyed-now}
 no_order : (order : Order) (orders : List Order) → order ∷ orders ≡ [] → ⊥
 no_order order orders e = cc
 
--- where none passes a test, none passes a sharper one
+-- if no item passes a test, no item passes a stricter one
 none_passes : (p q : Order → Bool) (os : List Order) → ((o : Order) → q o ≡ true → p o ≡ true) → filter p os ≡ [] → filter q os ≡ []
 none_passes p q [] h e = refl
 none_passes p q (o ∷ os) h e = by (p o) (q o) refl refl e (none_passes p q os h)

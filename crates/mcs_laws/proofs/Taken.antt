@@ -16,7 +16,7 @@ use Rattle.mcs_laws.specs.Changes.Change.{Charged, Woken, Picked, Ordered}
 use Rattle.mcs_laws.specs.Demand.{periods_begun}
 use Rattle.mcs_laws.proofs.Kept.{head-more}
 
--- the head has no more than the dates
+-- the head has at most the dates
 head-length : (dates : List ℕ) → server.head_amount dates ≤ length dates
 head-length [] = omega arith
 head-length (date ∷ []) = omega arith
@@ -51,7 +51,7 @@ spaced-place budget period dates h (suc q) r l =
     let place : slice_index dates (q * budget + r + budget) ≡ slice_index dates (suc q * budget + r) = ap (slice_index dates) (omega (arith, more)) in
     omega (arith, suc-mul q period, before, later, place)
 
--- so where the date in place n + u comes by t, at most the budgets of the periods begun by then are used
+-- if the date in place n + u comes by t, at most the budgets of the periods begun by then are used
 pub places-fit : (budget period t n u : ℕ) (dates : List ℕ) → 1 ≤ budget → 1 ≤ period → IsSpaced budget period dates → n + u < length dates → slice_index dates (n + u) ≤ t →
     n + u + 1 ≤ budget * periods_begun (suc t) period
 places-fit budget period t n u dates some_budget some_period h l come =

@@ -43,7 +43,7 @@ module _ (system : System) (x from moments : ℕ) where
       by true = refl
       by false = refl
 
-  -- those of all cores at a moment: only the home of the context tells of it
+  -- those of all cores at a moment: only the home of the context emits rows of it
   abbrev at-home : ℕ → List ℕ
   at-home t = cond (nat_le from t && nat_lt t past) (told.charges_at system x t) []
 

@@ -1,4 +1,4 @@
--- What turns do to a context: charges, which are those that the rows tell, unblocking, and orders.
+-- Changes of a context by turns: charges, which are those in the rows, unblocking, and orders.
 use Rattle.std.proofs.Common.{◌≡◌, ◌≢◌, ℕ, ◌+◌, ◌<◌, ◌≤◌, Bool, true, false, not, cond, List, [], ◌∷◌, ◌++◌, length, set, get_or, Option, Some, None, refl, sym, ap, ◌∙◌, append-nil, arith}
 use Rattle.std.specs.Prelude.{filter, flat_map, ◌==◌, ◌&&◌, nat_lt, unwrap_or}
 use Rattle.std.specs.List.{AllByRecursion}
@@ -90,7 +90,7 @@ deeds_of changes = flat_map deed_of changes
 deeds_of-append : (xs ys : List Change) → deeds_of (xs ++ ys) ≡ deeds_of xs ++ deeds_of ys
 deeds_of-append xs ys = flat_map-append deed_of xs ys
 
--- the charges, the wakes and the choices that rows of moment t tell of a context
+-- the charges, the wakes and the choices of a context in rows of moment t
 module _ (system : System) (t x : ℕ) where
   abbrev deed_told : What → List Change
   deed_told (row.Stop thread why k until) = cond ((thread_part system thread).context == x) (Charged k ∷ []) []
@@ -227,11 +227,12 @@ module _ (queue : Discipline) (system : System) (c t x : ℕ) where
   abbrev pub holds : (Option Chosen → Context → Type 0) → Core → Type 0
   holds P core = P core.running (context_of core x)
 
-  -- in bandwidth mode the choice moved the head to its moment, so the head's dates in use reach this moment, or one so much earlier
+  -- in bandwidth mode the choice moved the head to its moment, so the head's dates in use reach
+  -- this moment, or one that many ticks earlier
   abbrev pub Reaches : ℕ → ℕ → Context → Type 0
   Reaches late using context = context.mode ≡ Bandwidth → IsDates context.budget → t ≤ head_moment context + using + late
 
-  -- the running thread, where it is its own, has used at least so much, and so much less than the head at most
+  -- the running thread, if it is the context's, has used at least `low`, and at most `gap` less than the head
   abbrev pub Uses : ℕ → ℕ → ℕ → Option Chosen → Context → Type 0
   Uses low gap late None context = Unit {0}
   Uses low gap late (Some chosen) context = Own chosen.thread → (low ≤ chosen.using) × (chosen.using + gap ≤ head_amount context) × Reaches late chosen.using context
@@ -607,7 +608,7 @@ module _ (queue : Discipline) (system : System) (c t x : ℕ) where
   uses-steady low gap late None k p = tt
   uses-steady low gap late (Some chosen) k p = λ own. ((p own).0, omega (arith, (p own).1, head_amount-woken t k), reaches-woken late chosen.using k.mode k refl (p own).2)
 
-  -- thread y runs and has used so much of the head, the last tick counted
+  -- thread y runs and has used this many ticks of the head, the last tick counted
   record Counts (y using : ℕ) (o : Option Chosen) (k : Context) : Type 0 where
     runs : o ≡ Some (record { thread = y; using = using })
     uses : Own y → (1 ≤ using) × (using ≤ head_amount k) × Reaches 0 using k

@@ -40,7 +40,7 @@ flat_map-filter p f h (suc n) a =
     both : (xs ys us vs : List Mail) → xs ≡ ys → us ≡ vs → xs ++ us ≡ ys ++ vs
     both xs ys us vs e f = cc
 
--- tests of where and when a signal arrives
+-- tests of the core and the moment at which a signal arrives
 other_core : (arrives t home b c : ℕ) → c ≢ b → not ((arrives == t) && (home == b)) && ((arrives == t) && (home == c)) ≡ (arrives == t) && (home == c)
 other_core arrives t home b c e = grind (arith, nat_tests)
 

@@ -1,4 +1,5 @@
--- Values that were worked by hand, on both sides of where a law would fail if it said a little more.
+-- Values worked by hand, on both sides of the edge at which a law would fail if it said a little
+-- more.
 use Rattle.std.specs.Prelude.{◌≡◌, ℕ, List, [], ◌∷◌, Option, Some, option_map, map, refl}
 use Rattle.mcs_ticks.specs.Queue.{Discipline, by_priority, in_one_list}
 use Rattle.mcs_control.specs.declared.config.Config.{Config}
@@ -104,7 +105,8 @@ the_preempted_thread_goes_on = refl
 at_the_back_it_would_not : (runs_by by_priority ≡ Some 0) × (runs_by at_the_back ≡ Some 1)
 at_the_back_it_would_not = (refl, refl)
 
--- A context of 10 in 100, which the file first orders to have 4 in 20 from moment 9 on, and then, within moment 4, 6 in 50 and 8 in 40.
+-- A context of 10 in 100. The file first orders 4 in 20 for it from moment 9 on, and then, within
+-- moment 4, 6 in 50 and 8 in 40.
 abbrev config : ℕ → ℕ → Config
 config budget period = record { budget = budget; period = period; extra = 0 }
 
@@ -184,7 +186,7 @@ signals_away =
 abbrev badges_of : ℕ → List (List ℕ)
 badges_of core = map (λ t. map (λ mail. mail.badge) (turn_of signals_away core t).mails) (0 ∷ 1 ∷ 2 ∷ 3 ∷ [])
 
--- an item makes its signal where it ends, and at no other moment
+-- an item makes its signal when it ends, and at no other moment
 says_its_items : badges_of 0 ≡ [] ∷ (7 ∷ []) ∷ [] ∷ (4 ∷ []) ∷ []
 says_its_items = refl
 

@@ -1,4 +1,4 @@
--- How much a thread runs within a period where its context is in bandwidth mode.
+-- The bound on a thread's run time within a period, if its context is in bandwidth mode.
 use Rattle.std.specs.Prelude.{◌≡◌, ℕ, ◌+◌, ◌<◌, ◌≤◌, length}
 use Rattle.mcs_control.specs.declared.config.Mode.TheVariants.{Bandwidth}
 use Rattle.mcs_system.specs.declared.part.ContextPart.{ContextPart}
@@ -17,12 +17,12 @@ module _ (system : System) (thread : ℕ) where
     pub mode : its_part.mode ≡ Bandwidth
     pub unordered : IsNeverReconfigured system (thread_part system thread).context
 
-  -- of this many ticks from this moment on it runs in at most its budget
+  -- it runs for at most its budget in this many ticks from this moment on
   abbrev pub RunsWithinBudget : ℕ → ℕ → Type 0
   RunsWithinBudget from ticks =
       ticks_run system thread (from + ticks) ≤ ticks_run system thread from + its_part.config.budget
 
--- such a thread runs in any stretch of a period or less for at most its budget
+-- such a thread runs for at most its budget in any stretch of a period or less
 abbrev pub BandwidthIsBounded : System → Type 0
 BandwidthIsBounded system =
     (thread from ticks : ℕ) → HasBandwidth system thread → ticks ≤ (its_part system thread).config.period

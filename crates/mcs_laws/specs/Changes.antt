@@ -1,4 +1,4 @@
--- What is done to a context over time, and what it keeps.
+-- The changes of a context over time, and what they preserve.
 use Rattle.std.specs.Prelude.{ℕ, ◌≤◌, List, [], ◌∷◌, ◌++◌, flat_map, fold}
 use Rattle.mcs_control.specs.declared.config.Config.{Config}
 use Rattle.mcs_control.specs.declared.config.Order.{Order}
@@ -6,7 +6,7 @@ use Rattle.mcs_refills.specs.laws.Spacing.Step.{Charge}
 use Rattle.mcs_control.specs.laws.Contexts.{IsWhole, used_from}
 use Rattle.mcs_control.specs.Context.{Context, context_charged, context_woken, context_chosen, context_ordered, head_amount}
 
--- a charge of some ticks, a wake and a choice of its thread at a moment, and an order
+-- a charge of some ticks, a wake or a choice of its thread at a moment, or an order
 pub data Change : Type 0 where
   Charged : ℕ → Change
   Woken : ℕ → Change
@@ -72,7 +72,7 @@ module _ (min_budget : ℕ) where
   abbrev pub changed_by : List Change → Context → Context
   changed_by changes context = fold changed context changes
 
-  -- a charge takes at least a tick and no more than the head has, and an order gives a budget
+  -- a charge takes at least a tick and at most what the head has, and an order gives a budget
   abbrev pub IsSound : Change → Context → Type 0
   IsSound (Charged k) context = (1 ≤ k) × (k ≤ head_amount context)
   IsSound (Woken t) context = Unit {0}
@@ -83,7 +83,7 @@ module _ (min_budget : ℕ) where
   AreSound [] context = Unit {0}
   AreSound (change ∷ changes) context = IsSound change context × AreSound changes (changed context change)
 
-  -- the dates that the charges take, in order: each the first dates that the context then has
+  -- the dates that the charges take, in order: each takes the first dates that the context then has
   abbrev pub dates_taken : Change → Context → List ℕ
   dates_taken (Charged k) context = used_from (Charge k min_budget) context.budget
   dates_taken (Woken t) context = []

@@ -18,7 +18,7 @@ abbrev pub is_order_for : ℕ → Order → Bool
 is_order_for context order = order.context == context
 
 module _ (system : System) where
-  -- what a row tells that the context was charged: what the stop of its thread says
+  -- the ticks charged to the context by a row: those of the stop of its thread
   abbrev pub charge_told : ℕ → What → List ℕ
   charge_told context (row.Stop thread why k until) =
       if (thread_part system thread).context == context then k ∷ [] else []
@@ -36,7 +36,7 @@ module _ (system : System) where
   abbrev pub charges_told : ℕ → List What → List ℕ
   charges_told context rows = flat_map (charge_told context) rows
 
-  -- the moment t of a row that tells of a wake of the context's thread, and of one that tells of its choice
+  -- the moment t of a row that wakes the context's thread, and of a row that chooses it
   abbrev pub wake_told : ℕ → ℕ → What → List ℕ
   wake_told context t (row.Wake thread note word) =
       if (thread_part system thread).context == context then t ∷ [] else []
@@ -81,11 +81,11 @@ module _ (system : System) where
   abbrev pub context_before : ℕ → ℕ → Context
   context_before context t = context_of (home_before context t) context
 
-  -- the charges that the rows of its core's turn at t tell
+  -- the charges in the rows of its core's turn at t
   abbrev pub charges_at : ℕ → ℕ → List ℕ
   charges_at context t = charges_told context (turn_of system (home_of context) t).rows
 
-  -- the moments of the wakes of its thread that these rows tell, and of its choices: t for each
+  -- the moments of its thread's wakes in these rows, and of its choices: t for each
   abbrev pub wakes_at : ℕ → ℕ → List ℕ
   wakes_at context t = wakes_told context t (turn_of system (home_of context) t).rows
 
@@ -96,25 +96,25 @@ module _ (system : System) where
   abbrev pub orders_at : ℕ → ℕ → List Order
   orders_at context t = filter (is_order_for context) (filter (is_for_now system (home_of context) t) system.orders)
 
-  -- the orders of the file for the context at the moments from `from` on, over so many
+  -- the orders of the file for the context, over this many moments from `from` on
   abbrev pub orders_within : ℕ → ℕ → ℕ → List Order
   orders_within context from moments =
       filter
       (λ (order : Order). is_order_for context order && (nat_le from order.moment && nat_lt order.moment (from + moments)))
       system.orders
 
-  -- no order for the context comes at these moments; one at another moment takes nothing away
+  -- no order for the context comes at these moments; orders at other moments do not matter
   abbrev pub IsUnordered : ℕ → ℕ → ℕ → Type 0
   IsUnordered context from moments = orders_within context from moments ≡ []
 
-  -- the context as it is at first
+  -- the context at the opening
   abbrev pub opening_context : ℕ → Context
   opening_context context =
       let part = context_part system context in new_context part.config part.mode (start_of system.threads context)
 
-  -- all that turns do to the context, by moment: its charges are those that the rows tell, each of at least a tick and of no more
-  -- than the head then has; its wakes and its choices are those of its thread, at their moment, and one or the other unblocks it, by
-  -- its mode; and its orders are those of the system
+  -- all that turns do to the context, by moment: its charges are those in the rows, each at least a
+  -- tick and at most what the head then has; its wakes and choices are those of its thread, at
+  -- their moment, and its mode says which of them unblock it; its orders are those of the system
   pub record History (context : ℕ) : Type 0 where
     pub changes : ℕ → List Change
     pub opening : context_before context 0 ≡ opening_context context
@@ -130,11 +130,11 @@ module _ (system : System) where
   abbrev pub changes_before : (context : ℕ) → History context → ℕ → List Change
   changes_before context history past = flat_map history.changes (range_with_len 0 past)
 
-  -- the changes of the turns from a moment on, over so many
+  -- the changes of the turns over this many moments from `from` on
   abbrev pub changes_from : (context : ℕ) → History context → ℕ → ℕ → List Change
   changes_from context history from moments = flat_map history.changes (range_with_len from moments)
 
-  -- the running thread, where it is bound to the context, has used less than the head
+  -- the running thread has used less than the head, if it is bound to the context
   abbrev pub UsesLess : ℕ → Option Chosen → Context → Type 0
   UsesLess number None context = Unit {0}
   UsesLess number (Some chosen) context =
@@ -145,7 +145,8 @@ module _ (system : System) where
     pub contexts : All (λ (part : ContextPart). GivesBudget part.config) system.contexts
     pub orders : All (λ (order : Order). GivesBudget order.config) system.orders
 
-  -- at each moment each context has the budget in force, of which its running thread has not used all
+  -- at each moment each context has the budget in force, and its running thread has not used all of
+  -- it
   pub record HasItsBudget (context t : ℕ) : Type 0 where
     pub keeps : KeepsItsBudget (context_before context t)
     pub uses : UsesLess context (home_before context t).running (context_before context t)

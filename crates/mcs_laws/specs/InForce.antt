@@ -7,7 +7,7 @@ use Rattle.mcs_system.specs.System.{System, context_part}
 use Rattle.mcs_core.specs.Orders.{by_moment}
 use Rattle.mcs_laws.specs.Histories.{is_order_for, context_before}
 
--- the configuration of the last order, or this one where there is none
+-- the configuration of the last order, or `config` if there is no order
 abbrev pub last_config : Config → List Order → Config
 last_config config [] = config
 last_config config (order ∷ orders) = last_config order.config orders
@@ -18,11 +18,12 @@ module _ (system : System) where
   orders_before context t =
       by_moment (filter (λ order. is_order_for context order && nat_lt order.moment t) system.orders)
 
-  -- the configuration in force before moment t: that of the last of them, or else the file's
+  -- the configuration in force before moment t: that of the last of these orders, or else the
+  -- file's
   abbrev pub config_in_force : ℕ → ℕ → Config
   config_in_force context t = last_config (context_part system context).config (orders_before context t)
 
-  -- before moment t the context has the configuration in force, and is in good order with it
+  -- before moment t the context has the configuration in force, and is valid under it
   pub record HasTheBudgetInForce (context t : ℕ) : Type 0 where
     pub config : (context_before system context t).config ≡ config_in_force context t
     pub whole : IsContext (context_before system context t)

@@ -1,4 +1,4 @@
--- Which cores signal which: by the items of scripts.
+-- Which cores signal which, by the items of scripts.
 use Rattle.std.specs.Prelude.{◌≡◌, ℕ, ◌<◌, length, Some}
 use Rattle.std.specs.List.{slice_get}
 use Rattle.mcs_script.specs.declared.item.Item.TheVariants.{Signal}

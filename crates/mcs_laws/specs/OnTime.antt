@@ -1,4 +1,4 @@
--- When threads are ready and run: the dates of their contexts have come.
+-- Threads on time: when they are ready or run, the dates of their contexts have come.
 use Rattle.std.specs.Prelude.{◌≡◌, ℕ, ◌+◌, ◌<◌, ◌≤◌, List, length, Option, Some, None}
 use Rattle.std.specs.List.{AllByRecursion}
 use Rattle.mcs_ticks.specs.declared.queue.Queued.{Queued}
@@ -11,14 +11,14 @@ use Rattle.mcs_core.specs.Places.{times_queued}
 
 -- a thread whose context has this head moment
 module _ (thread head : ℕ) where
-  -- where it runs, each tick since it was chosen, up to the one that ends at the moment, began at its date or later: the dates of a head
-  -- follow one another
+  -- if it runs, each tick since it was chosen, up to the one that ends at the moment, began at its
+  -- date or later: the dates of a head follow one another
   abbrev pub RunsInTime : ℕ → Option Chosen → Type 0
   RunsInTime moment None = Unit {0}
   RunsInTime moment (Some chosen) = chosen.thread ≡ thread → head + chosen.using < moment
 
-  -- before the turn at the moment, on a core that has these running, ready and waiting for a date: where it is ready the head has come,
-  -- and where it waits for a date that is not before the head
+  -- before the turn at the moment, with these running, ready and waiting for a date: if the thread
+  -- is ready the head has come, and if it waits for a date that is not before the head
   pub record IsOnTime (moment : ℕ) (running : Option Chosen) (queue : List Queued) (releases : List Dated) : Type 0
     where
       pub runs : RunsInTime moment running

@@ -1,4 +1,5 @@
--- Where a thread stands on its core: it runs, is in the ready queue or in the release queue, or waits on a notification.
+-- The place of a thread on its core: it runs, is in the ready queue or in the release queue, or
+-- waits for a notification.
 use Rattle.std.specs.Prelude.{ℕ, ◌+◌, ◌<◌, ◌≤◌, ◌==◌, if◌then◌else◌, Option, Some, None}
 use Rattle.mcs_core.specs.declared.standing.Chosen.{Chosen}
 use Rattle.mcs_system.specs.System.{System}
@@ -12,13 +13,13 @@ module _ (thread : ℕ) where
   times_running None = 0
   times_running (Some chosen) = if chosen.thread == thread then 1 else 0
 
-  -- how many places it has on the core
+  -- the number of its places on the core
   abbrev pub places : Core → ℕ
   places core =
       times_running core.running + times_queued thread core.ready + times_dated thread core.releases
       + times_waiting thread core.notes
 
--- at each moment a thread has at most one place on a core: one that runs is in no queue and waits on nothing, and one that waits or is
--- queued is so once
+-- at each moment a thread has at most one place on a core: a running thread is in no queue and
+-- waits for no notification, and a waiting or queued thread is so once
 abbrev pub ThreadsHaveOnePlace : System → Type 0
 ThreadsHaveOnePlace system = (c t thread : ℕ) → c < system.cores → places thread (core_at system (world system t) c) ≤ 1

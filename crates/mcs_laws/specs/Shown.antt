@@ -1,4 +1,4 @@
--- What the view of a context shows at a moment.
+-- The view of a context at a moment.
 use Rattle.std.specs.Prelude.{◌≡◌, ℕ, ◌<◌, length, Some}
 use Rattle.mcs_control.specs.declared.view.ContextView.{ContextView}
 use Rattle.mcs_control.specs.Context.{view_of}
@@ -16,7 +16,8 @@ module _ (system : System) where
     pub runs : (home_before system context t).running ≡ Some chosen
     pub bound : (thread_part system chosen.thread).context ≡ context
 
-  -- the view shows the whole budget in force before moment t, and no ticks in use unless the context's thread runs
+  -- the view shows the whole budget in force before moment t, and no ticks in use unless the
+  -- context's thread runs
   pub record IsShown (context t : ℕ) (view : ContextView) : Type 0 where
     pub number : view.context ≡ context
     pub budget : ShowsBudget (config_in_force system context t) view

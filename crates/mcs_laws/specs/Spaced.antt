@@ -1,4 +1,4 @@
--- How close to each other the dates are that a sporadic context's charges take.
+-- The distance of the dates that a sporadic context's charges take.
 use Rattle.std.specs.Prelude.{◌≡◌, ℕ, ◌<◌, length}
 use Rattle.mcs_refills.specs.laws.Spacing.{IsSpaced}
 use Rattle.mcs_control.specs.declared.config.Kind.TheVariants.{Sporadic}
@@ -9,15 +9,16 @@ use Rattle.mcs_laws.specs.Histories.{History, changes_from, context_before, IsUn
 use Rattle.mcs_laws.specs.InForce.{config_in_force}
 
 module _ (system : System) where
-  -- of the dates that the context's charges take from a moment on, over so many, the one a whole budget later is at least a period later,
-  -- by the budget and the period in force before these moments
+  -- two dates that the context's charges take over these moments, one a whole budget after the
+  -- other in the list, are at least a period apart. Budget and period are those in force before
+  -- these moments
   abbrev pub IsSpacedOver : (context : ℕ) → History system context → ℕ → ℕ → Type 0
   IsSpacedOver context history from moments =
       let config = config_in_force system context from in
       IsSpaced config.budget config.period
       (taken_by system.min_budget (changes_from system context history from moments) (context_before system context from))
 
-  -- so it is over any moments in which no order for the context comes
+  -- this holds for any moments in which no order for the context comes
   abbrev pub ContextsAreSpaced : Type 0
   ContextsAreSpaced =
       (context : ℕ) (history : History system context) → context < length system.contexts

@@ -1,4 +1,4 @@
--- How worlds, rows and signals follow from the turns of single cores.
+-- Worlds, rows and signals from the turns of single cores.
 use Rattle.std.specs.Prelude.{◌≡◌, ℕ, suc, ◌<◌, ◌≤◌, Bool, not, nat_lt, ◌&&◌, List, ◌++◌, filter, flat_map}
 use Rattle.std.specs.List.{range_with_len}
 use Rattle.mcs_mail.specs.declared.mail.Mail.{Mail}
@@ -26,15 +26,16 @@ module _ (system : System) where
   abbrev pub sent_before : ℕ → List Mail
   sent_before past = flat_map sent_at (range_with_len 0 past)
 
-  -- whether a turn before moment `past` took the signal: it arrived before, on a core that there is
+  -- whether a turn before moment `past` took the signal: it arrived before, on a core that exists
   abbrev pub was_taken : ℕ → Mail → Bool
   was_taken past mail = nat_lt mail.arrives past && nat_lt (note_part system mail.note).core system.cores
 
-  -- the signals under way before moment t are those that the turns before t sent and no turn took, in order of making
+  -- the signals under way before moment t are those that the turns before t sent and no turn took,
+  -- in order of making
   abbrev pub SignalsAreOfTurns : Type 0
   SignalsAreOfTurns = (t : ℕ) → (world system t).mails ≡ filter (λ mail. not (was_taken t mail)) (sent_before t)
 
-  -- so those that arrive on core c at a moment that has not passed are those that were sent there
+  -- those that arrive on core c at a moment that has not passed are those that were sent there
   abbrev pub ArrivalsAreOfTurns : Type 0
   ArrivalsAreOfTurns =
       (t moment c : ℕ) → t ≤ moment →

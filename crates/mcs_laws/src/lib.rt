@@ -1,5 +1,5 @@
-//! Laws of the model over the whole schedules of well-formed systems. Each is the contract of a function whose body is empty: the function may
-//! be called for what its contract says.
+//! Laws of the model over the whole schedules of well-formed systems. Each law is the contract of a
+//! function with an empty body; a call of the function gives what its contract says.
 #![tactic(auto)]
 
 mod laws;

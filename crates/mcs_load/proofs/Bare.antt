@@ -43,7 +43,7 @@ bare_none number (x ∷ xs) h =
 several : (n : ℕ) → cond {A = ℕ} (nat_le 2 (suc (suc n))) 1 0 ≡ 1
 several n = grind (arith, nat_tests)
 
--- where no wait is bare, as a script's items say it
+-- no wait is bare, as a script's items say
 pub are_not_bare : (xs : List Item) → first_bare xs ≡ None → AreNotBare xs (length xs)
 are_not_bare [] h k from within = absurd (omega arith)
 are_not_bare (x ∷ []) h k from within = none_bare 1 (x ∷ []) h k within

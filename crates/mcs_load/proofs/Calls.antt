@@ -15,7 +15,7 @@ use Rattle.mcs_load.specs.Script.{core_of, server_at, no_server, called, call_st
 use Rattle.mcs_load.specs.stored.Ready.{IsServerAt, IsStep, AreSteps, AreReady}
 use Rattle.mcs_load.proofs.Shapes.{waits_at, AreFurther}
 
--- more servers behind them change nothing
+-- further servers change nothing
 module _ (notes : List NotePart) (servers more : List Server) (core : ℕ) where
   server_stays : (number : ℕ) → IsServerAt notes servers core number → IsServerAt notes (servers ++ more) core number
   server_stays number h =
@@ -83,7 +83,7 @@ goes_append [] ys p q = q
 goes_append (x ∷ xs) ys p q =
     goes_cons x (xs ++ ys) (first_append x xs ys (goes_first x xs p)) (goes_append xs ys (goes_rest x xs p) q)
 
--- the steps that a call goes through are some of the server's, and none of them begins a handler
+-- the steps that a call goes through are steps of the server, and they begin no handler
 module _ (badge : ℕ) where
   called_by : (P : Item → Type 0) (b : Bool) (xs ys : List Item) (x : Item) → All P xs → P x → All P ys → All P (cond b xs (x ∷ ys))
   called_by P true xs ys x p q r = p
@@ -105,7 +105,7 @@ module _ (badge : ℕ) where
   called_none_on passes (x ∷ xs) =
       none_on_by passes (is_on x) _ _ x refl (called_none_on (passes_after badge passes x) xs) (called_none_on passes xs)
 
--- what goes on in a server goes on in what a call goes through
+-- if a server's steps continue after each enter, so do those that a call goes through
 module _ (badge : ℕ) where
   next_kept : (e b : Bool) (y : Item) (us vs : List Item) → is_on y ≡ b → (e && b) ≡ false → (e && ends_handler (slice_get (cond b us (y ∷ vs)) 0)) ≡ false
   next_kept e true y us vs is h = no_enter e (ends_handler (slice_get us 0)) h
@@ -149,7 +149,7 @@ module _ (notes : List NotePart) (servers : List Server) (core priority : ℕ) w
         no_wait = λ i e. ap (λ x. is_wait (Some x)) (get_or_push between leave items.Yield i (omega (arith, length-append between (leave ∷ []))));
       }
 
-  -- an item whose notification or server is there, and that enters no server by itself
+  -- an item whose notification or server exists, and that enters no server
   abbrev pub IsKnownItem : Resolved → Type 0
   IsKnownItem (Step step) = IsStep notes servers core step × (is_enter (Some step) ≡ false)
   IsKnownItem (CallOf place badge) = (place < length servers) × ((server_at servers place).core ≡ core)

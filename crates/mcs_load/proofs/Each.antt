@@ -25,13 +25,13 @@ module _ {A : Type 0} (step : List A → Data → Checked A) where
   the_step earlier values i d within is =
       ap (each step earlier) (items_view-drop values i d within ∙ ap (λ v. item (view v) (items_view (drop (i + 1) values))) (sym is))
 
-  -- where the i-th fails
+  -- if the i-th fails
   pub step_fails : (earlier : List A) (values : List Value) (i : ℕ) (d : Value) (fault : LoadFault) → i < length values → d ≡ get_or values i d
       → first_failed (step earlier (view d)).tests ≡ Some fault → first_failed (from_item earlier values i).tests ≡ Some fault
   step_fails earlier values i d fault within is failed =
       ap (λ c. first_failed c.tests) (the_step earlier values i d within is) ∙ fails_first (step earlier (view d)).tests _ fault failed
 
-  -- where it passes
+  -- if it passes
   pub step_passes : (earlier : List A) (values : List Value) (i : ℕ) (d : Value) (x : A) → i < length values → d ≡ get_or values i d
       → (first_failed (step earlier (view d)).tests ≡ None) × ((step earlier (view d)).value ≡ x)
       → (first_failed (from_item (earlier ++ x ∷ []) values (i + 1)).tests ≡ first_failed (from_item earlier values i).tests)

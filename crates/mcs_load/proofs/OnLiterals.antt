@@ -1,4 +1,4 @@
--- What an answer unfolds to compute the walk of a file that is written out.
+-- Definitions to unfold when the walk of a literal file is computed.
 use Rattle.std.specs.Prelude.{⊤}
 use Rattle.std.specs.Str.{is_utf8, chars}
 use Rattle.toml.proofs.OnLiterals.{toml_on_literals}

@@ -1,4 +1,4 @@
--- What is read where no test fails: the words that are put to a key, a row and an array.
+-- The values read if no test fails, for the tests of a key, a row and an array.
 use Rattle.std.proofs.Common.{◌≡◌, ◌≢◌, ℕ, ℤ, pos, negsuc, zero, suc, ◌+◌, ◌<◌, ◌≤◌, nat_le, nat_eq, Bool, true, false, not, cond, List, [], ◌∷◌, ◌++◌, length, length-append, map, get_or, Option, Some, None, is_some, option_and_then, All, AllPairs, IsTrue, le_refl, refl, ap, ◌∙◌, arith}
 use Rattle.std.specs.List.{list_any}
 use Rattle.std.specs.Cmp.Lexicographic.{pointwise}

@@ -1,4 +1,4 @@
--- Where the tests of a script pass, its steps are those of a script of its core.
+-- If the tests of a script pass, its steps are those of a script of its core.
 use Rattle.std.proofs.Common.{◌≡◌, ℕ, suc, ◌+◌, ◌<◌, ◌≤◌, ◌==◌, nat_le, Bool, true, false, not, ◌||◌, ◌⊎◌, inl, inr, List, [], ◌∷◌, ◌++◌, length, length-append, Option, Some, None, is_some, option_and_then, Result, Ok, Err, All, refl, ap, sym, ◌∙◌, arith}
 use Rattle.std.specs.Prelude.{fold, bit_or}
 use Rattle.std.specs.List.{slice_get}

@@ -1,5 +1,5 @@
--- The steps of a script beside the first steps of its items: where a wait stands last or directly before a handler among the steps, an
--- item that is a wait does so among the items.
+-- The steps of a script beside the first steps of its items: if a wait is last or directly before a
+-- handler among the steps, so is a wait among the items.
 use Rattle.std.proofs.Common.{◌≡◌, ℕ, zero, suc, ◌+◌, ◌-◌, ◌<◌, ◌≤◌, nat_le, Bool, true, false, cond, ◌&&◌, ◌⊎◌, inl, inr, List, [], ◌∷◌, ◌++◌, length, length-append, get_or, Some, None, All, refl, ap, sym, ◌∙◌, arith}
 use Rattle.std.specs.List.{slice_get}
 use Rattle.std.proofs.Math.ListN.{get_or-append}
@@ -17,7 +17,8 @@ waits_at xs k = is_wait (Some (get_or xs k items.Yield))
 abbrev pub on_at : List Item → ℕ → Bool
 on_at xs k = is_on (get_or xs k items.Yield)
 
--- an item that is a wait directly before one that begins a handler, the first item only for the first step
+-- an item that is a wait directly before one that begins a handler, the first item only for the
+-- first step
 pub record HasPair (firsts : List Item) (k : ℕ) : Type 0 where
   pub j : ℕ
   pub within : j + 1 < length firsts
@@ -151,7 +152,7 @@ look_several n several = grind (arith, nat_tests)
 look_below : (n j : ℕ) → j + 1 ≡ n → cond {A = ℕ} (nat_le 2 n) 1 0 ≤ j
 look_below n j e = grind (arith, nat_tests)
 
--- where no item is a bare wait, no step is
+-- if no item is a bare wait, no step is one
 module _ (firsts steps : List Item) (shape : HasShape firsts steps) (bare : AreNotBare firsts (length firsts)) where
   some_at : (xs : List Item) (k : ℕ) → k < length xs → slice_get xs k ≡ Some (get_or xs k items.Yield)
   some_at xs k within = slice_get-get_or xs k items.Yield within

@@ -1,4 +1,4 @@
--- Where no test fails, what is read is a well-formed system.
+-- If all tests pass, the system read is well formed.
 use Rattle.std.proofs.Common.{◌≡◌, ◌≢◌, ℕ, zero, suc, ◌+◌, ◌-◌, ◌^◌, ◌<◌, ◌≤◌, ◌==◌, ◌&&◌, nat_eq, nat_le, Bool, true, false, true≢false, not, get_or, sym, ap, ◌∙◌, subst, append_assoc, List, [], ◌∷◌, ◌++◌, length, length-append, map, drop, None, is_some, Result, Ok, Err, IsOk, IsTrue, All, AllPairs, refl, arith}
 use Rattle.std.specs.List.{list_any, flat_map}
 use Rattle.std.proofs.Math.ListN.{get_or-append}
@@ -201,11 +201,11 @@ times_passed at row h =
       (number_with_default_passed at key.Deadline 0 max_ticks 0 row (omega arith) (omega arith) latest.0).1,
     )
 
--- notes of which the last are servers that are free
+-- notes that end in free servers
 abbrev with_servers : List NotePart → List Server → List NotePart
 with_servers notes servers = notes ++ map free_server servers
 
--- a server's number stands behind those of the notifications
+-- a server's number follows those of the notifications
 module _ (notes : List NotePart) (servers : List Server) where
   all_notes : length (with_servers notes servers) ≡ length notes + length servers
   all_notes = length-append notes (map free_server servers) ∙ ap (λ n. length notes + n) (length-map servers free_server)
@@ -465,7 +465,7 @@ numbers_passed file h =
       min_budget = number_with_default_passed top key.MinBudget 1 (2 ^ 20) 1 file (omega arith) (omega arith) least.0;
     }
 
--- the servers so far, behind the notifications
+-- the servers so far, after the notifications
 module _ (cores : ℕ) (some : 1 ≤ cores) (notes : List NotePart) where
   one_name : (earlier : List Server) → map (λ (n : NotePart). n.name) (with_servers notes earlier) ≡ map (λ (n : NotePart). n.name) notes ++ map (λ (s : Server). s.name) earlier
   one_name earlier = map-append (λ (n : NotePart). n.name) notes (map free_server earlier) ∙ ap (λ ns. map (λ (n : NotePart). n.name) notes ++ ns) (names_of earlier)
@@ -528,7 +528,7 @@ module _ (note_names : List (List ℕ)) where
   abbrev IsReadSource : Source → Type 0
   IsReadSource source = (source.note < length note_names) × (1 ≤ source.badge) × (source.badge < 2 ^ 32)
 
-  -- a beat of one of so many sources
+  -- a beat of one of the sources
   abbrev IsBeatBelow : ℕ → Beat → Type 0
   IsBeatBelow bound beat = (beat.source < bound) × (beat.first ≤ 2 ^ 41) × (1 ≤ beat.period) × (beat.period ≤ 2 ^ 40)
 

@@ -1,4 +1,4 @@
--- What some files answer, by the definitions alone.
+-- Results of some files, by the definitions alone.
 use Rattle.std.proofs.Common.{◌≡◌, [], ◌∷◌, codes, Ok, Err, refl}
 use Rattle.mcs_control.specs.declared.config.ControlFault.TheVariants as refused
 use Rattle.mcs_control.specs.declared.config.Mode.TheVariants as modes
@@ -162,7 +162,8 @@ no_budget_of_a_slice : answer (file (codes "version = 2\ncores = 1\ndelay = 1\n[
 unfolding load_on_literals
 no_budget_of_a_slice = refl
 
--- in version 3 a context that says no mode has bandwidth mode, and one that is round robin the other one
+-- in version 3 a context that says no mode has bandwidth mode, and one that is round robin the
+-- other one
 mode_by_default_in_version_3 : answer (file (codes "version = 3\ncores = 1\ndelay = 1\n[[context]]\nname = \"d\"\ncore = 0\nbudget = 9\nperiod = 20\n"))
     ≡ Ok (record {
       cores = 1;
@@ -226,7 +227,7 @@ word_in_version_2 : answer (file (codes "version = 2\ncores = 1\ndelay = 1\n[[no
 unfolding load_on_literals
 word_in_version_2 = refl
 
--- handlers, the last of which never ends
+-- handlers; the last never ends
 handlers : answer (file (codes "version = 3\ncores = 1\ndelay = 1\n[[context]]\nname = \"d\"\ncore = 0\nbudget = 9\nperiod = 20\n[[note]]\nname = \"n\"\ncore = 0\n[[thread]]\nname = \"D\"\ncontext = \"d\"\npriority = 5\nscript = [\"wait n\", \"on 1\", \"compute 2\", \"on 2\", \"spin\"]\n"))
     ≡ Ok (record {
       cores = 1;
@@ -246,7 +247,8 @@ handlers : answer (file (codes "version = 3\ncores = 1\ndelay = 1\n[[context]]\n
 unfolding load_on_literals
 handlers = refl
 
--- a call becomes the steps before the first handler and those of the handlers that have a bit of its badge
+-- a call becomes the steps before the first handler and those of the handlers that have a bit of
+-- its badge
 a_call_becomes_the_steps_of_its_badge : answer (file (codes "version = 3\ncores = 1\ndelay = 1\n[[context]]\nname = \"d\"\ncore = 0\nbudget = 9\nperiod = 20\n[[server]]\nname = \"v\"\ncore = 0\npriority = 40\nscript = [\"compute 4\", \"on 1\", \"yield\", \"on 6\", \"compute 7\"]\n[[thread]]\nname = \"D\"\ncontext = \"d\"\npriority = 5\nscript = [\"call v 2\", \"compute 1\"]\n"))
     ≡ Ok (record {
       cores = 1;
@@ -266,7 +268,7 @@ a_call_becomes_the_steps_of_its_badge : answer (file (codes "version = 3\ncores 
 unfolding load_on_literals
 a_call_becomes_the_steps_of_its_badge = refl
 
--- a server that calls another one: the priority behind a call is the one before it
+-- a server that calls another one: the priority after a call is the one before it
 servers_that_call : answer (file (codes "version = 3\ncores = 1\ndelay = 1\n[[context]]\nname = \"d\"\ncore = 0\nbudget = 9\nperiod = 20\n[[note]]\nname = \"n\"\ncore = 0\n[[server]]\nname = \"v\"\ncore = 0\npriority = 40\nscript = [\"compute 4\", \"on 1\", \"yield\", \"on 6\", \"compute 7\"]\n[[server]]\nname = \"w\"\ncore = 0\npriority = 50\nscript = [\"call v 8\", \"compute 2\"]\n[[thread]]\nname = \"D\"\ncontext = \"d\"\npriority = 5\nscript = [\"call w 1\"]\n"))
     ≡ Ok (record {
       cores = 1;
@@ -324,7 +326,7 @@ wait_alone : answer (file (codes "version = 3\ncores = 1\ndelay = 1\n[[context]]
 unfolding load_on_literals
 wait_alone = refl
 
--- the place is told by items and not by steps
+-- a place names items, not steps
 wait_behind_a_call : answer (file (codes "version = 3\ncores = 1\ndelay = 1\n[[context]]\nname = \"d\"\ncore = 0\nbudget = 9\nperiod = 20\n[[note]]\nname = \"n\"\ncore = 0\n[[server]]\nname = \"v\"\ncore = 0\npriority = 40\nscript = [\"compute 4\", \"on 1\", \"yield\", \"on 6\", \"compute 7\"]\n[[thread]]\nname = \"D\"\ncontext = \"d\"\npriority = 5\nscript = [\"call v 2\", \"wait n\"]\n"))
     ≡ Err (record { kind = kind.WaitLast; spot = record { section = section.Thread; row = 1; key = key.Script; item = 2 } })
 unfolding load_on_literals

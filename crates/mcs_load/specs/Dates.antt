@@ -14,7 +14,7 @@ use Rattle.mcs_load.specs.Keys.{key_name}
 use Rattle.mcs_load.specs.Checks.{Checked, ◌>>=◌, reads}
 use Rattle.mcs_load.specs.Words.{must_at, must_in, if_there, is_in_range, number_or, whole_number, number_with_default, item_count, each}
 
--- a number of a list is above the one before
+-- the minimum of the next number: one more than the last of these, or 0
 abbrev pub least_after : List ℕ → ℕ
 least_after numbers = fold (λ least number. number + 1) 0 numbers
 
@@ -25,11 +25,11 @@ offset number least period at d = do
   _ ← must_in at key.At number OutOfRange (if_there (is_in_range least (period - 1)) (as_integer d))
   reads (number_or 0 (as_integer d))
 
--- a number of `at`, behind those before
+-- a further number of `at`
 abbrev pub next_offset : ℕ → At → List ℕ → Data → Checked ℕ
 next_offset period at earlier d = offset (suc (length earlier)) (least_after earlier) period at d
 
--- what `at` says where it is absent
+-- the numbers of an absent `at`
 abbrev pub zero_alone : Items
 zero_alone = item (integer (pos 0)) no_items
 
@@ -37,7 +37,7 @@ abbrev pub items_or_zero : Option Items → Items
 items_or_zero None = zero_alone
 items_or_zero (Some items) = items
 
--- at most 1,024, and at most 4,096 with those of the sources before
+-- at most 1,024, and at most 4,096 with those of the earlier sources
 unfoldable pub few_offsets : At → ℕ → ℕ → Checked (Unit {0})
 few_offsets at taken count = must_at at key.At TooMany (nat_le count 1024 && nat_le (taken + count) 4096)
 
@@ -62,21 +62,21 @@ offsets taken period at row = do
   values ← at_values at row
   read_values taken period at values
 
--- of `count` dates, how many are those of the k-th of `many` numbers, from 0; a count of 0 means dates without end
+-- of `count` dates, the number that entry k (from 0) of `many` has. A count of 0 means no end.
 abbrev pub share : ℕ → ℕ → ℕ → Option ℕ
 share count many k =
     if count == 0 then Some 0
     else if nat_le count k then None
     else Some ((count - k - 1) / many + 1)
 
--- the dates of a number of `at`, if it has one
+-- the dates of an entry of `at`, if it has any
 abbrev pub beat_of : Pace → ℕ → Option ℕ → List Beat
 beat_of pace offset None = []
 beat_of pace offset (Some count) =
     record { source = pace.source; first = pace.start + offset; period = pace.period; count = count } ∷ []
 
 module _ (pace : Pace) (many : ℕ) where
-  -- the dates of the numbers of `at` of which the first is the k-th
+  -- the dates of the entries of `at` from the k-th
   abbrev pub beats_from : ℕ → List ℕ → List Beat
   beats_from k [] = []
   beats_from k (offset ∷ offsets) = beat_of pace offset (share pace.count many k) ++ beats_from (suc k) offsets
@@ -85,7 +85,7 @@ module _ (pace : Pace) (many : ℕ) where
 abbrev pub dates_of : Pace → List ℕ → Dates
 dates_of pace offsets = record { many = length offsets; beats = beats_from pace (length offsets) 0 offsets }
 
--- the dates of the source with this number, where those before it have so many numbers in `at`
+-- the dates of the source with this number, given how many numbers earlier sources have in `at`
 unfoldable pub read_dates : ℕ → ℕ → At → Members → Checked Dates
 read_dates number taken at row = do
   period ← whole_number at key.Period 1 (2 ^ 40) row
@@ -94,10 +94,10 @@ read_dates number taken at row = do
   offsets ← offsets taken period at row
   reads (dates_of (record { source = number; start = start; period = period; count = count }) offsets)
 
--- how many numbers these sources have
+-- the number of entries of `at` of these sources
 abbrev pub taken_by : List Source → ℕ
 taken_by sources = sum_by (λ source. source.dates.many) sources
 
--- what a system keeps of a source beside its beats
+-- the part of a source that a system keeps besides its dates
 abbrev pub part_of_source : Source → SourcePart
 part_of_source source = record { name = source.name; note = source.note; badge = source.badge }

@@ -24,11 +24,11 @@ use Rattle.mcs_load.specs.Words.{must_at, must_in, if_there, place_of, bytes_or_
 abbrev pub must_item : At → ℕ → FaultKind → Bool → Checked (Unit {0})
 must_item at number kind passes = must_in at key.Script number kind passes
 
--- what a text says in a file of version 3, or in one of version 1 or 2
+-- the item that a text means, in version 3 or in versions 1 and 2
 abbrev pub read_text : Bool → List ℕ → Result Raw ItemFault
 read_text is_new text = if is_new then read_new_as text else read_as text
 
--- what a text says, where it says something
+-- the item, if the text is one
 unfoldable pub said : At → ℕ → Result Raw ItemFault → Checked Raw
 said at number (Ok raw) = reads raw
 said at number (Err fault) = do
@@ -39,7 +39,7 @@ abbrev pub place_or_first : Option ℕ → ℕ
 place_or_first None = 0
 place_or_first (Some place) = place
 
--- the place of this name among those that are known
+-- the index of this name
 unfoldable pub place_named : At → ℕ → List (List ℕ) → List ℕ → Checked ℕ
 place_named at number names name = let found = place_of name names in do
   _ ← must_item at number UnknownName (is_some found)
@@ -48,27 +48,28 @@ place_named at number names name = let found = place_of name names in do
 abbrev pub core_of : List NotePart → ℕ → ℕ
 core_of notes note = (get_or notes note no_note).core
 
--- what stands past the last server; it is never reached
+-- the default beyond the last server, which is never used
 abbrev pub no_server : Server
 no_server = record { name = []; core = 0; priority = 0; steps = [] }
 
 abbrev pub server_at : List Server → ℕ → Server
 server_at servers place = get_or servers place no_server
 
--- of a server's steps, those that a call with this badge goes through: those before the first handler, and those of each handler that has
--- one of its bits; where the steps begin in a handler that it passes over, or not
+-- The steps of a server that a call with this badge goes through: those before the first handler,
+-- and those of each handler with one of its bits. The second argument: whether the steps begin in a
+-- handler that the call passes over.
 abbrev pub called : ℕ → Bool → List Item → List Item
 called badge passes [] = []
 called badge passes (step ∷ steps) =
     if passes || is_on step then called badge (passes_after badge passes step) steps
     else step ∷ called badge passes steps
 
--- the steps that a call of the server with this number becomes, at this priority before and behind it
+-- the steps of a call of the server with this number, at this priority before and after it
 abbrev pub call_steps : ℕ → Server → ℕ → ℕ → List Item
 call_steps number server badge priority =
     items.Enter number server.priority ∷ (called badge false server.steps ++ items.Leave number priority ∷ [])
 
--- what is read of a script so far: the first step of each item, and all steps
+-- a script as read so far: the first step of each item, and all steps
 pub record Body : Type 0 where
   pub firsts : List Item
   pub steps : List Item
@@ -80,7 +81,8 @@ abbrev pub begins_handler : Resolved → Bool
 begins_handler (Step item) = is_on item
 begins_handler (CallOf place badge) = false
 
--- a handler of a thread's script needs a first item that is a wait; a server's handlers are for the badge of the call
+-- a thread's script with a handler begins with a wait. A server's handlers match the badge of the
+-- call.
 abbrev pub may_stand : Bool → List Item → Resolved → Bool
 may_stand is_server firsts item = is_server || (not (begins_handler item) || is_wait (slice_get firsts 0))
 
@@ -91,7 +93,7 @@ hears at number is_server firsts item = must_item at number OnWithoutWait (may_s
 unfoldable pub few_steps : At → ℕ → ℕ → Checked (Unit {0})
 few_steps at number count = must_item at number TooMany (nat_le count 1024)
 
--- the notifications, the servers that may be called, and the core and the priority of the script
+-- the notifications, the servers that may be called, and the core and priority of the script
 module _ (notes : List NotePart) (servers : List Server) (core priority : ℕ) where
   abbrev pub note_names : List (List ℕ)
   note_names = map (λ n. n.name) notes
@@ -99,7 +101,7 @@ module _ (notes : List NotePart) (servers : List Server) (core priority : ℕ) w
   abbrev pub server_names : List (List ℕ)
   server_names = map (λ s. s.name) servers
 
-  -- an item with numbers in place of names; a wait is on the script's own core, and so is a server that is called
+  -- an item with names resolved to numbers. A wait and a call are on the script's own core.
   unfoldable pub named : At → ℕ → Raw → Checked Resolved
   named at number (Compute ticks) = reads (Step (items.Compute ticks))
   named at number (Signal name badge) = do
@@ -135,27 +137,28 @@ module _ (notes : List NotePart) (servers : List Server) (core priority : ℕ) w
   with_item before item =
       record { firsts = before.firsts ++ first_step item ∷ []; steps = before.steps ++ steps_of item }
 
-  -- an item that may stand behind those before
+  -- an item that may follow those before
   unfoldable pub heard_item : Bool → Bool → At → List Item → Data → Checked Resolved
   heard_item is_new is_server at firsts d = let number = suc (length firsts) in do
     item ← read_item is_new at number d
     _ ← hears at number is_server firsts item
     reads item
 
-  -- an item behind those before, at most 1,024 steps in all
+  -- a further item, with at most 1,024 steps in all
   unfoldable pub next_item : Bool → Bool → At → Body → Data → Checked Body
   next_item is_new is_server at before d = do
     item ← heard_item is_new is_server at before.firsts d
     _ ← few_steps at (suc (length before.firsts)) (length (with_item before item).steps)
     reads (with_item before item)
 
--- of items whose first one has this number, from 1, the number of the first wait that stands last or directly before a handler
+-- Given items whose first has this number, from 1: the number of the first wait at the end or
+-- directly before a handler.
 abbrev pub bare_from : ℕ → List Item → Option ℕ
 bare_from number [] = None
 bare_from number (item ∷ items) =
     if is_wait (Some item) && ends_handler (slice_get items 0) then Some number else bare_from (suc number) items
 
--- the first item of several may be such a wait
+-- the first of several items may be such a wait
 abbrev pub first_bare : List Item → Option ℕ
 first_bare [] = None
 first_bare (item ∷ []) = bare_from 1 (item ∷ [])

@@ -24,22 +24,22 @@ section_name section.Source = codes "source"
 section_name section.Server = codes "server"
 section_name section.Chain = codes "chain"
 
--- a row that is meant, behind a space
+-- a space and the row, or nothing for 0
 abbrev pub row_text : ℕ → List ℕ
 row_text zero = []
 row_text (suc before) = codes " " ++ decimal (suc before)
 
--- a key that is meant, behind a space
+-- a space and the key, or nothing
 abbrev pub key_text : Key → List ℕ
 key_text key.Whole = []
 key_text k = codes " " ++ key_name k
 
--- an item that is meant
+-- ` item ` and the number, or nothing for 0
 abbrev pub item_text : ℕ → List ℕ
 item_text zero = []
 item_text (suc before) = codes " item " ++ decimal (suc before)
 
--- as `thread 2 script item 3`
+-- for example `thread 2 script item 3`
 abbrev pub place_text : Spot → List ℕ
 place_text spot = section_name spot.section ++ row_text spot.row ++ key_text spot.key ++ item_text spot.item
 
@@ -66,7 +66,7 @@ kind_text kind.OnWithoutWait = codes "on without wait"
 kind_text kind.NoWait = codes "no wait"
 kind_text kind.NoMemory = codes "no memory"
 
--- a fault and its place; being out of memory has none
+-- a fault and its place. Out of memory has no place.
 abbrev pub fault_text : FaultKind → Spot → List ℕ
 fault_text kind.NoMemory spot = kind_text kind.NoMemory
 fault_text k spot = kind_text k ++ codes " at " ++ place_text spot

@@ -1,4 +1,4 @@
--- The tests of a file, in the order in which they are put.
+-- The tests of a file, in the order in which they are made.
 use Rattle.std.specs.Prelude.{ℕ, ◌+◌, ◌-◌, ◌^◌, ℤ, pos, negsuc, Bool, true, false, ◌&&◌, ◌||◌, if◌then◌else◌, List, [], ◌∷◌, ◌++◌, length, map, get_or, not, nat_eq, nat_le, ◌==◌, Option, Some, None, is_some, option_and_then, unwrap_or, codes, Result, Ok, Err}
 use Rattle.std.specs.Str.{is_utf8}
 use Rattle.std.specs.Cmp.Lexicographic.{pointwise}
@@ -43,7 +43,7 @@ use Rattle.mcs_load.specs.Words.{place_of, text, must_at, if_there, array_at, on
 abbrev pub any_number : ℕ
 any_number = 2 ^ 63 - 1
 
--- what SchedControl says of a configuration, and the key that it lies at
+-- the key of a refusal of SchedControl
 abbrev pub key_of : ControlFault → Key
 key_of refused.ZeroBudget = key.Budget
 key_of refused.BudgetTooSmall = key.Budget
@@ -69,20 +69,20 @@ accepted_config min_budget at row = do
   _ ← accepts at (checked min_budget config)
   reads config
 
--- the mode of this name
+-- the mode with this name
 abbrev pub named_mode : List ℕ → Option Mode
 named_mode name =
     if pointwise nat_eq name (codes "sporadic") then Some modes.Sporadic
     else if pointwise nat_eq name (codes "bandwidth") then Some modes.Bandwidth
     else None
 
--- the mode where a row says none: in version 3 a context that is not round robin has bandwidth mode
+-- the mode of a row without the key: in version 3 bandwidth, unless the context is round robin
 abbrev pub default_mode : Bool → Kind → Mode
 default_mode true kinds.Sporadic = modes.Bandwidth
 default_mode true kinds.RoundRobin = modes.Sporadic
 default_mode false kind = modes.Sporadic
 
--- the mode of a row, or this one where it says none
+-- the mode of a row, or this one if the key is absent
 unfoldable pub mode : Mode → At → Members → Checked Mode
 mode default at row =
     let found = get_member (key_name key.Mode) row in
@@ -106,7 +106,7 @@ settings is_new min_budget at row = do
 abbrev pub context_keys : List Key
 context_keys = key.Name ∷ key.Core ∷ key.Budget ∷ key.Period ∷ key.ExtraRefills ∷ []
 
--- modes are of versions 2 and 3
+-- modes need version 2 or 3
 unfoldable pub listed_context_keys : Bool → List Key
 listed_context_keys has_modes = if has_modes then key.Mode ∷ context_keys else context_keys
 
@@ -118,11 +118,11 @@ context has_modes is_new cores min_budget at earlier row = do
   set ← settings is_new min_budget at row
   reads (record { name = name; core = core; config = set.config; mode = set.mode })
 
--- first words are of version 3 alone
+-- first words need version 3
 unfoldable pub listed_note_keys : Bool → List Key
 listed_note_keys is_new = if is_new then key.Word ∷ key.Name ∷ key.Core ∷ [] else key.Name ∷ key.Core ∷ []
 
--- the greatest word and badge
+-- maximum word and badge
 abbrev pub max_word : ℕ
 max_word = 2 ^ 32 - 1
 
@@ -134,7 +134,7 @@ note is_new cores at earlier row = do
   word ← number_with_default at key.Word 0 max_word 0 row
   reads (record { name = name; core = core; word = word })
 
--- whether the version of the file is the integer 2 or 3, and whether it is 3
+-- whether the file's version is the integer 2 or 3, and whether it is 3
 abbrev pub is_two_or_three : Option ℤ → Bool
 is_two_or_three (Some (pos n)) = n == 2 || n == 3
 is_two_or_three (Some (negsuc n)) = false
@@ -158,7 +158,7 @@ contexts has_modes is_new cores min_budget file =
 unfoldable pub notes : Bool → ℕ → Members → Checked (List NotePart)
 notes is_new cores file = array_of section.Note key.Note (note is_new cores) file
 
--- no notification and no earlier server has its name
+-- a server whose name no notification and no earlier server has
 unfoldable pub server : List NotePart → ℕ → At → List Server → Members → Checked Server
 server notes cores at earlier row = do
   _ ← only_keys at (key.Name ∷ key.Core ∷ key.Priority ∷ key.Script ∷ []) row
@@ -179,17 +179,17 @@ servers notes cores file = do
   _ ← few_notes notes values
   each (row section.Server (server notes cores)) [] values
 
--- a server is a notification of which a free one holds 1
+-- a server is a notification whose word is 1 while it is free
 abbrev pub free_server : Server → NotePart
 free_server server = record { name = server.name; core = server.core; word = 1 }
 
--- the place of the name that is known at this key
+-- the index of a name that is known at this key
 unfoldable pub known : Key → At → List (List ℕ) → List ℕ → Checked ℕ
 known key at names name = let found = place_of name names in do
   _ ← must_at at key UnknownName (is_some found)
   reads (place_or_first found)
 
--- the place of the name at this key among those that are known
+-- the index of the name at this key among the known ones
 unfoldable pub known_name : Key → List (List ℕ) → At → Members → Checked ℕ
 known_name key names at row = do
   name ← text at key row
@@ -198,7 +198,7 @@ known_name key names at row = do
 abbrev pub part_at : List ContextPart → ℕ → ContextPart
 part_at contexts context = get_or contexts context no_context
 
--- the last moment of a start and of an order, and the most rounds and the latest deadline
+-- maximum start, order time, number of jobs and deadline
 abbrev pub max_ticks : ℕ
 max_ticks = 2 ^ 40
 
@@ -239,7 +239,7 @@ unfoldable pub threads : List ContextPart → List NotePart → List Server → 
 threads contexts notes servers is_new file =
     array_of section.Thread key.Thread (thread contexts notes servers is_new) file
 
--- the context of an order; the order's core names the SchedControl capability that is used
+-- the context of an order. The order's core names the SchedControl capability that is used.
 unfoldable pub ordered_context : ℕ → List ContextPart → At → Members → Checked ℕ
 ordered_context cores contexts at row = do
   core ← whole_number at key.Core 0 (cores - 1) row
@@ -252,11 +252,11 @@ is_same_kind kinds.Sporadic kinds.Sporadic = true
 is_same_kind kinds.RoundRobin kinds.RoundRobin = true
 is_same_kind _ _ = false
 
--- no order makes a context round robin or ends its being so
+-- no order makes a context round robin, or makes a round robin context sporadic
 unfoldable pub keeps_kind : At → Kind → Kind → Checked (Unit {0})
 keeps_kind at old new = must_at at key.Period KindChange (is_same_kind old new)
 
--- two orders may name one context, so nothing is compared with the earlier ones
+-- two orders may name one context, so earlier orders are not compared
 unfoldable pub order : ℕ → ℕ → List ContextPart → At → List Order → Members → Checked Order
 order cores min_budget contexts at earlier row = do
   _ ← only_keys at (key.At ∷ key.Core ∷ key.Context ∷ key.Budget ∷ key.Period ∷ key.ExtraRefills ∷ []) row
@@ -278,11 +278,11 @@ link_numbers cores at row = do
   delay ← whole_number at key.Delay 1 (2 ^ 20) row
   reads (record { maker = maker; home = home; delay = delay })
 
--- one of the links goes from this core to that one
+-- one of the links is from this core to that one
 abbrev pub is_linked : List Link → ℕ → ℕ → Bool
 is_linked links maker home = list_any (λ link. link.maker == maker && link.home == home) links
 
--- to another core, by no earlier row
+-- a link to another core, which no earlier row has
 unfoldable pub link : ℕ → At → List Link → Members → Checked Link
 link cores at earlier row = do
   link ← link_numbers cores at row
@@ -293,7 +293,7 @@ link cores at earlier row = do
 unfoldable pub links : ℕ → Members → Checked (List Link)
 links cores file = array_of section.Link key.Link (link cores) file
 
--- it posts a badge on one of these notifications
+-- a source posts a badge on one of these notifications
 unfoldable pub source : List (List ℕ) → At → List Source → Members → Checked Source
 source note_names at earlier row = do
   _ ← only_keys at (key.Name ∷ key.Note ∷ key.Badge ∷ key.Period ∷ key.Start ∷ key.Count ∷ key.At ∷ []) row
@@ -317,7 +317,7 @@ has_wait steps = list_any (λ step. is_wait (Some step)) steps
 unfoldable pub waits : At → List Item → Checked (Unit {0})
 waits at steps = must_at at key.Thread NoWait (has_wait steps)
 
--- a chain that asks for badges is of a thread whose first item is a wait
+-- a chain with badges names a thread whose first item is a wait
 unfoldable pub waits_first : At → ℕ → List Item → Checked (Unit {0})
 waits_first at badges steps = must_at at key.Badges NoWait (badges == 0 || is_wait (slice_get steps 0))
 
@@ -342,7 +342,7 @@ top = array_at section.Top
 abbrev pub top_keys : List Key
 top_keys = key.Version ∷ key.Cores ∷ key.Delay ∷ key.Call ∷ key.MinBudget ∷ key.Context ∷ key.Note ∷ key.Thread ∷ key.Order ∷ []
 
--- links are of versions 2 and 3, and chains, sources and servers of version 3 alone
+-- links need version 2 or 3; chains, sources and servers need version 3
 unfoldable pub listed_keys : Members → List Key
 listed_keys file =
     if is_version_3 file then key.Chain ∷ key.Source ∷ key.Server ∷ key.Link ∷ top_keys
@@ -360,7 +360,7 @@ numbers file = do
   min_budget ← number_with_default top key.MinBudget 1 (2 ^ 20) 1 file
   reads (record { cores = cores; delay = delay; call = call; min_budget = min_budget })
 
--- what stands before the threads
+-- the parts before the threads
 pub record Base : Type 0 where
   pub top : Numbers
   pub links : List Link
@@ -377,7 +377,7 @@ base file = do
   servers ← servers notes top.cores file
   reads (record { top = top; links = links; contexts = contexts; notes = notes; servers = servers })
 
--- the system that they make: its notes are the notifications and then the servers
+-- the system made from the parts: its notes are the notifications and then the servers
 abbrev pub system_of : Base → List ThreadPart → List Source → List Order → List ChainPart → SystemParts
 system_of base threads sources orders chains = record {
   cores = base.top.cores;
@@ -409,7 +409,7 @@ walk file = do
   base ← base file
   others base file
 
--- the table that the text is
+-- the table of the text
 abbrev pub table_or_empty : Option Members → Members
 table_or_empty None = no_members
 table_or_empty (Some members) = members

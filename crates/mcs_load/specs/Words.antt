@@ -1,4 +1,4 @@
--- The tests that are put to a key, a row and an array.
+-- The tests of a key, a row and an array.
 use Rattle.std.specs.Prelude.{ℕ, suc, ℤ, pos, negsuc, Bool, true, false, not, ◌&&◌, nat_le, nat_eq, List, [], ◌∷◌, ◌++◌, length, position, Option, Some, None, is_some, option_and_then}
 use Rattle.std.specs.List.{list_any, list_all}
 use Rattle.std.specs.Cmp.Lexicographic.{pointwise}
@@ -14,7 +14,7 @@ use Rattle.mcs_load.specs.declared.spot.Spot.{Spot}
 use Rattle.mcs_load.specs.Keys.{key_name}
 use Rattle.mcs_load.specs.Checks.{Checked, ◌>>=◌, reads, must}
 
--- the spot of a key of a row
+-- the place of a key of a row
 abbrev pub spot : At → Key → Spot
 spot at key = record { section = at.section; row = at.row; key = key; item = 0 }
 
@@ -26,12 +26,12 @@ abbrev pub must_in : At → Key → ℕ → FaultKind → Bool → Checked (Unit
 must_in at key number kind passes =
     must passes kind (record { section = at.section; row = at.row; key = key; item = number })
 
--- a test of what is there; with nothing there it can't be put, and counts as passed
+-- a test of a value, if there is one. An absent value passes.
 abbrev pub if_there : {A : Type 0} → (A → Bool) → Option A → Bool
 if_there test None = true
 if_there test (Some x) = test x
 
--- the names of the keys that the table has
+-- the names of a table's keys
 abbrev pub names : Members → List (List ℕ)
 names no_members = []
 names (member name value rest) = name ∷ names rest
@@ -46,7 +46,7 @@ has_only keys members = list_all (is_listed keys) (names members)
 unfoldable pub only_keys : At → List Key → Members → Checked (Unit {0})
 only_keys at keys members = must_at at key.Other UnknownKey (has_only keys members)
 
--- a whole number: it is there, or has a default; it is an integer; it lies in its range
+-- A whole number: it is there or has a default, it is an integer, and it lies in its range.
 abbrev pub is_in_range : ℕ → ℕ → ℤ → Bool
 is_in_range least most (pos n) = nat_le least n && nat_le n most
 is_in_range least most (negsuc n) = false
@@ -82,7 +82,7 @@ text at key members = let found = get_member (key_name key) members in do
   _ ← must_at at key WrongKind (if_there (λ d. is_some (as_str d)) found)
   reads (bytes_or_none (option_and_then as_str found))
 
--- the place of a name among others
+-- the index of a name among others
 abbrev pub place_of : List ℕ → List (List ℕ) → Option ℕ
 place_of name names = position (pointwise nat_eq name) names
 
@@ -97,7 +97,7 @@ new_name at earlier members = do
   _ ← must_at at key.Name DoubleName (not (is_among name earlier))
   reads name
 
--- an array of tables: it is an array, of at most 4,096 rows
+-- an array of tables, with at most 4,096 rows
 abbrev pub items_or_none : Option Items → Items
 items_or_none None = no_items
 items_or_none (Some items) = items
@@ -127,7 +127,7 @@ row_table at row = do
   _ ← must_at at key.Whole WrongKind (is_some (as_table row))
   reads (members_or_none (as_table row))
 
--- each of the items in order; a step may name what was read before it
+-- each of the items in order. A step may use what was read before it.
 module _ {A : Type 0} (step : List A → Data → Checked A) where
   abbrev pub each : List A → Items → Checked (List A)
   each earlier no_items = reads earlier
@@ -135,7 +135,7 @@ module _ {A : Type 0} (step : List A → Data → Checked A) where
     one ← step earlier d
     each (earlier ++ one ∷ []) others
 
--- each of the items in order, behind what was read of those before
+-- each of the items in order, added to what was read before
 module _ {A : Type 0} (step : A → Data → Checked A) where
   abbrev pub each_from : A → Items → Checked A
   each_from before no_items = reads before

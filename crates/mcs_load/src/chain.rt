@@ -1,3 +1,4 @@
+//! Reads the array `chain`.
 #![tactic(auto, using(crate::proofs::Steps::steps), unfolding(crate::specs::Walk::waits, crate::specs::Walk::waits_first, crate::specs::Walk::chain, crate::specs::Walk::chains))]
 
 ghost use Rattle.std.specs.Prelude.{◌≡◌, ◌<◌, IfOk, length, map};
@@ -33,7 +34,7 @@ fn has_wait(steps: &[Item]) -> bool
     steps.iter().any(|step| matches!(*step, Item::Wait(_)))
 }
 
-/// Tests that a chain's thread waits.
+/// Tests that a chain's thread waits. `NoWait` if it doesn't.
 fn waits(at: At, steps: &[Item]) -> Result<(), LoadFault>
     ensures { Tells (λ x. x) result (waits at steps.now) }
 {
@@ -44,7 +45,7 @@ fn waits(at: At, steps: &[Item]) -> Result<(), LoadFault>
     }
 }
 
-/// Tests that the thread of a chain that asks for badges begins with a wait.
+/// Tests that the thread of a chain with badges begins with a wait. `NoWait` if it doesn't.
 fn waits_first(at: At, badges: u64, steps: &[Item]) -> Result<(), LoadFault>
     ensures { Tells (λ x. x) result (waits_first at badges steps.now) }
 {
@@ -56,7 +57,6 @@ fn waits_first(at: At, badges: u64, steps: &[Item]) -> Result<(), LoadFault>
     }
 }
 
-/// The steps of a thread.
 fn script_of(threads: &[ThreadPart], thread: usize) -> &[Item]
     requires { thread < length threads.now }
     ensures { result.now ≡ script_of threads.now thread }
@@ -64,7 +64,7 @@ fn script_of(threads: &[ThreadPart], thread: usize) -> &[Item]
     threads[thread].script.as_slice()
 }
 
-/// Reads chains, and keeps their names.
+/// Reads chains and keeps their names.
 #[derive(Drop)]
 struct ChainReader<'c, 'n, 'a> {
     alloc: Global,
@@ -107,7 +107,7 @@ impl<'c, 'n, 'a> RowReader<'a> for ChainReader<'c, 'n, 'a> {
     }
 }
 
-/// The chains of a file in order.
+/// Reads the chains of a file in order.
 pub(crate) fn chains<'a>(
     alloc: Global,
     file: &'a Table,

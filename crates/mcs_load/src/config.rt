@@ -1,3 +1,4 @@
+//! Reads the configuration and the mode of a context.
 #![tactic(auto, using(crate::proofs::Steps::steps), unfolding(crate::specs::Walk::config, crate::specs::Walk::accepts, crate::specs::Walk::accepted_config, crate::specs::Walk::takes_mode, crate::specs::Walk::settings))]
 
 ghost use Rattle.std.specs.Prelude.{◌≡◌};
@@ -13,17 +14,17 @@ use crate::values::{find, number_with_default, whole_number};
 use mcs_control::{Config, ControlFault, Kind, Mode};
 use toml::Table;
 
-/// The greatest integer of a file.
+/// The maximum integer of a TOML file.
 const GREATEST: u64 = (1 << 63) - 1;
 
-/// What a row sets of a context.
+/// The configuration and the mode of a context.
 #[derive(Clone, Copy)]
 pub(crate) struct Settings {
     pub config: Config,
     pub mode: Mode,
 }
 
-/// The budget, the period and the extra refills of a row, which Config::check is yet to see.
+/// Reads budget, period and extra refills of a row. `Config::check` has still to accept them.
 fn config(row: &Table, at: At) -> Result<Config, LoadFault>
     ensures { Tells (λ x. x) result (config at (table_view row.now)) }
 {
@@ -37,7 +38,7 @@ fn config(row: &Table, at: At) -> Result<Config, LoadFault>
     })
 }
 
-/// The key at which SchedControl's refusal lies.
+/// The key that a refusal of SchedControl names.
 fn key_of(fault: ControlFault) -> Key
     ensures { result ≡ key_of fault }
 {
@@ -49,7 +50,7 @@ fn key_of(fault: ControlFault) -> Key
     }
 }
 
-/// Tests that SchedControl takes the configuration.
+/// Tests that SchedControl accepts the configuration.
 fn accept(at: At, min_budget: u64, config: Config) -> Result<(), LoadFault>
     ensures { Tells (λ x. x) result (accepts at (checked min_budget config)) }
 {
@@ -59,7 +60,7 @@ fn accept(at: At, min_budget: u64, config: Config) -> Result<(), LoadFault>
     }
 }
 
-/// The configuration of a row, which passes Config::check.
+/// Reads the configuration of a row, and tests that SchedControl accepts it.
 pub(crate) fn accepted_config(row: &Table, at: At, min_budget: u64) -> Result<Config, LoadFault>
     ensures { Tells (λ x. x) result (accepted_config min_budget at (table_view row.now)) }
 {
@@ -68,7 +69,7 @@ pub(crate) fn accepted_config(row: &Table, at: At, min_budget: u64) -> Result<Co
     Ok(config)
 }
 
-/// The mode of this name.
+/// Returns the mode with this name.
 fn named_mode(name: &str) -> Option<Mode>
     ensures { result ≡ named_mode name.now }
 {
@@ -79,7 +80,7 @@ fn named_mode(name: &str) -> Option<Mode>
     }
 }
 
-/// The mode where a row says none: in version 3 a context that is not round robin has `Bandwidth`.
+/// The mode of a row without the key: bandwidth in version 3 unless the context is round robin.
 fn default_mode(is_new: bool, kind: Kind) -> Mode
     ensures { result ≡ default_mode is_new kind }
 {
@@ -89,7 +90,7 @@ fn default_mode(is_new: bool, kind: Kind) -> Mode
     }
 }
 
-/// The mode of a row, or this one where it says none.
+/// Reads the mode of a row, or returns the default if the key is absent.
 #[tactic(auto, unfolding(crate::specs::Walk::mode))]
 fn mode(row: &Table, at: At, default: Mode) -> Result<Mode, LoadFault>
     ensures { Tells (λ x. x) result (mode default at (table_view row.now)) }
@@ -103,7 +104,8 @@ fn mode(row: &Table, at: At, default: Mode) -> Result<Mode, LoadFault>
     named_mode(name).ok_or(at.fault(Key::Mode, FaultKind::OutOfRange))
 }
 
-/// Tests that the kind has this mode: a slice is never unblocked, so a round robin context has no mode but `Sporadic`.
+/// Tests that the kind allows this mode. A round robin context has only `Sporadic`, since a slice
+/// is never unblocked.
 fn take_mode(at: At, kind: Kind, mode: Mode) -> Result<(), LoadFault>
     ensures { Tells (λ x. x) result (takes_mode at kind mode) }
 {
@@ -113,7 +115,7 @@ fn take_mode(at: At, kind: Kind, mode: Mode) -> Result<(), LoadFault>
     }
 }
 
-/// The configuration of a context's row, which passes Config::check, and its mode.
+/// Reads the configuration and the mode of a context's row, and tests them.
 pub(crate) fn read_settings(
     row: &Table,
     at: At,

@@ -1,3 +1,4 @@
+//! Reads the array `context`.
 #![tactic(auto, using(crate::proofs::Steps::steps), unfolding(crate::specs::Walk::listed_context_keys, crate::specs::Walk::context, crate::specs::Walk::contexts))]
 
 ghost use Rattle.std.specs.Prelude.{◌≡◌, ◌<◌, ◌≤◌, IfOk, length, map, []};
@@ -17,7 +18,7 @@ use mcs_ticks::CoreId;
 use std::alloc::Global;
 use toml::Table;
 
-/// The keys of a context. The first is of versions 2 and 3.
+/// The keys of a context. The first needs version 2 or 3.
 const CONTEXT_KEYS: [Key; 6] = [
     Key::Mode,
     Key::Name,
@@ -27,7 +28,7 @@ const CONTEXT_KEYS: [Key; 6] = [
     Key::ExtraRefills,
 ];
 
-/// The keys that a context may have: modes are of versions 2 and 3.
+/// The keys that a context may have. Modes need version 2 or 3.
 fn listed_keys(has_modes: bool) -> &'static [Key]
     ensures { result.now ≡ listed_context_keys has_modes }
 {
@@ -38,13 +39,13 @@ fn listed_keys(has_modes: bool) -> &'static [Key]
     }
 }
 
-/// Reads contexts, and keeps their names.
+/// Reads contexts and keeps their names.
 #[derive(Drop)]
 pub(crate) struct ContextReader<'a> {
     pub alloc: Global,
-    /// Whether contexts may have modes, as they may in files of versions 2 and 3.
+    /// Whether contexts may have modes: the file has version 2 or 3.
     pub has_modes: bool,
-    /// Whether the file is of version 3.
+    /// Whether the file has version 3.
     pub is_new: bool,
     pub cores: u64,
     pub min_budget: u64,
@@ -78,7 +79,7 @@ impl<'a> RowReader<'a> for ContextReader<'a> {
     }
 }
 
-/// The contexts of a file in order; the reader keeps their names.
+/// Reads the contexts of a file in order. The reader keeps their names.
 pub(crate) fn contexts<'a>(
     file: &'a Table,
     reader: &mut ContextReader<'a>,
@@ -92,7 +93,6 @@ pub(crate) fn contexts<'a>(
     read_array(reader.alloc, file, Section::Context, Key::Context, reader)
 }
 
-/// The core of a context.
 pub(crate) fn core_of_part(contexts: &[ContextPart], context: usize) -> CoreId
     requires { context < length contexts.now }
     ensures { result ≡ (part_at contexts.now context).core }

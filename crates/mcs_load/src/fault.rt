@@ -1,3 +1,4 @@
+//! Faults of a file, and their texts.
 ghost use Rattle.std.specs.Prelude.{◌≡◌, Some};
 ghost use Rattle.mcs_load.specs.Text.{kind_text, load_fault_text};
 
@@ -8,51 +9,55 @@ use std::alloc::{AllocError, AllocFailed};
 use std::fmt;
 use thiserror::Error;
 
-/// What is wrong with a file. Each has a text of its own (profile M).
+/// The kind of a fault in a file. Each kind has its own text (profile M).
 #[derive(Clone, Copy, Debug, PartialEq, Eq, Error)]
 pub enum FaultKind {
-    /// The bytes are no TOML text in UTF-8.
+    /// The bytes are not TOML text in UTF-8.
     NotToml,
-    /// A key that is not listed.
+    /// A key that the format does not list.
     UnknownKey,
     /// A required key is absent.
     MissingKey,
-    /// A value of another kind than the key's.
+    /// A value of another type than the key's.
     WrongKind,
-    /// A number outside its range, a text that is no mode, a script without an item, or a number of `at` that does not rise.
+    /// A number outside its range, a text that names no mode, an empty script, or an `at` that does
+    /// not rise.
     OutOfRange,
-    /// More rows than 4,096, more items, steps or numbers of `at` than 1,024, or more numbers of all sources than 4,096.
+    /// More than 4,096 rows, more than 1,024 items, steps or numbers of `at`, or more than 4,096
+    /// numbers of all sources.
     TooMany,
     /// A text that is not 1 to 32 characters of `A-Z a-z 0-9 _ -`.
     BadName,
-    /// A name that an earlier row of the array has, or a server's that a notification has.
+    /// A name that an earlier row of the array has, or a server's name that a notification has.
     DoubleName,
-    /// A name that nothing has that may be named there.
+    /// A name of nothing that may be named there.
     UnknownName,
     /// A text that is no item of a script.
     BadItem(ItemFault),
-    /// A wait, other than the first of several items, that stands last or directly before a handler.
+    /// A wait at the end of a script or directly before a handler. The first of several items may
+    /// be one.
     WaitLast,
     /// A configuration that SchedControl refuses.
     Control(ControlFault),
     /// A context that an earlier thread has.
     ContextTaken,
-    /// A wait on another core's notification, a call of another core's server, or an order through another core's SchedControl
-    /// capability.
+    /// A wait on another core's notification, a call of another core's server, or an order through
+    /// another core's SchedControl capability.
     OtherCore,
-    /// An order that makes a context round robin, or ends its being so.
+    /// An order that makes a context round robin, or makes a round robin context sporadic.
     KindChange,
     /// A link from a core to itself.
     SelfLink,
     /// A link of a pair of cores that an earlier link has.
     DoubleLink,
-    /// Bandwidth mode of a round robin context.
+    /// Bandwidth mode for a round robin context.
     ModeOfSlice,
-    /// A handler in a script whose first item is no wait.
+    /// A handler in a script whose first item is not a wait.
     OnWithoutWait,
-    /// A chain to a thread that never waits, or one of badges to a thread whose first item is no wait.
+    /// A chain to a thread that never waits, or a chain with badges to a thread whose first item is
+    /// not a wait.
     NoWait,
-    /// A growth for which there was no memory.
+    /// Out of memory.
     NoMemory,
 }
 
@@ -86,7 +91,7 @@ impl fmt::Display for FaultKind {
     }
 }
 
-/// The first fault of a file, and where it lies. Its text is `<fault> at <place>`, or `no memory` alone.
+/// The first fault of a file, and its place. Its text is `<fault> at <place>`, or only `no memory`.
 #[derive(Clone, Copy, Debug, PartialEq, Eq, Error)]
 pub struct LoadFault {
     pub kind: FaultKind,

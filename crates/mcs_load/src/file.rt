@@ -1,3 +1,4 @@
+//! Reads a whole file: the keys at the top and all arrays, in order.
 #![tactic(auto, using(crate::proofs::Steps::steps), unfolding(crate::specs::Walk::listed_keys, crate::specs::Walk::document, crate::specs::Walk::numbers, crate::specs::Walk::base, crate::specs::Walk::others, crate::specs::Walk::walk, crate::specs::Walk::file))]
 
 ghost use Rattle.std.specs.Prelude.{◌≡◌, ◌≤◌, IfOk};
@@ -29,7 +30,7 @@ use toml::Table;
 /// The newest version of the format.
 const NEWEST: u64 = 3;
 
-/// The keys at the top. The first three are of version 3 alone, and the next is of versions 2 and 3.
+/// The keys at the top. The first three need version 3, the next one version 2 or 3.
 const TOP_KEYS: [Key; 13] = [
     Key::Chain,
     Key::Source,
@@ -46,7 +47,7 @@ const TOP_KEYS: [Key; 13] = [
     Key::Order,
 ];
 
-/// Whether the version of the file is the integer 2 or 3.
+/// Whether the file's version is the integer 2 or 3.
 fn is_version_2_or_3(file: &Table) -> bool
     ensures { result ≡ is_version_2_or_3 (table_view file.now) }
 {
@@ -56,7 +57,7 @@ fn is_version_2_or_3(file: &Table) -> bool
     matches!(version.as_integer(), Some(2 | 3))
 }
 
-/// Whether the version of the file is the integer 3.
+/// Whether the file's version is the integer 3.
 fn is_version_3(file: &Table) -> bool
     ensures { result ≡ is_version_3 (table_view file.now) }
 {
@@ -66,7 +67,7 @@ fn is_version_3(file: &Table) -> bool
     matches!(version.as_integer(), Some(3))
 }
 
-/// The keys at the top that a file of its version may have.
+/// The keys at the top that the file's version allows.
 fn listed_keys(file: &Table) -> &'static [Key]
     ensures { result.now ≡ listed_keys (table_view file.now) }
 {
@@ -79,7 +80,7 @@ fn listed_keys(file: &Table) -> &'static [Key]
     }
 }
 
-/// The tree of the text that the bytes are.
+/// Parses the bytes as TOML. `NotToml` if they are not, `NoMemory` if memory runs out.
 fn document(alloc: Global, bytes: &[u8]) -> Result<Table, LoadFault>
     ensures { Gives (λ t. table_view t) result (document bytes.now) }
 {
@@ -93,7 +94,7 @@ fn document(alloc: Global, bytes: &[u8]) -> Result<Table, LoadFault>
     }
 }
 
-/// The numbers at the top, which has no other keys than those of its version.
+/// Reads the numbers at the top, and tests its keys.
 fn numbers(file: &Table) -> Result<Numbers, LoadFault>
     ensures range { IfOk result (λ n. (1 ≤ n.cores) × (n.cores ≤ 64)) }
     ensures gives { Tells (λ n. n) result (numbers (table_view file.now)) }
@@ -113,7 +114,7 @@ fn numbers(file: &Table) -> Result<Numbers, LoadFault>
     })
 }
 
-/// What is read before the threads, with the names that later rows name.
+/// The parts that are read before the threads, and the names that later rows use.
 #[derive(Drop)]
 struct Start<'a> {
     top: Numbers,
@@ -126,7 +127,7 @@ struct Start<'a> {
     server_names: Names<'a>,
 }
 
-/// The numbers at the top, links, contexts, notifications and servers.
+/// Reads the numbers at the top, links, contexts, notifications and servers.
 fn base<'a>(alloc: Global, file: &'a Table) -> Result<Start<'a>, LoadFault>
     ensures names { IfOk result (λ start. HasNames start) }
     ensures gives { Gives (λ start. base_view start) result (base (table_view file.now)) }
@@ -163,7 +164,7 @@ fn base<'a>(alloc: Global, file: &'a Table) -> Result<Start<'a>, LoadFault>
     })
 }
 
-/// The parts of the system that they make.
+/// Assembles the parts of the system.
 fn parts(
     alloc: Global,
     start: Start<'_>,
@@ -196,7 +197,7 @@ fn parts(
     })
 }
 
-/// What stands behind them: threads, sources, orders and chains.
+/// Reads threads, sources, orders and chains.
 fn others<'a>(alloc: Global, file: &'a Table, start: Start<'a>) -> Result<SystemParts, LoadFault>
     requires { HasNames start }
     ensures { Gives (λ s. s) result (others (base_view start.entry) (table_view file.now)) }
@@ -225,7 +226,7 @@ fn others<'a>(alloc: Global, file: &'a Table, start: Start<'a>) -> Result<System
     Ok(parts(alloc, start, threads, sources, orders, chains)?)
 }
 
-/// What the file describes.
+/// Reads the whole file.
 fn walk(alloc: Global, file: &Table) -> Result<SystemParts, LoadFault>
     ensures { Gives (λ s. s) result (walk (table_view file.now)) }
 {
@@ -233,9 +234,14 @@ fn walk(alloc: Global, file: &Table) -> Result<SystemParts, LoadFault>
     others(alloc, file, start)
 }
 
-/// The system that the text of a file describes, or the first fault of the walk: the text as TOML, the keys and numbers at the top,
-/// then links, contexts, notifications, servers, threads, sources, orders and chains, each array row by row. `NoMemory` is answered, as
-/// [`FaultKind::NoMemory`](crate::FaultKind::NoMemory), where a growth was refused, before any later fault.
+/// Reads the text of a file and returns the system that it describes.
+///
+/// The tests are made in one order: the text as TOML, keys and numbers at the top, then links,
+/// contexts, notifications, servers, threads, sources, orders and chains, each array row by row.
+///
+/// Errors: the first fault of the walk, with its place, or
+/// [`FaultKind::NoMemory`](crate::FaultKind::NoMemory) if an allocation failed before any later
+/// fault.
 pub fn load(alloc: Global, text: &[u8]) -> Result<System, LoadFault>
     ensures { Gives (λ s. s) result (file text.now) }
 {

@@ -1,3 +1,4 @@
+//! Names of the keys.
 ghost use Rattle.std.specs.Prelude.{◌≡◌};
 ghost use Rattle.mcs_load.specs.Keys.{key_name};
 

@@ -1,6 +1,7 @@
+//! A law that other crates rely on.
 ghost use Rattle.mcs_load.specs.laws.Accepted.{AcceptedIsWellFormed};
 
-/// A law of the definitions alone: a file none of whose tests fails describes a well-formed system.
+/// Law of the definitions: a file that passes all tests describes a well-formed system.
 pub fn accepted_systems_are_well_formed()
     ensures { AcceptedIsWellFormed }
 {}

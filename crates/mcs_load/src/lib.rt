@@ -1,7 +1,8 @@
-//! Files: the text of a system, read in one walk that answers the first fault of a wrong file with its place. The fault kinds, their
-//! order and their texts are this project's own (profile M); the text itself is TOML.
+//! Reads the text of a system in one walk, and reports the first fault with its place.
 //!
-//! Inside, arguments come in one order: the allocator, what of the tree is read, its place, and what is known beside it.
+//! The kinds, order and texts of the faults are defined by this project (profile M). The text is
+//! TOML. Functions here take their arguments in one order: the allocator, the tree, its place, and
+//! other data.
 #![tactic(auto)]
 
 mod at;

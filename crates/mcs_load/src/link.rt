@@ -1,3 +1,4 @@
+//! Reads the array `link`.
 #![tactic(auto, using(crate::proofs::Steps::steps, crate::proofs::Pairs::marked_none), unfolding(crate::specs::Walk::link_numbers, crate::specs::Walk::link, crate::specs::Walk::links))]
 
 ghost use Rattle.std.specs.Prelude.{◌<◌, ◌≤◌, IfOk};
@@ -17,13 +18,12 @@ use mcs_ticks::{CoreId, Limits};
 use std::alloc::Global;
 use toml::Table;
 
-/// Pairs of cores, a core with itself among them.
+/// Number of pairs of cores, including each core with itself.
 const PAIRS: usize = Limits::CORES * Limits::CORES;
 
-/// The keys of a link.
 const LINK_KEYS: [Key; 3] = [Key::Maker, Key::Home, Key::Delay];
 
-/// The two cores of a row, and its delay.
+/// Reads the two cores of a row and its delay in ticks.
 fn link_numbers(row: &Table, at: At, cores: u64) -> Result<Link, LoadFault>
     requires { (1 ≤ cores) × (cores ≤ 64) }
     ensures known { IfOk result (λ link. (link.maker < cores) × (link.home < cores)) }
@@ -40,7 +40,7 @@ fn link_numbers(row: &Table, at: At, cores: u64) -> Result<Link, LoadFault>
     })
 }
 
-/// Reads links, and marks the pairs of cores that have one.
+/// Reads links and marks the pairs of cores that have one.
 #[derive(Drop)]
 struct LinkReader {
     cores: u64,
@@ -69,7 +69,7 @@ impl<'a> RowReader<'a> for LinkReader {
     }
 }
 
-/// The links of a file in order.
+/// Reads the links of a file in order.
 pub(crate) fn links(alloc: Global, file: &Table, cores: u64) -> Result<Vec<Link>, LoadFault>
     requires { (1 ≤ cores) × (cores ≤ 64) }
     ensures { Gives (λ v. v.items) result (links cores (table_view file.now)) }

@@ -1,3 +1,4 @@
+//! The numbers at the top of a file.
 ghost use Rattle.std.specs.Prelude.{◌≡◌, ◌≤◌, ◌^◌};
 
 use mcs_ticks::Tick;
@@ -11,7 +12,7 @@ pub(crate) struct Numbers {
     pub min_budget: u64,
 }
 
-/// The moment with this number of ticks before it.
+/// Returns the tick with this number.
 pub(crate) fn moment(ticks: u64) -> Tick
     requires { ticks ≤ 2 ^ 41 }
     ensures { result ≡ ticks }

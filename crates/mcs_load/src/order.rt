@@ -1,3 +1,4 @@
+//! Reads the array `order`.
 #![tactic(auto, using(crate::proofs::Steps::steps), unfolding(crate::specs::Walk::ordered_context, crate::specs::Walk::keeps_kind, crate::specs::Walk::order, crate::specs::Walk::orders))]
 
 ghost use Rattle.std.specs.Prelude.{◌≡◌, ◌≤◌, ◌<◌, IfOk, List, suc, length, map, []};
@@ -24,7 +25,6 @@ use mcs_ticks::{ContextId, CoreId, Limits};
 use std::alloc::Global;
 use toml::Table;
 
-/// The keys of an order.
 const ORDER_KEYS: [Key; 6] = [
     Key::At,
     Key::Core,
@@ -34,7 +34,8 @@ const ORDER_KEYS: [Key; 6] = [
     Key::ExtraRefills,
 ];
 
-/// The context that the row names, which is on the core whose SchedControl capability is used.
+/// Reads the context that the row names. It must be on the core whose SchedControl capability is
+/// used, `OtherCore` if it isn't.
 fn ordered_context<'a>(
     row: &'a Table,
     at: At,
@@ -55,7 +56,7 @@ fn ordered_context<'a>(
     Ok(context)
 }
 
-/// Tests that the order leaves its context round robin, or leaves it sporadic.
+/// Tests that an order keeps its context round robin, or keeps it sporadic.
 fn keep_kind(
     at: At,
     contexts: &[ContextPart],
@@ -103,7 +104,7 @@ impl<'c, 'n, 'a> RowReader<'a> for OrderReader<'c, 'n, 'a> {
     }
 }
 
-/// The orders of a file in order; `names` are the names of its contexts.
+/// Reads the orders of a file in order. `names` are the names of its contexts.
 pub(crate) fn orders<'a>(
     alloc: Global,
     file: &'a Table,

@@ -1,3 +1,4 @@
+//! Reads arrays of tables row by row.
 #![tactic(auto, using(crate::proofs::Steps::steps), unfolding(crate::specs::Words::array_of))]
 
 ghost use Rattle.std.specs.Prelude.{◌≡◌, ◌<◌, ◌≤◌, IfOk, List, suc, length, [], ◌∷◌, ◌++◌};
@@ -14,7 +15,7 @@ use crate::values::{row_table, rows};
 use std::alloc::Global;
 use toml::{Table, Value};
 
-/// What reads the rows of one array of tables, one after the other. It keeps what it needs of the earlier ones.
+/// Reads the rows of one array of tables in order, and keeps what it needs of the earlier ones.
 pub(crate) trait RowReader<'a> {
     type Part: Drop;
 
@@ -22,7 +23,7 @@ pub(crate) trait RowReader<'a> {
 
     ghost keeps: { Self → List Self.Part → Type 0 };
 
-    /// The part that a row gives, behind the earlier ones.
+    /// Reads a row, given the parts of the earlier ones.
     fn read(
         &mut self,
         row: &'a Table,
@@ -36,7 +37,7 @@ pub(crate) trait RowReader<'a> {
         ensures same { IfOk result (λ _. reads self.new ≡ reads self.old) };
 }
 
-/// The part that a value of the array gives, behind the earlier ones; `number` is that of its row, from 1.
+/// Reads one value of the array as row `number`, from 1.
 fn read_row<'a, R: RowReader<'a>>(
     value: &'a Value,
     section: Section,
@@ -59,7 +60,7 @@ fn read_row<'a, R: RowReader<'a>>(
     reader.read(row, at, earlier)
 }
 
-/// The parts that the rows give, in order.
+/// Reads the rows of an array in order.
 pub(crate) fn read_rows<'a, R: RowReader<'a>>(
     alloc: Global,
     rows: &'a [Value],
@@ -80,7 +81,7 @@ pub(crate) fn read_rows<'a, R: RowReader<'a>>(
     Ok(parts)
 }
 
-/// The parts that the rows of the array at a key of the file give, in order.
+/// Reads the rows of the array at a key of the file, in order.
 pub(crate) fn read_array<'a, R: RowReader<'a>>(
     alloc: Global,
     file: &'a Table,

@@ -1,3 +1,4 @@
+//! Reads the script of a thread or a server.
 #![tactic(auto, using(crate::proofs::Steps::steps), unfolding(crate::specs::Script::place_named, crate::specs::Script::named, crate::specs::Script::said, crate::specs::Script::read_item, crate::specs::Script::hears, crate::specs::Script::few_steps, crate::specs::Script::heard_item, crate::specs::Script::next_item, crate::specs::Script::no_bare_wait, crate::specs::Script::body, crate::specs::Script::script, crate::specs::Script::server_script))]
 
 ghost use Rattle.std.specs.Prelude.{◌≡◌, ◌+◌, ◌<◌, ◌≤◌, ◌++◌, ◌∷◌, [], false, true, IfOk, OnOk, suc, length, map};
@@ -23,7 +24,7 @@ use mcs_ticks::{CoreId, Limits, NoteId};
 use std::alloc::{AllocError, Global};
 use toml::{Table, Value};
 
-/// What the items of a script are read by.
+/// The data that the items of a script are read with.
 #[derive(Drop)]
 pub(crate) struct Known<'k, 'a> {
     pub notes: &'k [NotePart],
@@ -33,21 +34,21 @@ pub(crate) struct Known<'k, 'a> {
     pub server_names: &'k Names<'a>,
     pub core: CoreId,
     pub priority: u8,
-    /// Whether the file is of version 3.
+    /// Whether the file has version 3.
     pub is_new: bool,
-    /// Whether it is a server's script.
+    /// Whether the script is a server's.
     pub is_server: bool,
 }
 
-/// An item with numbers in place of names.
+/// An item, with names resolved to numbers.
 #[derive(Clone, Copy)]
 enum Resolved {
     Step(Item),
-    /// A call of the server at this place, with this badge.
+    /// A call of the server at this index, with this badge.
     CallOf(usize, u32),
 }
 
-/// What is read of a script so far.
+/// A script that is being read.
 #[derive(Drop)]
 struct Reading {
     /// The first step of each item.
@@ -55,7 +56,7 @@ struct Reading {
     steps: Vec<Item>,
 }
 
-/// The place of the name among those that are known.
+/// The index of a name. `UnknownName` if there is none.
 fn place_named<'a>(
     at: At,
     number: usize,
@@ -70,7 +71,7 @@ fn place_named<'a>(
         .ok_or(at.item_fault(Key::Script, number, FaultKind::UnknownName))
 }
 
-/// The core at which a notification is at home.
+/// The home core of a notification.
 fn core_of(notes: &[NotePart], note: usize) -> CoreId
     requires { note < length notes.now }
     ensures { result ≡ core_of notes.now note }
@@ -78,7 +79,6 @@ fn core_of(notes: &[NotePart], note: usize) -> CoreId
     notes[note].core
 }
 
-/// The core of a server.
 fn core_of_server(servers: &[Server], place: usize) -> CoreId
     requires { place < length servers.now }
     ensures { result ≡ (server_at servers.now place).core }
@@ -86,7 +86,8 @@ fn core_of_server(servers: &[Server], place: usize) -> CoreId
     servers[place].core
 }
 
-/// The item with numbers in place of names.
+/// Resolves the names of an item. `UnknownName` or, for a wait or a call on another core,
+/// `OtherCore`.
 fn named<'a>(
     at: At,
     number: usize,
@@ -126,7 +127,7 @@ fn named<'a>(
     }
 }
 
-/// What a text says.
+/// Parses the text of an item. `BadItem` if it is none.
 fn said(text: &str, at: At, number: usize, is_new: bool) -> Result<RawItem<'_>, LoadFault>
     ensures { Tells (λ raw. raw_view raw) result (said at number (read_text is_new text.now)) }
 {
@@ -141,7 +142,7 @@ fn said(text: &str, at: At, number: usize, is_new: bool) -> Result<RawItem<'_>, 
     }
 }
 
-/// The item of a value of the array.
+/// Reads one value of the script's array.
 fn read_item<'a>(
     value: &'a Value,
     at: At,
@@ -162,7 +163,8 @@ fn read_item<'a>(
     named(at, number, known, raw)
 }
 
-/// Tests that a handler of a thread's script has a first item that is a wait.
+/// Tests that a thread's script with a handler begins with a wait. A server's may begin with
+/// anything.
 fn hear(
     at: At,
     number: usize,
@@ -181,7 +183,8 @@ fn hear(
     }
 }
 
-/// Appends the steps that a call of a server with these steps goes through.
+/// Appends the steps that a call goes through in a server. Handlers without a bit of the badge are
+/// passed over.
 fn put_called(steps: &mut Vec<Item>, of_server: &[Item], badge: u32) -> Result<(), AllocError>
     ensures { OnOk result (steps.new.items ≡ steps.old.items ++ called badge false of_server.now) }
 {
@@ -196,7 +199,7 @@ fn put_called(steps: &mut Vec<Item>, of_server: &[Item], badge: u32) -> Result<(
     Ok(())
 }
 
-/// Appends the steps of a call at this priority.
+/// Appends a call: entering the server, its steps, and leaving it at this priority.
 fn put_call(
     steps: &mut Vec<Item>,
     number: usize,
@@ -252,7 +255,7 @@ fn put_steps(
     }
 }
 
-/// The next item, which may stand behind those before; `number` is that of the item, from 1.
+/// Reads item `number`, from 1, and tests that it may follow the earlier ones.
 fn heard_item<'a>(
     value: &'a Value,
     at: At,
@@ -273,7 +276,7 @@ fn heard_item<'a>(
     Ok(item)
 }
 
-/// Tests that a script has at most 1,024 steps.
+/// Tests that a script has at most 1,024 steps. `TooMany` if it has more.
 fn few_steps(at: At, number: usize, count: usize) -> Result<(), LoadFault>
     ensures { Tells (λ x. x) result (few_steps at number count) }
 {
@@ -297,7 +300,7 @@ fn put_item(reading: &mut Reading, item: &Resolved, known: &Known<'_, '_>) -> Re
     put_steps(&mut reading.steps, item, known)
 }
 
-/// Reads the next item, and appends its steps; `number` is that of the item, from 1.
+/// Reads item `number`, from 1, and appends its steps.
 fn read_next<'a>(
     value: &'a Value,
     at: At,
@@ -320,7 +323,7 @@ fn read_next<'a>(
     Ok(())
 }
 
-/// What the texts say in order.
+/// Reads all items in order.
 fn read_items<'a>(
     alloc: Global,
     values: &'a [Value],
@@ -345,7 +348,7 @@ fn read_items<'a>(
     Ok(reading)
 }
 
-/// The array at the key `script`.
+/// Returns the array at the key `script`, with 1 to 1,024 items.
 #[tactic(auto, using(crate::proofs::Members::item_count_view), unfolding(crate::specs::Script::texts))]
 fn texts(row: &Table, at: At) -> Result<&[Value], LoadFault>
     ensures gives { Tells (λ v. items_view v.now) result (texts at (table_view row.now)) }
@@ -364,7 +367,7 @@ fn texts(row: &Table, at: At) -> Result<&[Value], LoadFault>
     Ok(values.as_slice())
 }
 
-/// All items of a script.
+/// Reads the array at the key `script` and its items.
 fn body<'a>(
     alloc: Global,
     row: &'a Table,
@@ -382,7 +385,8 @@ fn body<'a>(
     read_items(alloc, values, at, known)
 }
 
-/// Tests that of the waits only the first of several items stands last or directly before a handler.
+/// Tests that no wait is at the end of a script or directly before a handler. The first of several
+/// items may be one.
 fn no_bare_wait(at: At, firsts: &[Item]) -> Result<(), LoadFault>
     ensures { Tells (λ x. x) result (no_bare_wait at (first_bare firsts.now)) }
 {
@@ -392,7 +396,7 @@ fn no_bare_wait(at: At, firsts: &[Item]) -> Result<(), LoadFault>
     }
 }
 
-/// The script of a thread.
+/// Reads the script of a thread.
 pub(crate) fn script<'a>(
     alloc: Global,
     row: &'a Table,
@@ -413,7 +417,7 @@ pub(crate) fn script<'a>(
     Ok(Script::new(reading.steps).unwrap())
 }
 
-/// The steps of a server's script.
+/// Reads the steps of a server's script.
 pub(crate) fn server_script<'a>(
     alloc: Global,
     row: &'a Table,

@@ -1,3 +1,4 @@
+//! Reads the array `server`.
 #![tactic(auto, using(crate::proofs::Steps::steps, crate::proofs::Members::item_count_view), unfolding(crate::specs::Walk::few_notes, crate::specs::Walk::server, crate::specs::Walk::servers))]
 
 ghost use Rattle.std.specs.Prelude.{◌≡◌, ◌≤◌, ◌++◌, IfOk, map, length};
@@ -19,10 +20,9 @@ use mcs_ticks::{CoreId, Limits, Sequence};
 use std::alloc::{AllocError, Global};
 use toml::{Table, Value};
 
-/// The keys of a server.
 const SERVER_KEYS: [Key; 4] = [Key::Name, Key::Core, Key::Priority, Key::Script];
 
-/// A passive server as its callers know it. Its handlers are for the badge of the call.
+/// A passive server for its callers. Its handlers match the badge of the call.
 #[derive(Drop)]
 pub(crate) struct Server {
     pub name: Name,
@@ -31,7 +31,7 @@ pub(crate) struct Server {
     pub steps: Sequence<Item>,
 }
 
-/// Reads servers, and keeps their names.
+/// Reads servers and keeps their names.
 #[derive(Drop)]
 struct ServerReader<'n, 'a> {
     alloc: Global,
@@ -88,7 +88,7 @@ fn few_notes(values: &[Value], notes: &[NotePart]) -> Result<(), LoadFault>
     }
 }
 
-/// The servers of a file in order, and their names.
+/// Reads the servers of a file in order. Returns them with their names.
 pub(crate) fn servers<'a>(
     alloc: Global,
     file: &'a Table,
@@ -117,7 +117,7 @@ pub(crate) fn servers<'a>(
     Ok((servers, reader.names))
 }
 
-/// All notes of a system: the notifications, and behind them the servers, which are free.
+/// Returns the notifications followed by the servers, which are free.
 pub(crate) fn all_notes(
     mut notes: Vec<NotePart>,
     servers: Vec<Server>,

@@ -1,3 +1,4 @@
+//! Reads the array `source`, with the dates of interrupts.
 #![tactic(auto, using(crate::proofs::Steps::steps, crate::proofs::Members::item_count_view), unfolding(crate::specs::Dates::offset, crate::specs::Dates::few_offsets, crate::specs::Dates::at_values, crate::specs::Dates::read_values, crate::specs::Dates::offsets, crate::specs::Dates::read_dates, crate::specs::Walk::source, crate::specs::Walk::sources))]
 
 ghost use Rattle.std.specs.Prelude.{◌≡◌, ◌<◌, ◌≤◌, ◌+◌, ◌^◌, ◌++◌, ◌∷◌, [], All, IfOk, IfSome, OnOk, length, map};
@@ -21,7 +22,6 @@ use mcs_ticks::{Limits, NoteId, Sequence, SourceId};
 use std::alloc::{AllocError, Global};
 use toml::{Table, Value};
 
-/// The keys of a source.
 const SOURCE_KEYS: [Key; 7] = [
     Key::Name,
     Key::Note,
@@ -32,10 +32,10 @@ const SOURCE_KEYS: [Key; 7] = [
     Key::At,
 ];
 
-/// The greatest count of a source.
+/// Maximum `count` of a source.
 const MOST_DATES: u64 = 1 << 40;
 
-/// A source as its row says it.
+/// A source as read from its row.
 #[derive(Drop)]
 pub(crate) struct Source {
     pub name: Name,
@@ -47,22 +47,22 @@ pub(crate) struct Source {
 /// The dates of a source.
 #[derive(Drop)]
 pub(crate) struct Dates {
-    /// How many numbers `at` has.
+    /// Number of entries of `at`.
     pub many: usize,
     pub beats: Sequence<Beat>,
 }
 
-/// When a source interrupts, beside the numbers of `at`.
+/// When a source interrupts, apart from `at`.
 #[derive(Clone, Copy)]
 struct Pace {
     source: SourceId,
     start: u64,
     period: u64,
-    /// 0 means without end.
+    /// Number of interrupts. 0 means no end.
     count: u64,
 }
 
-/// The number of a value of `at`, at least this and below the period.
+/// Reads a value of `at`, from `least` to below the period.
 fn offset(value: &Value, at: At, number: usize, least: u64, period: u64) -> Result<u64, LoadFault>
     requires { 1 ≤ period }
     ensures within { IfOk result (λ n. n < period) }
@@ -77,7 +77,7 @@ fn offset(value: &Value, at: At, number: usize, least: u64, period: u64) -> Resu
     }
 }
 
-/// The numbers of the values, each above the one before and below the period.
+/// Reads the numbers of `at`. Each is above the one before and below the period.
 fn read_offsets(alloc: Global, values: &[Value], at: At, period: u64) -> Result<Vec<u64>, LoadFault>
     requires { (1 ≤ period) × (period ≤ 2 ^ 40) }
     ensures within { IfOk result (λ v. All (λ n. n < period) v.items) }
@@ -94,7 +94,7 @@ fn read_offsets(alloc: Global, values: &[Value], at: At, period: u64) -> Result<
     Ok(offsets)
 }
 
-/// Tests that so many numbers are at most 1,024, and at most 4,096 with those of the sources before.
+/// Tests that there are at most 1,024 numbers, and at most 4,096 with those of the earlier sources.
 fn few_offsets(at: At, taken: usize, count: usize) -> Result<(), LoadFault>
     requires { taken ≤ 4096 }
     ensures few { IfOk result (λ _. taken + count ≤ 4096) }
@@ -107,7 +107,7 @@ fn few_offsets(at: At, taken: usize, count: usize) -> Result<(), LoadFault>
     }
 }
 
-/// The values of `at`, or None where it is absent.
+/// Returns the values of `at`, or `None` if the key is absent.
 fn at_values(row: &Table, at: At) -> Result<Option<&[Value]>, LoadFault>
     ensures some { IfOk result (λ found. IfSome found (λ v. 1 ≤ length v.now)) }
     ensures gives { Tells (λ found. values_or_zero found) result (at_values at (table_view row.now)) }
@@ -124,7 +124,7 @@ fn at_values(row: &Table, at: At) -> Result<Option<&[Value]>, LoadFault>
     Ok(Some(values.as_slice()))
 }
 
-/// The number 0 alone.
+/// Returns a list with the number 0.
 fn zero_alone(alloc: Global) -> Result<Vec<u64>, AllocError>
     ensures { IfOk result (λ v. v.items ≡ 0 ∷ []) }
 {
@@ -133,7 +133,7 @@ fn zero_alone(alloc: Global) -> Result<Vec<u64>, AllocError>
     Ok(offsets)
 }
 
-/// Tests that the values are at most 1,024, and at most 4,096 with those of the sources before.
+/// Tests the number of values like `few_offsets`.
 fn few_values(at: At, taken: usize, values: &[Value]) -> Result<(), LoadFault>
     requires { taken ≤ 4096 }
     ensures few { IfOk result (λ _. taken + length values.now ≤ 4096) }
@@ -142,7 +142,7 @@ fn few_values(at: At, taken: usize, values: &[Value]) -> Result<(), LoadFault>
     few_offsets(at, taken, values.len())
 }
 
-/// The numbers of the values, which are not too many.
+/// Tests the number of values and reads them.
 fn few_read_offsets(
     alloc: Global,
     values: &[Value],
@@ -162,7 +162,7 @@ fn few_read_offsets(
     Ok(offsets)
 }
 
-/// The numbers of the values of `at`: 0 alone where it is absent.
+/// Reads the numbers of `at`. An absent `at` means the number 0.
 fn read_values(
     alloc: Global,
     found: Option<&[Value]>,
@@ -186,7 +186,7 @@ fn read_values(
     }
 }
 
-/// The numbers of `at`.
+/// Reads the numbers of `at`, or 0.
 fn offsets(
     alloc: Global,
     row: &Table,
@@ -204,7 +204,8 @@ fn offsets(
     read_values(alloc, found, at, taken, period)
 }
 
-/// Of `count` dates, how many are those of the k-th of `many` numbers; None where it has none.
+/// How many of `count` dates belong to entry `k` of `many`. A count of 0 means no end; `None` means
+/// that it has no date.
 fn share(count: u64, many: usize, k: usize) -> Option<u64>
     requires { k < many }
     ensures { result ≡ share count many k }
@@ -219,7 +220,7 @@ fn share(count: u64, many: usize, k: usize) -> Option<u64>
     }
 }
 
-/// Appends the dates of a number of `at`, if it has one.
+/// Appends the dates of an entry of `at`, if it has any.
 fn put_beat(
     beats: &mut Vec<Beat>,
     pace: &Pace,
@@ -244,7 +245,7 @@ fn put_beat(
     }
 }
 
-/// The beats of the numbers of `at`.
+/// Returns the dates of all entries of `at`.
 fn beats(alloc: Global, pace: &Pace, offsets: &[u64]) -> Result<Vec<Beat>, AllocError>
     requires pace { (pace.now.start ≤ 2 ^ 40) × (pace.now.period ≤ 2 ^ 40) }
     requires within { All (λ n. n < pace.now.period) offsets.now }
@@ -258,7 +259,7 @@ fn beats(alloc: Global, pace: &Pace, offsets: &[u64]) -> Result<Vec<Beat>, Alloc
     Ok(beats)
 }
 
-/// The dates of the source with this number, where those before it have so many numbers in `at`.
+/// Reads the dates of source `number`. Earlier sources have `taken` numbers in `at`.
 fn read_dates(
     alloc: Global,
     row: &Table,
@@ -287,13 +288,13 @@ fn read_dates(
     })
 }
 
-/// Reads sources, and keeps their names.
+/// Reads sources and keeps their names.
 #[derive(Drop)]
 struct SourceReader<'n, 'a> {
     alloc: Global,
     note_names: &'n Names<'a>,
     names: Names<'a>,
-    /// How many numbers the earlier sources have.
+    /// Number of entries of `at` in earlier sources.
     taken: usize,
 }
 
@@ -321,7 +322,7 @@ impl<'n, 'a> RowReader<'a> for SourceReader<'n, 'a> {
     }
 }
 
-/// The sources of a file in order, and their names.
+/// Reads the sources of a file in order. Returns them with their names.
 pub(crate) fn sources<'a>(
     alloc: Global,
     file: &'a Table,
@@ -340,7 +341,7 @@ pub(crate) fn sources<'a>(
     Ok((sources, reader.names))
 }
 
-/// The beats of all sources.
+/// Returns the dates of all sources.
 pub(crate) fn all_beats(alloc: Global, sources: &[Source]) -> Result<Vec<Beat>, AllocError>
     ensures { IfOk result (λ v. v.items ≡ flat_map (λ s. s.dates.beats) sources.now) }
 {
@@ -351,7 +352,7 @@ pub(crate) fn all_beats(alloc: Global, sources: &[Source]) -> Result<Vec<Beat>, 
     Ok(beats)
 }
 
-/// What a system keeps of the sources beside their beats.
+/// Returns the parts of the sources that a system keeps besides their dates.
 pub(crate) fn source_parts(
     alloc: Global,
     sources: Vec<Source>,

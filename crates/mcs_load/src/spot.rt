@@ -1,3 +1,4 @@
+//! Sections and keys of a file, and the text of a place.
 ghost use Rattle.std.specs.Prelude.{Some};
 ghost use Rattle.std.specs.Fmt.{DisplaysOnOk};
 ghost use Rattle.mcs_load.specs.Keys.{key_name};
@@ -31,7 +32,7 @@ pub enum Section {
     Chain,
 }
 
-/// A key of a file, one for each name.
+/// A key of a file.
 #[derive(Clone, Copy, Debug, PartialEq, Eq)]
 pub enum Key {
     Version,
@@ -71,14 +72,14 @@ pub enum Key {
     Whole,
 }
 
-/// Where a fault lies. Its text is that of the place, as `thread 2 script item 3`.
+/// The place of a fault. Its text looks like `thread 2 script item 3`.
 #[derive(Clone, Copy, Debug, PartialEq, Eq)]
 pub struct Spot {
     pub section: Section,
-    /// The row of the section's array, from 1, or 0 where no row is meant.
+    /// The row of the section's array, from 1. 0 means no row.
     pub row: usize,
     pub key: Key,
-    /// The item of the script, or the number of `at`, from 1, or 0 where none is meant.
+    /// The item of the script or the number of `at`, from 1. 0 means no item.
     pub item: usize,
 }
 
@@ -126,7 +127,7 @@ impl fmt::Display for Spot {
     }
 }
 
-/// A row that is meant, behind a space.
+/// Writes a space and the row, or nothing for row 0.
 fn put_row<W: fmt::Write>(f: &mut fmt::Formatter<W>, row: usize) -> fmt::Result
     ensures { DisplaysOnOk W.write_str_gives f.old result (Some (row_text row)) f.new }
 {
@@ -136,7 +137,7 @@ fn put_row<W: fmt::Write>(f: &mut fmt::Formatter<W>, row: usize) -> fmt::Result
     }
 }
 
-/// A key that is meant, behind a space.
+/// Writes a space and the key, or nothing for `Key::Whole`.
 fn put_key<W: fmt::Write>(f: &mut fmt::Formatter<W>, key: Key) -> fmt::Result
     ensures { DisplaysOnOk W.write_str_gives f.old result (Some (key_text key)) f.new }
 {
@@ -146,7 +147,7 @@ fn put_key<W: fmt::Write>(f: &mut fmt::Formatter<W>, key: Key) -> fmt::Result
     }
 }
 
-/// An item that is meant, behind a space.
+/// Writes ` item ` and the number, or nothing for item 0.
 fn put_item<W: fmt::Write>(f: &mut fmt::Formatter<W>, item: usize) -> fmt::Result
     ensures { DisplaysOnOk W.write_str_gives f.old result (Some (item_text item)) f.new }
 {

@@ -1,3 +1,4 @@
+//! Reads the array `thread`.
 #![tactic(auto, using(crate::proofs::Steps::steps), unfolding(crate::specs::Walk::own_context, crate::specs::Walk::times, crate::specs::Walk::thread, crate::specs::Walk::threads))]
 
 ghost use Rattle.std.specs.Prelude.{◌≡◌, ◌<◌, ◌≤◌, IfOk, length, map, [], ◌∷◌, ◌++◌};
@@ -22,7 +23,6 @@ use mcs_ticks::{ContextId, Limits, Tick};
 use std::alloc::Global;
 use toml::Table;
 
-/// The keys of a thread.
 const THREAD_KEYS: [Key; 7] = [
     Key::Name,
     Key::Context,
@@ -33,7 +33,7 @@ const THREAD_KEYS: [Key; 7] = [
     Key::Script,
 ];
 
-/// The times of a thread.
+/// Start, number of jobs and deadline of a thread.
 #[derive(Clone, Copy)]
 struct Timing {
     start: Tick,
@@ -41,7 +41,8 @@ struct Timing {
     deadline: u64,
 }
 
-/// The context of the row, which no earlier thread has; it goes into the set of those that are taken.
+/// Reads the context of the row and adds it to the taken ones. `ContextTaken` if an earlier thread
+/// has it.
 fn own_context<'a>(
     row: &'a Table,
     at: At,
@@ -59,7 +60,7 @@ fn own_context<'a>(
     Ok(context)
 }
 
-/// The start, the rounds and the deadline of a row.
+/// Reads the start, rounds and deadline of a row.
 fn times(row: &Table, at: At) -> Result<Timing, LoadFault>
     ensures { Tells (λ x. x) result (times at (table_view row.now)) }
 {
@@ -73,7 +74,7 @@ fn times(row: &Table, at: At) -> Result<Timing, LoadFault>
     })
 }
 
-/// Reads threads of contexts and notifications that are known by name, and keeps the threads' names and the contexts that are taken.
+/// Reads threads. It keeps their names and the contexts that are taken.
 #[derive(Drop)]
 struct ThreadReader<'c, 'n, 'a> {
     alloc: Global,
@@ -83,7 +84,7 @@ struct ThreadReader<'c, 'n, 'a> {
     note_names: &'n Names<'a>,
     servers: &'c [Server],
     server_names: &'n Names<'a>,
-    /// Whether the file is of version 3.
+    /// Whether the file has version 3.
     is_new: bool,
     names: Names<'a>,
     taken: IndexSet<usize>,
@@ -136,7 +137,7 @@ impl<'c, 'n, 'a> RowReader<'a> for ThreadReader<'c, 'n, 'a> {
     }
 }
 
-/// The threads of a file in order, and their names.
+/// Reads the threads of a file in order. Returns them with their names.
 pub(crate) fn threads<'a>(
     alloc: Global,
     file: &'a Table,

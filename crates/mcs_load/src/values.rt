@@ -1,4 +1,4 @@
-//! Reading the values of the tree: of a key, of a row and of an array.
+//! Reading keys, rows and arrays of the tree.
 #![tactic(auto, using(crate::proofs::Steps::steps, crate::proofs::Members::item_count_view), unfolding(crate::specs::Words::number, crate::specs::Words::whole_number, crate::specs::Words::number_with_default, crate::specs::Words::text, crate::specs::Words::row_table, crate::specs::Words::only_keys, crate::specs::Words::new_name, crate::specs::Words::rows, crate::specs::Walk::known, crate::specs::Walk::known_name))]
 
 ghost use Rattle.std.specs.Prelude.{◌≡◌, ◌<◌, ◌≤◌, false, length, option_map, Option, IfOk, [], ◌∷◌, ◌++◌};
@@ -18,17 +18,18 @@ use mcs_system::Name;
 use mcs_ticks::Limits;
 use toml::{Table, Value};
 
-/// The rows of an array of tables, which is the limit for contexts, notifications, threads, orders and the like.
+/// Maximum number of rows of an array of tables.
 const MOST_ROWS: usize = Limits::CONTEXTS;
 
-/// What a table has at a key.
+/// The value at a key.
 pub(crate) fn find(table: &Table, key: Key) -> Option<&Value>
     ensures { option_map (λ v. view v.now) result ≡ get_member (key_name key) (table_view table.now) }
 {
     table.get(name_of(key))
 }
 
-/// The whole number that was found at a key, or the default where nothing was.
+/// Returns the whole number found at a key, or the default if `found` is `None`. It lies in
+/// `least..=most`.
 fn number(
     found: Option<&Value>,
     at: At,
@@ -54,7 +55,7 @@ fn number(
     }
 }
 
-/// The whole number at a key, which has to be there.
+/// Returns the whole number at a required key.
 pub(crate) fn whole_number(
     table: &Table,
     at: At,
@@ -70,7 +71,7 @@ pub(crate) fn whole_number(
     number(Some(value), at, key, least, most, least)
 }
 
-/// The whole number at a key, or the default where the table has none.
+/// Returns the whole number at a key, or the default if the key is absent.
 pub(crate) fn number_with_default(
     table: &Table,
     at: At,
@@ -86,7 +87,7 @@ pub(crate) fn number_with_default(
     number(find(table, key), at, key, least, most, default)
 }
 
-/// The text at a key, which has to be there.
+/// Returns the text at a required key.
 pub(crate) fn text(table: &Table, at: At, key: Key) -> Result<&str, LoadFault>
     ensures { Tells (λ s. s.now) result (text at key (table_view table.now)) }
 {
@@ -97,7 +98,7 @@ pub(crate) fn text(table: &Table, at: At, key: Key) -> Result<&str, LoadFault>
     }
 }
 
-/// The table that a row is.
+/// Returns the row as a table.
 pub(crate) fn row_table(row: &Value, at: At) -> Result<&Table, LoadFault>
     ensures { Tells (λ t. table_view t.now) result (row_table at (view row.now)) }
 {
@@ -126,7 +127,7 @@ fn has_only(table: &Table, keys: &[Key]) -> bool
     true
 }
 
-/// Tests that the table has no other keys than these.
+/// Tests that the table has only these keys.
 pub(crate) fn only_keys(table: &Table, at: At, keys: &[Key]) -> Result<(), LoadFault>
     ensures { Tells (λ x. x) result (only_keys at keys.now (table_view table.now)) }
 {
@@ -137,7 +138,7 @@ pub(crate) fn only_keys(table: &Table, at: At, keys: &[Key]) -> Result<(), LoadF
     }
 }
 
-/// The name of a row, which no earlier row has; it goes to the end of the earlier ones.
+/// Returns the name of a row, and appends it to `earlier`. It must be a valid name that is new.
 pub(crate) fn new_name<'a>(
     table: &'a Table,
     at: At,
@@ -156,7 +157,7 @@ pub(crate) fn new_name<'a>(
     Ok(name)
 }
 
-/// The name of a row, which is none of the others and no earlier row has.
+/// Returns the name of a row. It must be valid and in neither list.
 pub(crate) fn unused_name<'a>(
     table: &'a Table,
     at: At,
@@ -176,7 +177,7 @@ pub(crate) fn unused_name<'a>(
     Ok(name)
 }
 
-/// The place of a name among those that are known.
+/// The index of a name. `UnknownName` if there is none.
 fn known<'a>(at: At, key: Key, names: &Names<'a>, name: &'a str) -> Result<usize, LoadFault>
     ensures gives { Tells (λ n. n) result (known key at names.now name.now) }
     ensures within { IfOk result (λ n. n < length names.now) }
@@ -186,7 +187,7 @@ fn known<'a>(at: At, key: Key, names: &Names<'a>, name: &'a str) -> Result<usize
         .ok_or(at.fault(key, FaultKind::UnknownName))
 }
 
-/// The place of the name at a key among those that are known.
+/// Returns the index of the name at a key. `UnknownName` if there is none.
 pub(crate) fn known_name<'a>(
     row: &'a Table,
     at: At,
@@ -200,7 +201,7 @@ pub(crate) fn known_name<'a>(
     known(at, key, names, name)
 }
 
-/// The rows at a key: the values of its array, or none.
+/// Returns the values of the array at a key, or none if it is absent.
 pub(crate) fn rows(table: &Table, section: Section, key: Key) -> Result<&[Value], LoadFault>
     ensures gives { Tells (λ v. items_view v.now) result (rows section key (table_view table.now)) }
     ensures few { IfOk result (λ v. length v.now ≤ 4096) }

@@ -39,7 +39,7 @@ none-joined f (suc n) a h =
     rw first (none-joined f n (a + 1) (λ i l. let e : a + 1 + i ≡ a + suc i = omega arith in ap f e ∙ h (suc i) (omega arith)))
 
 module _ (system : System) (takes_time : TakesTime system) where
-  -- where no core makes a row, the schedule has none
+  -- if no core makes a row, the schedule has none
   rows-kept : (t n : ℕ) → ((i : ℕ) → i < n → rows_at system (t + i) ≡ []) → rows_before system (t + n) ≡ rows_before system t
   rows-kept t zero none = ap (rows_before system) (add-zero t)
   rows-kept t (suc n) none =

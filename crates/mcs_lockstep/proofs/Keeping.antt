@@ -1,4 +1,4 @@
--- What `Lockstep` keeps where all cores go together over idle time.
+-- The invariant of `Lockstep` when all cores skip idle time.
 use Rattle.std.proofs.Common.{◌≡◌, ℕ, ◌+◌, ◌≤◌, false, List, ap, ◌∙◌, subst}
 use Rattle.std.specs.Arc.{arc_value}
 use Rattle.mcs_system.specs.System.{System}

@@ -1,4 +1,4 @@
--- Cores that stand before one moment.
+-- Cores with one clock.
 use Rattle.std.proofs.Common.{◌≡◌, ℕ, ◌<◌, sym, ◌∙◌, arith}
 use Rattle.std.proofs.lemmas.List.{ext_get_or, get_or-replicate, length-replicate}
 use Rattle.mcs_system.specs.System.{System}

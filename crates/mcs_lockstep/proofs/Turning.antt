@@ -15,7 +15,7 @@ use Rattle.mcs_stretch.proofs.Reaches.{by-delays}
 use Rattle.mcs_lockstep.specs.Together.{rows_at, rows_before}
 use Rattle.mcs_lockstep.specs.stored.Kept.{IsBefore, AreBefore, HaveTurned}
 
--- the schedule goes on by the rows of the moment
+-- the schedule grows by the rows of the moment
 pub rows-after : (system : System) → TakesTime system → (t : ℕ) → rows_before system (t + 1) ≡ rows_before system t ++ rows_at system t
 rows-after system takes_time t = let e : t + 1 ≡ suc t = omega arith in ap (rows_before system) e ∙ rows-clock system takes_time t
 

@@ -1,4 +1,4 @@
--- A small system, worked by hand: on each of two cores a thread runs for a tick, from moment 0 on.
+-- A small system, worked by hand: on each of two cores a thread runs for a tick, from time 0 on.
 use Rattle.std.specs.Prelude.{◌≡◌, ℕ, [], ◌∷◌, ◌++◌, None, refl}
 use Rattle.mcs_ticks.specs.declared.row.What.TheVariants as row
 use Rattle.mcs_ticks.specs.declared.row.Why.TheVariants as why

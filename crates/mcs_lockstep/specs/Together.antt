@@ -1,11 +1,11 @@
--- All cores of a system before one moment.
+-- All cores of a system at one time.
 use Rattle.std.specs.Prelude.{ℕ, Bool, true, false, List, replicate, flat_map}
 use Rattle.mcs_ticks.specs.declared.row.Row.{Row}
 use Rattle.mcs_system.specs.System.{System}
 use Rattle.mcs_core.specs.Clock.{clock, rows_of}
 use Rattle.mcs_laws.specs.Turns.{cores}
 
--- the moment, the last one of the run, and whether there was no memory for a turn
+-- `clock`: the time of the next turn; `failed`: memory ran out for a turn
 pub record Together : Type 0 where
   pub system : System
   pub horizon : ℕ
@@ -15,16 +15,16 @@ pub record Together : Type 0 where
 abbrev pub opening : System → ℕ → Together
 opening system horizon = record { system = system; horizon = horizon; clock = 0; failed = false }
 
--- the cores come to another moment
+-- the cores move to another moment
 abbrev pub at_moment : Together → ℕ → Together
 at_moment together moment = record together { clock = moment }
 
--- there was no memory for a turn
+-- memory ran out for a turn
 abbrev pub with_failed : Together → Together
 with_failed together = record together { failed = true }
 
 module _ (system : System) where
-  -- the clocks of all cores, where they stand before moment t
+  -- the clocks of all cores before moment t
   abbrev pub clocks_at : ℕ → List ℕ
   clocks_at t = replicate system.cores t
 

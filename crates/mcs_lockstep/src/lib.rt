@@ -1,4 +1,5 @@
-//! All cores of a system at one moment: they skip idle time together, and take their turns of a moment one after another.
+//! All cores of a system at one time: they skip idle time together, and take their turns of a
+//! moment one after another.
 #![tactic(auto)]
 
 mod lockstep;

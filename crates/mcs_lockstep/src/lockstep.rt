@@ -13,7 +13,7 @@ use std::alloc::Global;
 use std::marker::Model;
 use std::sync::Arc;
 
-/// All cores of a system before one moment, up to a horizon.
+/// All cores of a system at one time, up to a horizon.
 #[derive(Drop)]
 pub struct Lockstep {
     system: Arc<System>,
@@ -36,7 +36,7 @@ impl Model for Lockstep {
 }
 
 impl Lockstep {
-    /// All cores before moment 0, for a run up to this horizon.
+    /// Returns all cores before their turns at time 0, for a run up to this horizon.
     pub fn new(alloc: Global, system: Arc<System>, horizon: Tick) -> Result<Lockstep, NoMemory>
         requires { horizon ≤ 2 ^ 40 }
         ensures { IfOk result (λ lockstep. lockstep ≡ opening (arc_value system) horizon) }
@@ -53,7 +53,7 @@ impl Lockstep {
         })
     }
 
-    /// The moment before which all cores stand: the next one whose turns they take.
+    /// The time of the next turn of all cores, at most one past the horizon.
     pub fn clock(&self) -> Tick
         ensures value { result ≡ self.now.clock }
         ensures in_time { result ≤ self.now.horizon + 1 }
@@ -61,14 +61,15 @@ impl Lockstep {
         self.clock
     }
 
-    /// Whether memory was refused to a turn before, so that each later call answers `NoMemory`, too.
+    /// Whether a turn ran out of memory. Each later call then returns `NoMemory` too.
     pub fn failed(&self) -> bool
         ensures { result ≡ self.now.failed }
     {
         self.failed
     }
 
-    /// How a core stands before the moment, as the clock over all cores has it.
+    /// The state of a core before its turn at `clock`, as on the clock over all cores. No turn may
+    /// have run out of memory.
     pub fn state(&self, core: CoreId) -> &CoreState
         requires known { core < self.now.system.cores }
         requires whole { self.now.failed ≡ false }
@@ -77,9 +78,10 @@ impl Lockstep {
         self.cores.state(core)
     }
 
-    /// Idle time: all cores go at once to the first moment, from theirs on, at which some core does more than count a tick, or to the
-    /// moment after the horizon where that comes first. The schedule has no row meanwhile. Answers that moment. It takes no memory; after
-    /// a turn's `NoMemory` it answers it too, and nothing changes.
+    /// Skips idle time: moves all cores to the first moment, from `clock` on, at which some core
+    /// does more than count a tick, at most one past the horizon. Returns that moment. The schedule
+    /// has no row meanwhile. It allocates no memory. Returns `NoMemory`, and changes nothing, only
+    /// if a turn ran out of memory before.
     pub fn skip(&mut self) -> Result<Tick, NoMemory>
         ensures going { OnOk result (self.old.failed ≡ false) }
         ensures moment { IfOk result
@@ -98,9 +100,9 @@ impl Lockstep {
         Ok(moment)
     }
 
-    /// All cores take their turns of this moment, in rising order, and stand before the next one. The rows of these turns, which are those
-    /// that the schedule has at this moment, are put behind those that there are. On `NoMemory` no row is put there, and each later call
-    /// answers it, too.
+    /// Takes the turns of all cores at this moment, in rising order, and moves on to the next
+    /// moment. Appends the rows of these turns, which are those of the schedule at this moment. On
+    /// `NoMemory` no row is appended, and each later call returns it too.
     pub fn turn(&mut self, rows: &mut Vec<Row>) -> Result<(), NoMemory>
         requires { self.old.clock ≤ self.old.horizon }
         ensures going { OnOk result (self.old.failed ≡ false) }

@@ -9,7 +9,7 @@ use mcs_system::System;
 use mcs_ticks::{CoreId, NoMemory, Row, Tick};
 use mcs_window::Cores;
 
-/// Each core takes its turn of the moment, in rising order, and its rows are put behind those that there are.
+/// Takes the turn of each core at the moment, in rising order, and appends its rows.
 pub(crate) fn take_turns(
     system: &System,
     cores: &mut Cores,
@@ -31,7 +31,7 @@ pub(crate) fn take_turns(
     Ok(())
 }
 
-/// A core takes its turns up to before a moment, and its rows are put behind those that there are.
+/// Takes the turns of a core up to before a moment, and appends its rows.
 fn go_to(cores: &mut Cores, core: CoreId, to: Tick, rows: &mut Vec<Row>) -> Result<(), NoMemory>
     requires known { core < cores.old.system.cores }
     requires there { core < length cores.old.clocks }

@@ -1,4 +1,5 @@
--- Where mail is put into a list in order of delivery, and what is taken out of one.
+-- The place of mail that is put into a list in order of delivery, and the result of taking mail
+-- out.
 use Rattle.std.proofs.Common.{◌≡◌, ℕ, zero, suc, ◌-◌, ◌<◌, ◌≤◌, true, false, not, List, [], ◌∷◌, length, get_or, Some, None, inl, inr, refl, sym, ap, ◌∙◌, arith}
 use Rattle.std.specs.Prelude.{nat_le}
 use Rattle.std.specs.List.{All, insert}
@@ -34,7 +35,8 @@ no_earlier mail d (x ∷ xs) (suc i) (suc j) h p q e = no_earlier mail d xs i j 
 pub is_partitioned : (mail : Mail) (xs : List Mail) → IsOrdered xs → IsPartitionedBy (λ y. not (is_before mail y)) xs
 is_partitioned mail xs h i j d p q e = ap not (no_earlier mail d xs i j h p q (not-true (is_before mail (get_or xs j d)) e))
 
--- mail is put where all before are not after it, and the next is
+-- an index is the place of mail if all before it are not after the mail, and the one at the index
+-- is
 pub put-at : (mail : Mail) (xs : List Mail) (i : ℕ) → i ≤ length xs → ((k : ℕ) (d : Mail) → k < i → is_before mail (get_or xs k d) ≡ false) →
     ((d : Mail) → i < length xs → is_before mail (get_or xs i d) ≡ true) → insert xs i mail ≡ put mail xs
 put-at mail [] zero p f g = refl
@@ -48,7 +50,7 @@ pub put-partition : (mail : Mail) (xs : List Mail) (i : ℕ) → i ≤ length xs
 put-partition mail xs i p h =
     put-at mail xs i p (λ k d q. not-true (is_before mail (get_or xs k d)) (h.0 k d (omega arith) q)) (λ d q. not-false (is_before mail (get_or xs i d)) (h.1 i d (omega arith) q))
 
--- at the back, where the last is not after it
+-- the place is the back if the last is not delivered after the mail
 pub put-back : (mail last : Mail) (xs : List Mail) (n : ℕ) → IsOrdered xs → n ≡ length xs → last ≡ get_or xs (n - 1) last → is_before mail last ≡ false → insert xs n mail ≡ put mail xs
 put-back mail last [] n h e f g = rw e refl
 put-back mail last (x ∷ xs) n h e f g =
@@ -74,13 +76,13 @@ no_earlier-without_due t from (x ∷ xs) h =
     let Late : List Mail → Type 0 = λ ys. All (λ (mail : Mail). from ≤ mail.arrives) ys in
     cond_both (nat_le x.arrives t) xs (x ∷ xs) Late (λ e. All-tail (λ (mail : Mail). from ≤ mail.arrives) x xs h) (λ e. h)
 
--- where nothing arrives before t, the mail that is due at t is the first that arrives at t ..
+-- if no mail arrives before t, the mail that is due at t is the first that arrives at t ..
 pub due-some : (t : ℕ) (mail : Mail) (xs : List Mail) → All (λ (m : Mail). t ≤ m.arrives) xs → due t xs ≡ Some mail →
     (arriving t xs ≡ mail ∷ arriving t (without_due t xs)) × (staying t xs ≡ staying t (without_due t xs))
 due-some t mail [] h e = cc
 due-some t mail (x ∷ xs) h e = let first = All-head (λ (m : Mail). t ≤ m.arrives) x xs h in grind (arith, nat_tests)
 
--- .. and where none is due, none arrives at t
+-- .. and if all mail arrives after t, no mail arrives at t
 none-arrives : (t : ℕ) (xs : List Mail) → ((y : Mail) → IsIn y xs → t < y.arrives) → (arriving t xs ≡ []) × (staying t xs ≡ xs)
 none-arrives t [] g = (refl, refl)
 none-arrives t (x ∷ xs) g =

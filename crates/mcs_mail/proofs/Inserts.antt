@@ -1,4 +1,4 @@
--- Lists of anything, and one more that stands in front of the first that it is before.
+-- Lists of any type, with an element inserted before the first that it precedes.
 use Rattle.std.proofs.Common.{◌≡◌, suc, Bool, true, false, cond, List, [], ◌∷◌, length, ◌⊎◌, inl, inr, refl, sym, subst, ◌∙◌, arith}
 use Rattle.std.proofs.lemmas.Bool.{cond_both}
 
@@ -7,7 +7,7 @@ abbrev pub Among : {A : Type 0} → A → List A → Type 0
 Among x [] = ⊥
 Among x (y ∷ ys) = (x ≡ y) ⊎ Among x ys
 
--- the relation holds of each and each behind it
+-- the relation holds between each element and each later one
 abbrev pub Pairwise : {A : Type 0} → (A → A → Type 0) → List A → Type 0
 Pairwise R [] = Unit {0}
 Pairwise {A = A} R (x ∷ xs) = ((y : A) → Among y xs → R x y) × Pairwise R xs
@@ -30,7 +30,7 @@ module _ (A : Type 0) (before : A → A → Bool) where
   in_inserted x m [] h = h
   in_inserted x m (y ∷ ys) h = grind (arith, in_inserted x m ys)
 
-  -- two of which one is before the other may be put in either order
+  -- two elements, one before the other, may be inserted in either order
   pub inserted-inserted : (a b : A) (xs : List A) → before a b ≡ true → before b a ≡ false → ((x : A) → before b x ≡ true → before a x ≡ true) →
       inserted before a (inserted before b xs) ≡ inserted before b (inserted before a xs)
   inserted-inserted a b [] p q h = grind (arith)
@@ -49,7 +49,7 @@ module _ (A : Type 0) (before : A → A → Bool) where
       others : before m y ≡ false → (z : A) → Among z (inserted before m ys) → R y z
       others e z k = elim (from_inserted z m ys k) [ inl f ↦ subst (R y) (sym f) (behind y (inl refl) e) | inr l ↦ p.0 z l ]
 
--- lists of which each is before all behind it are one where they have the same
+-- two lists with the same elements, each strictly ordered, are equal
 pub same_lists : (A : Type 0) (R : A → A → Type 0) → ((a : A) → R a a → ⊥) → ((a b d : A) → R a b → R b d → R a d) → (xs ys : List A) → Pairwise R xs → Pairwise R ys →
     ((x : A) → Among x xs → Among x ys) → ((x : A) → Among x ys → Among x xs) → xs ≡ ys
 same_lists A R itself trans [] [] p q f g = refl

@@ -30,7 +30,7 @@ last_or-append : (d m : Mail) (xs : List Mail) → last_or d (xs ++ m ∷ []) �
 last_or-append d m [] = refl
 last_or-append d m (x ∷ xs) = last_or-append x m xs
 
--- none is after the last
+-- the last is not before any earlier one
 not_after_last : (d : Mail) (xs : List Mail) → IsOrdered (d ∷ xs) → is_before (last_or d xs) d ≡ false
 not_after_last d [] h = not_before_itself d
 not_after_last d (x ∷ xs) h = not_trans (last_or x xs) x d (not_after_last x xs h.1) (h.0 x (inl refl))
@@ -42,7 +42,7 @@ put-behind m (x ∷ []) h e = rw e refl
 put-behind m (x ∷ y ∷ xs) h e =
     rw (not_trans m (last_or y xs) x e (not_after_last x (y ∷ xs) h)) (ap (λ (zs : List Mail). x ∷ zs) (put-behind m (y ∷ xs) h.1 e))
 
--- two of which one is strictly before the other may be put in either order
+-- two mails, one strictly before the other, may be put in either order
 put-put : (a b : Mail) (xs : List Mail) → is_before a b ≡ true → put a (put b xs) ≡ put b (put a xs)
 put-put a b xs h = inserted-inserted Mail is_before a b xs h (not_back a b h) (λ x. trans a b x h)
 
@@ -60,7 +60,7 @@ put_all-put m (l ∷ late) xs h =
       | inr i ↦ before-until m l k e (h.0 k i)
     ]))) (λ e. put_all-put m late (put l xs) h.1)
 
--- mail that none of the late is before stays in front
+-- mail stays first if no late mail is before it
 put_all-over : (f : Mail) (late xs : List Mail) → ((l : Mail) → IsIn l late → is_before l f ≡ false) → put_all late (f ∷ xs) ≡ f ∷ put_all late xs
 put_all-over f [] xs h = refl
 put_all-over f (l ∷ late) xs h = rw (h l (inl refl)) (put_all-over f late (put l xs) (λ k j. h k (inr j)))
@@ -77,14 +77,14 @@ pub ordered-put_all : (late xs : List Mail) → IsOrdered xs → IsOrdered (put_
 ordered-put_all [] xs h = h
 ordered-put_all (l ∷ late) xs h = ordered-put_all late (put l xs) (ordered-put l xs h)
 
--- where no mail is late
+-- the case of no late mail
 pub IsMerged-ring : (late ring : List Mail) (capacity : ℕ) → late ≡ [] → IsOrdered ring → length ring ≤ capacity → IsMerged late ring capacity
 IsMerged-ring [] ring capacity e h room = record { late_ordered = tt; ring_ordered = h; before_last = λ m k. absurd k; room = omega arith }
 IsMerged-ring (l ∷ late) ring capacity e h room = cc
 
 -- one is put ..
 module _ (late ring : List Mail) (capacity : ℕ) (kept : IsMerged late ring capacity) (m : Mail) where
-  -- .. behind the ring's last
+  -- .. the mail is not before the last of the ring
   module _ (behind : is_before m (last_or m ring) ≡ false) where
     last-before : (l : Mail) → IsIn l late → is_before l m ≡ true
     last-before l k = by ring (kept.before_last l k) behind

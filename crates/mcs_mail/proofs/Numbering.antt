@@ -1,4 +1,4 @@
--- What a heap of numbered mail holds, in order of delivery: when one more is pushed, and when the top is popped.
+-- The contents of a heap of numbered mail, in order of delivery, after a push and after a pop.
 use Rattle.std.proofs.Common.{◌≡◌, ◌≢◌, ℕ, zero, suc, ◌+◌, ◌<◌, ◌≤◌, Bool, true, false, ◌&&◌, ◌||◌, List, [], ◌∷◌, length, get_or, slice_get, Some, inl, inr, refl, sym, ap, subst, ◌∙◌, arith}
 use Rattle.std.specs.Prelude.{◌==◌, nat_lt, IsPermutation}
 use Rattle.std.specs.Ordering.{nat_cmp, is_lt, ordering_then}
@@ -71,7 +71,7 @@ to_in_order x [] h = h
 to_in_order x (y ∷ heap) (inl e) = in_inserted (Reverse Numbered) is_earlier x y (in_order heap) (inl e)
 to_in_order x (y ∷ heap) (inr k) = in_inserted (Reverse Numbered) is_earlier x y (in_order heap) (inr (to_in_order x heap k))
 
--- where no number stands twice ..
+-- if no number occurs twice ..
 abbrev IsApart : List (Reverse Numbered) → Type 0
 IsApart heap = (number : ℕ) → times number heap ≤ 1
 
@@ -116,7 +116,7 @@ in_order-permuted xs ys moved back apart =
     (λ m h. to_in_order m ys (among-permuted m xs ys moved (from_in_order m xs h)))
     (λ m h. to_in_order m xs (among-permuted m ys xs back (from_in_order m ys h)))
 
--- .. one that is earlier than all stands in front
+-- .. an element that is earlier than all enters first
 enter-first : (x : Reverse Numbered) (ys : List (Reverse Numbered)) → ((y : Reverse Numbered) → Among y ys → is_earlier x y ≡ true) → enter x ys ≡ x ∷ ys
 enter-first x [] h = refl
 enter-first x (y ∷ ys) h = rw (h y (inl refl)) refl
@@ -130,7 +130,7 @@ in_order-top : (x : Reverse Numbered) (heap : List (Reverse Numbered)) → IsApa
 in_order-top x heap apart below =
     enter-first x (in_order heap) (λ y k. top_earlier x y (below_top y (λ z. lt_by_cmp late_cmp x z ≡ false) heap below (from_in_order y heap k)) (apart-first x y heap apart (from_in_order y heap k)))
 
--- .. and one of greater number stands where mail is put
+-- .. and an element with a greater number enters at the place of `put`
 earlier_greater : (x y : Reverse Numbered) → y.0.number < x.0.number → is_earlier x y ≡ is_before (mail_of x.0) (mail_of y.0)
 earlier_greater x y h = grind (arith, nat_tests)
 

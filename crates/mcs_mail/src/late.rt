@@ -9,7 +9,8 @@ use std::cmp::Reverse;
 use std::collections::BinaryHeap;
 use std::marker::Model;
 
-/// Mail by its order of delivery, and equal mail by its number, which is greater the later it was put.
+/// Mail with a number, in order of delivery; equal mail is ordered by number. Mail that was put
+/// later has a greater number.
 #[derive(Clone, Copy, Debug, PartialEq, Eq, PartialOrd, Ord)]
 struct Numbered {
     arrives: Tick,
@@ -20,12 +21,12 @@ struct Numbered {
     badge: u32,
 }
 
-/// Mail in a heap. Contracts see it in the order of its delivery, beside it `spare`, the puts for which there surely is room, and
-/// `next`, the number that the next gets.
+/// Mail in a heap. Contracts see the mail in order of delivery, `spare` (the number of puts that
+/// surely fit) and `next`, the number of the next mail.
 #[derive(Debug, Drop)]
 pub(crate) struct Late {
     heap: BinaryHeap<Reverse<Numbered>>,
-    /// above the numbers of all that are held
+    /// greater than the numbers of all held mail
     next: usize,
 }
 
@@ -49,7 +50,7 @@ impl Model for Late {
 }
 
 impl Late {
-    /// No mail; it takes no memory.
+    /// Returns an empty heap; allocates no memory.
     pub(crate) fn new(alloc: Global) -> Self
         ensures { result.mails ≡ [] }
     {
@@ -59,14 +60,14 @@ impl Late {
         }
     }
 
-    /// How much there is.
+    /// Returns the number of mails.
     pub(crate) fn len(&self) -> usize
         ensures { result ≡ length self.now.mails }
     {
         self.heap.len()
     }
 
-    /// The first, or None where there is none.
+    /// Returns the first mail, or `None` if there is none.
     pub(crate) fn first(&self) -> Option<Mail>
         ensures { result ≡ slice_get self.now.mails 0 }
     {
@@ -74,7 +75,7 @@ impl Late {
         Some(first.0.mail())
     }
 
-    /// Takes the first.
+    /// Takes the first mail.
     pub(crate) fn take_first(&mut self) -> Option<Mail>
         ensures taken { result ≡ slice_get self.old.mails 0 }
         ensures left { self.new.mails ≡ drop 1 self.old.mails }
@@ -84,7 +85,8 @@ impl Late {
         Some(first.0.mail())
     }
 
-    /// Puts mail behind all that is not delivered after it. Where there is no memory for it the mail is handed back.
+    /// Puts mail after all mail that is not delivered after it. If memory runs out, the mail is
+    /// handed back.
     pub(crate) fn put(&mut self, mail: Mail) -> Result<(), (Mail, NoMemory)>
         requires { self.old.next + 1 < 2 ^ 64 }
         ensures ok { OnOk result (self.new.mails ≡ put mail self.old.mails) }
@@ -103,7 +105,7 @@ impl Late {
         }
     }
 
-    /// Makes room for `n` more puts.
+    /// Allocates room for `n` more puts.
     pub(crate) fn reserve(&mut self, n: usize) -> Result<(), NoMemory>
         ensures mails { self.new.mails ≡ self.old.mails }
         ensures spare { OnOk result (n ≤ self.new.spare) }
@@ -114,14 +116,14 @@ impl Late {
         Ok(())
     }
 
-    /// Whether no number is left for the next.
+    /// Whether all numbers are used up.
     pub(crate) fn is_spent(&self) -> bool
         ensures { result ≡ nat_le (2 ^ 64 - 1) self.now.next }
     {
         self.next == usize::MAX
     }
 
-    /// Begins the numbers at 0 again, where there is no mail.
+    /// Restarts the numbers at 0. The caller ensures that there is no mail.
     pub(crate) fn restart(&mut self)
         requires { self.old.mails ≡ [] }
         ensures { self.new ≡ record self.old { next = 0 } }

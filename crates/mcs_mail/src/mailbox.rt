@@ -7,12 +7,12 @@ use mcs_ticks::{NoMemory, Soonest, Tick};
 use std::alloc::Global;
 use std::marker::Model;
 
-/// The mail for one core, in the order of its delivery. Contracts see the list, and beside it `spare`, the puts for which there
-/// surely is room.
+/// The mail for one core, in order of delivery. Contracts see the list, and `spare`, the number of
+/// puts that surely fit.
 #[derive(Debug, Drop)]
 pub struct Mailbox {
     mail: Merged,
-    /// when the first mail arrives, so that a look costs nothing
+    /// when the first mail arrives, so that asking takes constant time
     next: Soonest,
 }
 
@@ -29,7 +29,7 @@ impl Model for Mailbox {
 }
 
 impl Mailbox {
-    /// An empty mailbox, which takes no memory.
+    /// Returns an empty mailbox; allocates no memory.
     pub fn new(alloc: Global) -> Self
         ensures { result.mails ≡ [] }
     {
@@ -39,9 +39,11 @@ impl Mailbox {
         }
     }
 
-    /// Puts mail behind all that is not delivered after it. Where there is no memory for it the mail is handed back and the mailbox
-    /// is as it was; a put succeeds where `spare` is not 0. Constant time where mail comes in order of its delivery, else logarithmic
-    /// in how much came out of order.
+    /// Puts mail after all mail that is not delivered after it. If memory runs out, the mail is
+    /// handed back and the mailbox is unchanged. A put succeeds if `spare` is not 0.
+    ///
+    /// Takes constant time for mail in order of delivery, otherwise time logarithmic in the mail
+    /// that came out of order.
     pub fn put(&mut self, mail: Mail) -> Result<(), (Mail, NoMemory)>
         ensures ok { OnOk result (self.new.mails ≡ put mail self.old.mails) }
         ensures handed_back { IfErr result (λ back. back.0 ≡ mail) }
@@ -54,7 +56,7 @@ impl Mailbox {
         put
     }
 
-    /// Makes room for `n` more puts, which succeeds where `spare` is `n` already. The mail is as it was.
+    /// Allocates room for `n` more puts; succeeds if `spare` is already `n`. The mail is unchanged.
     pub fn reserve(&mut self, n: usize) -> Result<(), NoMemory>
         ensures mails { self.new.mails ≡ self.old.mails }
         ensures spare { OnOk result (n ≤ self.new.spare) }
@@ -79,7 +81,7 @@ impl Mailbox {
         }
     }
 
-    /// When the first mail arrives, or None where there is none.
+    /// Returns when the first mail arrives, or `None` if there is no mail.
     #[inline(always)]
     pub fn next(&self) -> Option<Tick>
         ensures first { result ≡ first_arrival self.now.mails }
@@ -88,7 +90,7 @@ impl Mailbox {
         self.next.moment()
     }
 
-    /// When the first mail arrives, or never.
+    /// Returns when the first mail arrives, or never.
     #[inline(always)]
     pub fn soonest(&self) -> Soonest
         ensures first { result ≡ first_arrival self.now.mails }
@@ -97,7 +99,7 @@ impl Mailbox {
         self.next
     }
 
-    /// How many signals are under way.
+    /// Returns the number of signals on their way.
     pub fn len(&self) -> usize
         ensures count { result ≡ length self.now.mails }
         ensures in_order { IsOrdered self.now.mails }

@@ -10,13 +10,13 @@ use std::alloc::Global;
 use std::collections::VecDeque;
 use std::marker::Model;
 
-/// Mail in the order of its delivery, in a ring and beside it. Contracts see the list, and beside it `spare`, the puts for which
-/// there surely is room.
+/// Mail in order of delivery, in a ring and a heap of late mail. Contracts see the list, and
+/// `spare`, the number of puts that surely fit.
 #[derive(Debug, Drop)]
 pub(crate) struct Merged {
-    /// in order of delivery, with room for the late mail too
+    /// in order of delivery, with capacity for the late mail too
     ring: VecDeque<Mail>,
-    /// mail that was put when the ring's last was delivered after it
+    /// mail put out of order: it is delivered before the last of the ring
     late: Late,
 }
 
@@ -40,7 +40,7 @@ impl Model for Merged {
 }
 
 impl Merged {
-    /// No mail; it takes no memory.
+    /// Returns an empty list; allocates no memory.
     pub(crate) fn new(alloc: Global) -> Self
         ensures { result.mails ≡ [] }
     {
@@ -50,8 +50,7 @@ impl Merged {
         }
     }
 
-    /// Puts mail behind all that is not delivered after it. Where there is no memory for it the mail is handed back and all is as it
-    /// was; a put succeeds where `spare` is not 0.
+    /// Puts mail, with the results of `Mailbox::put`.
     pub(crate) fn put(&mut self, mail: Mail) -> Result<(), (Mail, NoMemory)>
         ensures ok { OnOk result (self.new.mails ≡ put mail self.old.mails) }
         ensures handed_back { IfErr result (λ back. back.0 ≡ mail) }
@@ -69,7 +68,7 @@ impl Merged {
         }
     }
 
-    /// Makes room for `n` more puts, which succeeds where `spare` is `n` already. The mail is as it was.
+    /// Allocates room for `n` more puts; succeeds if `spare` is already `n`.
     pub(crate) fn reserve(&mut self, n: usize) -> Result<(), NoMemory>
         ensures mails { self.new.mails ≡ self.old.mails }
         ensures spare { OnOk result (n ≤ self.new.spare) }
@@ -80,7 +79,7 @@ impl Merged {
         self.late.reserve(n)
     }
 
-    /// When the first mail arrives, or None where there is none.
+    /// Returns when the first mail arrives, or `None` if there is no mail.
     pub(crate) fn next(&self) -> Option<Tick>
         ensures first { result ≡ first_arrival self.now.mails }
         ensures in_order { IsOrdered self.now.mails }
@@ -88,7 +87,7 @@ impl Merged {
         sooner(self.ring.front().copied(), self.late.first())
     }
 
-    /// How many signals are under way.
+    /// Returns the number of signals on their way.
     pub(crate) fn len(&self) -> usize
         ensures count { result ≡ length self.now.mails }
         ensures in_order { IsOrdered self.now.mails }
@@ -110,7 +109,8 @@ impl Merged {
     }
 }
 
-/// Whether the first mail is late. Of equal mail that in the ring was put earlier.
+/// Whether the first mail is late. If the first late mail and the first of the ring are equal, the
+/// one in the ring was put earlier.
 fn late_is_first(ring: &VecDeque<Mail>, late: &Late) -> bool
     ensures { result ≡ late_is_first late.now.mails ring.now.items }
 {
@@ -120,7 +120,8 @@ fn late_is_first(ring: &VecDeque<Mail>, late: &Late) -> bool
     }
 }
 
-/// When the sooner of the ring's first and the first late mail arrives. Without mail in the ring there is none that is late.
+/// Returns when the sooner of the first of the ring and the first late mail arrives. If the ring is
+/// empty, there is no late mail.
 fn sooner(front: Option<Mail>, late: Option<Mail>) -> Option<Tick>
     ensures { result ≡ sooner_of front late }
 {
@@ -131,7 +132,7 @@ fn sooner(front: Option<Mail>, late: Option<Mail>) -> Option<Tick>
     }
 }
 
-/// Makes the two ready for a put: in the ring there is room for one more, and late mail can have a number.
+/// Prepares for a put: the ring has room for one more, and a number is left for late mail.
 fn prepare(ring: &mut VecDeque<Mail>, late: &mut Late) -> Result<(), NoMemory>
     requires { IsMerged late.old.mails ring.old.items (deque_capacity ring.old) }
     ensures merged { IsMerged late.new.mails ring.new.items (deque_capacity ring.new) }
@@ -150,7 +151,8 @@ fn prepare(ring: &mut VecDeque<Mail>, late: &mut Late) -> Result<(), NoMemory>
     Ok(())
 }
 
-/// Makes room in the ring for so much late mail and for `n` more. It grows by as much late mail again, so that many puts share the cost.
+/// Allocates room in the ring for the late mail and `n` more. It also asks for the late mail once
+/// more, which spreads the cost over many puts.
 fn make_room(ring: &mut VecDeque<Mail>, late: usize, n: usize) -> Result<(), NoMemory>
     requires { deque_len ring.old + late ≤ deque_capacity ring.old }
     ensures items { ring.new.items ≡ ring.old.items }
@@ -164,7 +166,7 @@ fn make_room(ring: &mut VecDeque<Mail>, late: usize, n: usize) -> Result<(), NoM
     Ok(())
 }
 
-/// Whether the ring's last is delivered after the mail.
+/// Whether the last of the ring is delivered after the mail.
 fn is_late(ring: &VecDeque<Mail>, mail: &Mail) -> bool
     ensures { result ≡ is_before mail.now (last_or mail.now ring.now.items) }
 {
@@ -174,7 +176,8 @@ fn is_late(ring: &VecDeque<Mail>, mail: &Mail) -> bool
     }
 }
 
-/// Moves the late mail to its places in the ring, so that its numbers begin at 0 again: at most once in 2^64 - 1 puts of late mail.
+/// Moves the late mail to its places in the ring and restarts the numbers at 0. This happens at
+/// most once in 2^64 - 1 puts of late mail.
 fn settle(ring: &mut VecDeque<Mail>, late: &mut Late)
     requires order { IsOrdered ring.old.items }
     requires room { deque_len ring.old + length late.old.mails ≤ deque_capacity ring.old }
@@ -194,7 +197,7 @@ fn settle(ring: &mut VecDeque<Mail>, late: &mut Late)
     late.restart();
 }
 
-/// Where to insert the mail: behind all that is not delivered after it.
+/// Returns the index at which to insert the mail: after all mail that is not delivered after it.
 fn place_of(mails: &VecDeque<Mail>, mail: &Mail) -> usize
     requires { IsOrdered mails.now.items }
     ensures within { result ≤ length mails.now.items }

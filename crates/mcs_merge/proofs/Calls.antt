@@ -1,4 +1,4 @@
--- What calls of a merger give over time.
+-- The rows that the calls of a merger give over time.
 use Rattle.std.proofs.Common.{◌≡◌, List, [], ◌∷◌, ◌++◌, replicate, refl, sym, ap, ◌∙◌, append_assoc, append-nil}
 use Rattle.mcs_ticks.specs.declared.row.Row.{Row}
 use Rattle.mcs_merge.specs.Merge.{merged_before}

@@ -1,4 +1,4 @@
--- What is written back, and what is refused.
+-- Lemmas on lists that are written back whole, and on errors.
 use Rattle.std.proofs.Common.{◌≡◌, ℕ, List, ◌++◌, length, take, Result, Ok, Err, OnErr}
 use Rattle.std.proofs.lemmas.List.{take_at}
 

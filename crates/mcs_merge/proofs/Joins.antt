@@ -16,7 +16,7 @@ pub AreFrom-earlier : (t u : ℕ) (rows : List Row) → t ≤ u → AreFrom u ro
 AreFrom-earlier t u [] l h = tt
 AreFrom-earlier t u (row ∷ rows) l h = (let first = h.0 in omega arith, AreFrom-earlier t u rows l h.1)
 
--- a row that stands before one list stands before another
+-- two lists from t on: the first list may be cut after a row and continued by the second
 AreFrom-between : (t : ℕ) (rows : List Row) (x : Row) (xs ys : List Row) → AreFrom t (rows ++ x ∷ xs) → AreFrom t (rows ++ ys) → AreFrom t (rows ++ x ∷ ys)
 AreFrom-between t [] x xs ys h k = (h.0, k)
 AreFrom-between t (row ∷ rows) x xs ys h k = (h.0, AreFrom-between t rows x xs ys h.1 k.1)
@@ -85,7 +85,7 @@ module _ (first second : List Row) where
               rw (k f) (push-assoc (rows_at t rows) y (rows_at t right))
           by xs false e k = ap (λ us. us ++ (xs ++ rows_at t right)) (append-nil (rows_at t rows))
 
-  -- where one list is used up, the other one follows
+  -- if one list is used up, the other one follows
   pub ends_left : (right rows : List Row) → AreJoining first second [] right rows → AreJoined first second (rows ++ right)
   ends_left right rows h = record { in_order = h.with_right; at_each = λ t. filter-append (λ row. row.moment == t) rows right ∙ h.at_each t }
 

@@ -17,7 +17,7 @@ flat_map-same {A} f g (suc n) a h = both _ _ _ _ (h a (omega arith) (omega arith
     both : (xs ys us vs : List A) → xs ≡ ys → us ≡ vs → xs ++ us ≡ ys ++ vs
     both xs ys us vs e f = cc
 
--- where no row of a list has a moment, none of its tail has
+-- if a list has no row of a moment, its tail has no such row
 tail_none : (t : ℕ) (row : Row) (rows : List Row) → rows_at t (row ∷ rows) ≡ [] → rows_at t rows ≡ []
 tail_none t row rows = by (row.moment == t)
   where

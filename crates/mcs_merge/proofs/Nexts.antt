@@ -1,4 +1,4 @@
--- Which core is next, where heads are of the first moments of parts.
+-- The next core, if the heads have the first moments of parts.
 use Rattle.std.proofs.Common.{◌≡◌, ℕ, zero, suc, ◌*◌, ◌^◌, ◌<◌, ◌≤◌, inl, inr, true, false, List, [], ◌∷◌, length, get_or, set, Option, Some, None, refl, sym, ap, ◌∙◌, subst, arith, get_or-set_same, get_or-set_other}
 use Rattle.std.specs.Prelude.{Contains, IfSome, nat_lt, map}
 use Rattle.std.proofs.lemmas.Bool.{cases_eq, cases_lt}
@@ -16,7 +16,7 @@ fewer-of-all left [] core new l h = absurd (omega arith)
 fewer-of-all left (parts ∷ cores) zero new l h = omega arith
 fewer-of-all left (parts ∷ cores) (suc core) new l h = let less = fewer-of-all left cores core new (omega arith) h in omega arith
 
--- a part alone stands behind no empty one
+-- a single part follows no empty one
 pub alone-in-line : {P : Type 0} (first : P → Option ℕ) (parts : List P) (core : ℕ) → IsInLine first (parts_of core (map (λ part. part ∷ []) parts))
 alone-in-line first [] core = tt
 alone-in-line first (part ∷ parts) zero = λ none. refl
@@ -43,7 +43,7 @@ not-before d until rank (Some other) l m h = omega arith
 
 module _ {P : Type 0} (first : P → Option ℕ) (cores : List (List P)) (heads : List Head) (h : AreNext first cores heads) where
   module _ (head : Head) (among : Contains heads head) (least : (core : ℕ) → core < length heads → head.rank ≤ (head_at core heads).rank) where
-    -- where it is before a moment it is that of a core
+    -- if it is before a moment, it belongs to a core
     within : (until : ℕ) → until ≤ 2 ^ 42 → head.rank < 64 * until → among.0 < length cores
     within until m l = elim (cases_lt among.0 (length cores)) [
       | inl k ↦ k
@@ -111,7 +111,7 @@ module _ {P : Type 0} (first : P → Option ℕ) (cores : List (List P)) (heads 
         ];
       }
 
--- other parts of a core stand in line, as those of the other cores do
+-- a change of one core's parts keeps all cores in line
 pub line-set : {P : Type 0} (first : P → Option ℕ) (cores new : List (List P)) (core : ℕ) → ((d : ℕ) → d < length cores → IsInLine first (parts_of d cores)) →
     new ≡ set cores core (parts_of core new) → IsInLine first (parts_of core new) → (d : ℕ) → d < length new → IsInLine first (parts_of d new)
 line-set first cores new core h e line d l = elim (cases_eq d core) [

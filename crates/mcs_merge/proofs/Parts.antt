@@ -110,7 +110,7 @@ AreAt-rows t (row ∷ rows) = by (row.moment == t) refl (AreAt-rows t rows)
     by true e i = (grind (arith, nat_tests), i)
     by false e i = i
 
--- where the first row is of a moment, all are from it on
+-- if the first row is at a moment, all rows are from it on
 pub from-first : (t : ℕ) (rows : List Row) → DoNotFall rows → first_moment rows ≡ Some t → AreFrom t rows
 from-first t [] o e = tt
 from-first t (row ∷ rows) o e = let is : row.moment ≡ t = cc in (omega arith, subst (λ u. AreFrom u rows) is o.0)
@@ -131,12 +131,12 @@ module _ {O : Type 0} {P : Type 0} (takes : O → Row → Bool → O → Type 0)
       one [] before k g = subst (λ out. holds out part h.0) g k
       one (row ∷ given) before k g = one given g.0 (holds_on before g.0 part h.0 row k g.1) g.2
 
-  -- a part is added: where it is empty, ..
+  -- a part is added: if it is empty, ..
   pub adds-none : (out : O) (parts : List P) (part : P) (rows more : List Row) → first part ≡ None → Hold holds out parts rows → holds out part more → Hold holds out parts (rows ++ more)
   adds-none out parts part rows more e h k =
       subst (Hold holds out parts) (sym (ap (λ xs. rows ++ xs) (empty-held out part more e k) ∙ append-nil rows)) h
 
-  -- .. where nothing waits, ..
+  -- .. if no row waits, ..
   pub adds-first : (out : O) (front part : P) (later : List P) (rows more : List Row) → first front ≡ None → later ≡ [] → Hold holds out (front ∷ later) rows → holds out part more →
       Hold holds out (part ∷ later) (rows ++ more)
   adds-first out front part later rows more e l h k =
@@ -151,7 +151,7 @@ module _ {O : Type 0} {P : Type 0} (takes : O → Row → Bool → O → Type 0)
   adds-behind out (front ∷ parts) part rows more h k =
       (h.0, h.1 ++ more, ap (λ xs. xs ++ more) h.2 ∙ append_assoc h.0 h.1 more, h.3, adds-behind out parts part h.1 more h.4 k)
 
-  -- where the front is empty it may go
+  -- an empty front may be dropped
   pub goes-on : (out : O) (front : P) (later after : List P) (rows : List Row) → GoesOn first (front ∷ later) after → Hold holds out (front ∷ later) rows → Hold holds out after rows
   goes-on out front later after rows (inl e) h = subst (λ parts. Hold holds out parts rows) (sym e) h
   goes-on out front later after rows (inr e) h =
@@ -195,7 +195,7 @@ pub none-is-some : {T : Type 0} (o : Option T) → IsSome o → o ≡ None → �
 none-is-some None h e = cc
 none-is-some (Some x) h e = cc
 
--- the next part comes to the front
+-- the next part becomes the front
 pub in-line : {P : Type 0} (first : P → Option ℕ) (front next : P) (all later : List P) → All (λ part. IsSome (first part)) all → all ≡ next ∷ later → first front ≡ None →
     AreInLine first next later (Some front)
 in-line {P} first front next all later h e none =

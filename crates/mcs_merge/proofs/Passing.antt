@@ -10,12 +10,12 @@ use Rattle.mcs_merge.specs.Merging.{least_clock}
 use Rattle.mcs_merge.specs.stored.Parts.{AreAt}
 use Rattle.mcs_merge.proofs.Merges.{flat_map-same}
 
--- what is put together part by part, where each part is empty
+-- a concatenation of empty parts is empty
 pub flat_map-none : {A : Type 0} (f : ℕ → List A) (n a : ℕ) → ((i : ℕ) → a ≤ i → i < a + n → f i ≡ []) → flat_map f (range_with_len a n) ≡ []
 flat_map-none f zero a h = refl
 flat_map-none f (suc n) a h = rw (h a (omega arith) (omega arith)) (flat_map-none f n (a + 1) (λ i p q. h i (omega arith) (omega arith)))
 
--- .. and where one part has more in front, and those before it are empty
+-- .. and if one part has more at its start, and those before it are empty, so has the concatenation
 pub flat_map-part : {A : Type 0} (f g : ℕ → List A) (xs : List A) (t n a : ℕ) → a ≤ t → t < a + n → ((i : ℕ) → i < t → f i ≡ []) → f t ≡ xs ++ g t → ((i : ℕ) → i ≢ t → f i ≡ g i) →
     flat_map f (range_with_len a n) ≡ xs ++ flat_map g (range_with_len a n)
 flat_map-part f g xs t zero a l m none one same = absurd (omega arith)
@@ -59,7 +59,7 @@ pub apart-part : (t u : ℕ) (now rest : List Row) → AreAt u now → t ≢ u �
 apart-part t u [] rest h m = refl
 apart-part t u (row ∷ now) rest h m = head_apart t row (now ++ rest) (let is = h.0 in omega arith) ∙ apart-part t u now rest h.1 m
 
--- of the moment of a list's first rows, where no earlier list has one
+-- the rows of a moment begin with a list's first rows of it, if no earlier list has one
 first-at : (t : ℕ) (lists : List (List Row)) (c : ℕ) (now rest : List Row) → c < length lists → get_or lists c [] ≡ now ++ rest → AreAt t now →
     ((d : ℕ) → d < c → rows_at t (get_or lists d []) ≡ []) → flat_map (rows_at t) lists ≡ now ++ flat_map (rows_at t) (set lists c rest)
 first-at t [] c now rest l e m h = absurd (omega arith)
@@ -75,7 +75,8 @@ other-at t u [] c now rest e m n = refl
 other-at t u (xs ∷ lists) zero now rest e m n = ap (λ us. us ++ flat_map (rows_at t) lists) (ap (rows_at t) e ∙ apart-part t u now rest m n)
 other-at t u (xs ∷ lists) (suc c) now rest e m n = ap (λ us. rows_at t xs ++ us) (other-at t u lists c now rest e m n)
 
--- the first rows of a list, all of one moment, come first, where no row is earlier and no earlier list has one of that moment
+-- the first rows of a list, all of one moment, come first, if no row is earlier and no earlier list
+-- has one of that moment
 pub merged-part : (end t : ℕ) (lists : List (List Row)) (c : ℕ) (now rest : List Row) → c < length lists → get_or lists c [] ≡ now ++ rest → AreAt t now → t < end →
     ((i : ℕ) → i < t → flat_map (rows_at i) lists ≡ []) → ((d : ℕ) → d < c → rows_at t (get_or lists d []) ≡ []) →
     merged_before end lists ≡ now ++ merged_before end (set lists c rest)

@@ -1,4 +1,4 @@
--- Parts of many cores, given out a moment of a core at a time.
+-- Parts of many cores, given one moment of a core at a time.
 use Rattle.std.proofs.Common.{◌≡◌, ℕ, zero, suc, ◌<◌, ◌≤◌, inl, inr, Bool, true, List, [], ◌∷◌, ◌++◌, length, get_or, set, Option, refl, sym, ap, ◌∙◌, subst, append-nil, arith, get_or-set_same, get_or-set_other}
 use Rattle.std.specs.Prelude.{All, IfSome, flat_map, map}
 use Rattle.std.proofs.lemmas.Bool.{cases_eq}
@@ -19,7 +19,7 @@ DoNotFall-rest : (rows more : List Row) → DoNotFall (rows ++ more) → DoNotFa
 DoNotFall-rest [] more h = h
 DoNotFall-rest (row ∷ rows) more h = DoNotFall-rest rows more h.1
 
--- where the first row is at a moment or later, all are
+-- if the first row is at a moment or later, all rows are
 from-moment : (t : ℕ) (rows : List Row) → DoNotFall rows → IfSome (first_moment rows) (λ other. t ≤ other) → AreFrom t rows
 from-moment t [] o h = tt
 from-moment t (row ∷ rows) o h = (h, AreFrom-earlier t row.moment rows h o.0)
@@ -153,7 +153,7 @@ module _ {O : Type 0} {P : Type 0} (takes : O → Row → Bool → O → Type 0)
   held-all-on before after cores lists given h g =
       record { same = h.same; each = λ d l. held-on takes holds first is_first holds_on before after (parts_of d cores) (list_of d lists) given (h.each d l) g }
 
-  -- a moment of a core is given
+  -- giving a moment of a core keeps the invariant
   pours-one : (until : ℕ) (lists : List (List Row)) (before out after : O) (cores : List (List P)) (core : ℕ) (parts : List P) (i : IsPouring takes holds until lists before out cores) →
       ((core : ℕ) → core < length cores → IsInLine first (parts_of core cores)) → (next : IsNextCore first cores until core) →
       Pours takes holds next.moment (list_of core i.left) out after parts → IsPouring takes holds until lists before after (set cores core parts)

@@ -1,4 +1,4 @@
--- What was given of all rows, where those before a moment are given at once.
+-- The rows given from all lists, if those before a moment are given at once.
 use Rattle.std.proofs.Common.{◌≡◌, ℕ, ◌-◌, ◌<◌, ◌≤◌, Bool, true, false, cond, List, [], ◌∷◌, ◌++◌, length, slice_index, sym, ap, ◌∙◌, subst, arith, append_assoc}
 use Rattle.std.specs.Prelude.{flat_map, nat_le}
 use Rattle.std.proofs.lemmas.List.{length-map, get_or-map}

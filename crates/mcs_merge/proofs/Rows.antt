@@ -42,7 +42,7 @@ module _ {O : Type 0} (takes : O → Row → Bool → O → Type 0) where
       let at : rows_at t rows ≡ row ∷ rows_at t rest = ap (rows_at t) e ∙ head_same t row rest is in
       h.stops after (subst (λ xs. GivenUntil takes out xs after) (sym at) (inl g))
 
-  -- none of the moment is left
+  -- no row of the moment is left
   past : (t : ℕ) (rows : List Row) → DoNotFall rows → AreFrom t rows → first_moment rows ≢ Some t → AreFrom (suc t) rows
   past t [] o h n = tt
   past t (row ∷ rows) o h n =

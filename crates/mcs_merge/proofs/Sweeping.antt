@@ -1,4 +1,4 @@
--- Which core is next in a sweep, and what the sweep says of the cores after one was put in or taken out.
+-- The next core of a sweep, and the state of the sweep after a core is added or taken out.
 use Rattle.std.proofs.Common.{◌≡◌, ◌≢◌, ◌⊎◌, ℕ, ◌+◌, ◌-◌, ◌<◌, ◌≤◌, ◌==◌, ◌&&◌, Bool, true, false, inl, inr, List, [], length, set, Option, Some, None, refl, sym, ap, ◌∙◌, subst, arith, get_or-set_other}
 use Rattle.std.specs.Prelude.{IfSome, nat_lt, nat_le, if◌then◌else◌}
 use Rattle.std.proofs.lemmas.Bool.{cases_eq, cases_lt, eq-eqb, ne_eqb, false≢true}
@@ -17,7 +17,7 @@ some-same a b e = (cond_some true a b e).1
 at-place : (s : Sweep) (t place : ℕ) → is_at s (Some t) place ≡ true → (t < s.end) × (t ≡ s.start + place)
 at-place s t place e = (grind (arith, nat_tests), grind (arith, nat_tests))
 
--- .. and the place where it is put
+-- .. and the index at which it is put
 is-place : (s : Sweep) (t : ℕ) → t < s.end → s.start + s.at ≤ t → is_at s (Some t) (t - s.start) ≡ true
 is-place s t early late =
     let is_early : nat_lt t s.end ≡ true = grind (arith, nat_tests) in
@@ -47,7 +47,7 @@ module _ (s : Sweep) (core : ℕ) (next : Option ℕ) (after : Sweep) (p : IsPut
       by true e = refl
       by false e = absurd (false≢true e)
 
-  -- where the core is in a set, it was, or that is its next moment's
+  -- if a core is in a set afterwards, it was before, or the set is that of its next moment
   put-was : (place : ℕ) → core < 64 → has after.sets place core ≡ true → (has s.sets place core ≡ false) → (s.start + place < s.end) × (next ≡ Some (s.start + place))
   put-was place few h none = by next (is_at s next place) refl (sym (put-same place few) ∙ h)
     where
@@ -229,7 +229,7 @@ module _ {P : Type 0} (first : P → Option ℕ) where
         (swept-put new (λ d. (d < length cores) × (d ≢ core)) core after put t.few (λ d w. let l = w.0 in omega arith) (λ w. w.1 refl)
         (swept-taken new (λ d ne. ap (parts_of d) e ∙ get_or-set_other cores core d (parts_of core new) [] ne)) p late)
 
--- a moment from another on is so too where it is before the end
+-- a bound on a moment holds if the moment is before the end
 pub late-before : (a end : ℕ) (n : Option ℕ) → IfSome n (λ t. a ≤ t) → IfSome n (λ t. t < end → a ≤ t)
 late-before a end None l = tt
 late-before a end (Some t) l = λ early. l

@@ -29,7 +29,7 @@ all_calls = first_calls ++ Add 1 [] 5 ∷ Pour 4 ∷ []
 both_of_a_moment : taken first_calls (starting 2) ≡ at 1 0 1 ∷ at 1 1 3 ∷ []
 both_of_a_moment = refl
 
--- a clock that goes on lets the row of the other core pass
+-- a clock that advances lets the row of the other core pass
 clock_alone : taken all_calls (starting 2) ≡ at 1 0 1 ∷ at 1 1 3 ∷ at 3 0 2 ∷ []
 clock_alone = refl
 
@@ -80,7 +80,8 @@ they_may_be_made = (
 in_a_set : (has (0 ∷ 5 ∷ []) 1 0 ≡ true) × (has (0 ∷ 5 ∷ []) 1 1 ≡ false) × (has (0 ∷ 5 ∷ []) 1 2 ≡ true) × (has (0 ∷ 5 ∷ []) 0 2 ≡ false)
 in_a_set = (refl, refl, refl, refl)
 
--- a sweep from moment 10 to before moment 20 that has come to moment 12: which next moments it goes on to, and in which places
+-- a sweep from moment 10 to before moment 20 that has reached moment 12: the next moments that it
+-- still reaches, and their indices
 abbrev ten : Sweep
 ten = record { sets = 0 ∷ 0 ∷ 5 ∷ []; start = 10; at = 2; end = 20 }
 

@@ -4,7 +4,8 @@ use Rattle.std.specs.Prelude.{slice_set, slice_index, slice_index_or}
 use Rattle.mcs_ticks.specs.declared.row.Row.{Row}
 use Rattle.mcs_merge.specs.Merge.{merged_before, AreFrom, DoNotFall}
 
--- for each core the rows that are left, and its clock: the rows that are still to come are at this moment or later
+-- for each core the rows that are left, and its clock: rows that are added later are at this moment
+-- or later
 pub record Merging : Type 0 where
   pub left : List (List Row)
   pub clocks : List ℕ
@@ -17,7 +18,7 @@ starting cores = record { left = replicate cores []; clocks = replicate cores 0 
 abbrev pub list_of : ℕ → List (List Row) → List Row
 list_of core lists = slice_index_or lists core []
 
--- the least of the clocks
+-- the minimum of the clocks
 abbrev pub least_clock : List ℕ → ℕ
 least_clock [] = 0
 least_clock (clock ∷ []) = clock
@@ -27,11 +28,11 @@ least_clock (clock ∷ other ∷ clocks) = min clock (least_clock (other ∷ clo
 abbrev pub passed : Merging → List Row
 passed m = merged_before (least_clock m.clocks) m.left
 
--- with these rows behind those of this core
+-- the lists with these rows appended to those of this core
 abbrev pub with_rows : ℕ → List Row → List (List Row) → List (List Row)
 with_rows core rows lists = slice_set lists core (list_of core lists ++ rows)
 
--- with these rows, and this clock for their core
+-- the state with these rows appended, and this clock for their core
 abbrev pub after_add : ℕ → List Row → ℕ → Merging → Merging
 after_add core rows clock m =
     record { left = with_rows core rows m.left; clocks = slice_set m.clocks core clock }
@@ -41,7 +42,7 @@ abbrev pub AreOf : ℕ → List Row → Type 0
 AreOf core [] = Unit {0}
 AreOf core (row ∷ rows) = (row.core ≡ core) × AreOf core rows
 
--- each moment of the rows is below this one
+-- each row is before this moment
 abbrev pub AreBefore : ℕ → List Row → Type 0
 AreBefore t [] = Unit {0}
 AreBefore t (row ∷ rows) = (row.moment < t) × AreBefore t rows
@@ -52,7 +53,8 @@ pub record IsListOf (core : ℕ) (rows : List Row) (clock : ℕ) : Type 0 where
   pub in_order : DoNotFall rows
   pub before : AreBefore clock rows
 
--- what may be added: such rows of a core that there is, from its clock to before the new clock
+-- the rows that may be added: such rows of an existing core, from its clock on and before the new
+-- clock
 pub record CanAdd (core : ℕ) (rows : List Row) (clock : ℕ) (m : Merging) : Type 0 where
   pub is_core : core < length m.clocks
   pub no_earlier : slice_index m.clocks core ≤ clock

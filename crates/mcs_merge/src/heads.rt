@@ -7,17 +7,18 @@ use std::marker::Model;
 
 const CORES: u64 = Limits::CORES as u64;
 
-/// What comes next of a core.
+/// The next moment of a core.
 #[derive(Clone, Copy, Debug)]
 pub(crate) struct Head {
-    /// heads are ordered by it: by moment, and then by core
+    /// the key by which heads are ordered: by moment, then by core
     rank: u64,
 }
 
-/// The heads of all cores. Contracts see them by core, and behind them a few of no core.
+/// The heads of all cores. Contracts see them by core, followed by a few that belong to no core.
 #[derive(Debug, Drop)]
 pub(crate) struct Heads {
-    /// a tree: below place i stand the four from 4 * i + 1 on, and the heads themselves stand behind those that have any below them
+    /// a tree: the children of node i are the four nodes from 4 * i + 1 on; the heads are the
+    /// leaves, after the `inner` inner nodes
     nodes: Vec<Head>,
     inner: usize,
 }
@@ -36,10 +37,10 @@ impl Model for Heads {
 }
 
 impl Head {
-    /// What comes after all that any core has.
+    /// A head after that of every core.
     const FAR: Head = Head { rank: u64::MAX };
 
-    /// That of a core of which this moment is next, or none.
+    /// Returns the head of a core whose next moment is this one, or `FAR` for never.
     pub(crate) fn of_next(core: usize, next: Soonest) -> Self
         requires { core < 64 }
         ensures { result ≡ head_of_next core next }
@@ -60,7 +61,7 @@ impl Head {
         self.rank < CORES * until.get()
     }
 
-    /// The core that it is of.
+    /// Returns the core of this head.
     pub(crate) fn core(&self) -> usize
         ensures { result ≡ core_of self.now }
     {
@@ -69,7 +70,7 @@ impl Head {
 }
 
 impl Heads {
-    /// Those of so many cores that have no row, and of a few more.
+    /// Returns the heads of `cores` cores that have no row, and a few more.
     pub(crate) fn new(alloc: Global, cores: usize) -> Result<Self, NoMemory>
         requires { cores ≤ 64 }
         ensures far { IfOk result (λ heads. heads ≡ replicate (length heads) far) }
@@ -80,7 +81,7 @@ impl Heads {
         Ok(Heads { nodes, inner })
     }
 
-    /// The head that comes first.
+    /// Returns the head that comes first.
     pub(crate) fn first(&self) -> Head
         ensures among { Contains self.now result }
         ensures least { (core : ℕ) → core < length self.now → result.rank ≤ (head_at core self.now).rank }
@@ -88,7 +89,7 @@ impl Heads {
         self.nodes[0]
     }
 
-    /// Changes the head of a core.
+    /// Replaces the head of a core.
     pub(crate) fn set(&mut self, core: usize, head: Head)
         requires core { core < length self.old }
         ensures { self.new ≡ slice_set self.old core head }
@@ -97,7 +98,7 @@ impl Heads {
     }
 }
 
-/// Changes a leaf, and what stands above it.
+/// Replaces a leaf and updates the nodes above it.
 fn play(nodes: &mut [Head], inner: usize, core: usize, head: Head)
     requires tree { IsTree inner nodes.old }
     requires core { inner + core < length nodes.old }
@@ -112,7 +113,7 @@ fn play(nodes: &mut [Head], inner: usize, core: usize, head: Head)
     }
 }
 
-/// The first of the four that stand below a place.
+/// Returns the first of the four heads below a node.
 fn least_below(nodes: &[Head], place: usize) -> Head
     requires { 4 * place + 4 < length nodes.now }
     ensures { result ≡ least_below place nodes.now }
@@ -123,7 +124,7 @@ fn least_below(nodes: &[Head], place: usize) -> Head
     lesser(least, nodes[last])
 }
 
-/// The one that comes first.
+/// Returns the head that comes first.
 fn lesser(a: Head, b: Head) -> Head
     ensures { result ≡ lesser a b }
 {

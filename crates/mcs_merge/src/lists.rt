@@ -5,9 +5,12 @@ ghost use Rattle.mcs_merge.specs.Lists.{rows_of_lists};
 use mcs_ticks::{NoMemory, Row};
 use std::alloc::Global;
 
-/// The rows of all cores by moment, then core, then place. List `c` has the rows of core `c`, and their moments do not fall.
-/// Of `n` rows of `c` cores it takes the order of `n * log c` steps. One list alone is given as it is, and others are dropped when they
-/// are joined.
+/// Merges the rows of all cores by moment, then core, then place. List `c` has the rows of core
+/// `c`, and their moments do not fall.
+///
+/// Takes time in the order of `n * log c` for `n` rows of `c` cores. A single list is returned
+/// unchanged; otherwise lists are freed as they are joined. Fails with `NoMemory` if memory runs
+/// out.
 pub fn merge(alloc: Global, lists: Vec<Vec<Row>>) -> Result<Vec<Row>, NoMemory>
     requires in_order { All (λ rows. DoNotFall rows.items) lists.items }
     ensures { IfOk result (λ rows. rows.items ≡ merged (rows_of_lists lists.items)) }
@@ -16,7 +19,7 @@ pub fn merge(alloc: Global, lists: Vec<Vec<Row>>) -> Result<Vec<Row>, NoMemory>
     Ok(rows)
 }
 
-/// The first half and the second half, each merged, and then joined.
+/// Merges the first half and the second half, then joins them.
 fn merge_lists(alloc: Global, mut lists: Vec<Vec<Row>>) -> Result<Vec<Row>, NoMemory>
     requires in_order { All (λ rows. DoNotFall rows.items) lists.items }
     ensures { IfOk result (λ rows. AreMerged (rows_of_lists lists.items) rows.items) }
@@ -31,7 +34,7 @@ fn merge_lists(alloc: Global, mut lists: Vec<Vec<Row>>) -> Result<Vec<Row>, NoMe
     Ok(rows)
 }
 
-/// Two lists as one in order of the moments; of one moment the first list's rows stand before the second's.
+/// Joins two lists in order of the moments; at equal moments the rows of the first list come first.
 fn join(alloc: Global, first: &[Row], second: &[Row]) -> Result<Vec<Row>, NoMemory>
     requires first { DoNotFall first.now }
     requires second { DoNotFall second.now }

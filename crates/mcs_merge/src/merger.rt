@@ -16,17 +16,17 @@ use mcs_ticks::{CoreId, NoMemory, Refused, Soonest, Tick};
 use std::alloc::Global;
 use std::marker::Model;
 
-/// So many steps are made in the tree of heads before a sweep is tried ..
+/// Steps in the tree of heads before a sweep is tried.
 const FEW: u32 = 64;
 
-/// .. and so many before the next, where a sweep gave out less than enough.
+/// Steps in the tree before the next try, after a sweep that gave fewer than `ENOUGH`.
 const MANY: u32 = 1024;
 
-/// Of so many moments of cores a sweep costs less than the tree.
+/// Moments of cores from which on a sweep costs less than the tree.
 const ENOUGH: u32 = 32;
 
-/// A merge of parts, of which more are added while others are given out: by moment, then core, then place. Contracts see the parts of each
-/// core, one behind another.
+/// A merge of parts by moment, then core, then place; parts can be added while rows are given.
+/// Contracts see the parts of each core, in order.
 #[derive(Drop)]
 pub struct Merger<P: Part> {
     cores: Vec<Waiting<P>>,
@@ -46,7 +46,8 @@ impl<P: Part> Model for Merger<P> {
 }
 
 impl<P: Part> Merger<P> {
-    /// A part for each core, of 1 to 64 cores.
+    /// Returns a merger with one part for each core, for 1 to 64 cores. Fails with `NoMemory` if
+    /// memory runs out.
     pub fn new(alloc: Global, parts: Vec<P>) -> Result<Self, NoMemory>
         requires some { 1 ≤ length parts.items }
         requires few { length parts.items ≤ 64 }
@@ -59,8 +60,9 @@ impl<P: Part> Merger<P> {
         Ok(Merger { cores, heads })
     }
 
-    /// Adds a part of a core behind those that it has, and gives one back of which all was given out, where there is one. It takes memory only
-    /// where something of the core waits; where there is none the part is handed back and the merger is as it was. Nothing is copied.
+    /// Appends a part to those of a core, and returns a used-up part of the core, if there is one.
+    /// It allocates memory only if the core has rows that wait. If memory runs out, the part is
+    /// handed back and the merger is unchanged. No row is copied.
     pub fn add(&mut self, core: CoreId, part: P) -> Result<Option<P>, (P, NoMemory)>
         requires { core < length self.old }
         ensures added { (out : P.Out) (lists : List (List Row)) (rows : List Row) → AreHeld P.holds out self.old lists → P.holds out part rows
@@ -79,7 +81,8 @@ impl<P: Part> Merger<P> {
         Ok(room)
     }
 
-    /// Gives out all rows before a moment, by moment, then core, then place.
+    /// Gives all rows before a moment, by moment, then core, then place. If the output refuses a
+    /// row, it was given the rows before that one.
     pub fn pour_before(&mut self, until: Tick, out: &mut P::Out) -> Result<(), Refused>
         ensures given { (lists : List (List Row)) → All DoNotFall lists → AreHeld P.holds out.old self.old lists
             → OnOk result (Given P.Out.takes out.old (merged_before until lists) out.new × AreHeld P.holds out.new self.new (all_from until lists)) }
@@ -99,7 +102,8 @@ impl<P: Part> Merger<P> {
         Ok(())
     }
 
-    /// Gives out what comes next within a few moments before this one. Answers after how many steps to try it again.
+    /// Gives the next rows within a few moments before `until`. Returns the number of steps after
+    /// which to try again.
     fn sweep(&mut self, until: Tick, out: &mut P::Out) -> Result<u32, Refused>
         ensures goes_on { OnOk result (ArePouring P.Out.takes P.holds until out.old out.new self.old self.new) }
         ensures stops { OnErr result (IsStopped P.Out.takes P.holds until out.old out.new self.old) }
@@ -116,7 +120,7 @@ impl<P: Part> Merger<P> {
         Ok(if poured? < ENOUGH { MANY } else { 0 })
     }
 
-    /// The core whose first moment comes first, where that is before this moment.
+    /// Returns the core whose first moment comes first, if that is before `until`.
     fn next_before(&self, until: Tick) -> Option<usize>
         ensures next { IfSome result (λ core. IsNextCore P.first self.now until core) }
         ensures none { IfNone result (NoneBefore P.first self.now until) }
@@ -130,7 +134,7 @@ impl<P: Part> Merger<P> {
         }
     }
 
-    /// Gives out all rows of the first moment that the first part of this core has.
+    /// Gives the first moment of this core, and updates its head.
     fn pour(&mut self, core: usize, out: &mut P::Out) -> Result<(), Refused>
         requires within { core < length self.old }
         requires some { IsSome (first_of P.first (parts_of core self.old)) }
@@ -149,7 +153,6 @@ impl<P: Part> Merger<P> {
     }
 }
 
-/// Each part alone.
 fn waiting_of<P: Part>(alloc: Global, parts: Vec<P>) -> Result<Vec<Waiting<P>>, NoMemory>
     ensures { IfOk result (λ cores. cores.items ≡ map (λ part. part ∷ []) parts.items) }
 {
@@ -160,7 +163,6 @@ fn waiting_of<P: Part>(alloc: Global, parts: Vec<P>) -> Result<Vec<Waiting<P>>, 
     Ok(cores)
 }
 
-/// The heads of all cores.
 fn heads_of<P: Part>(alloc: Global, cores: &[Waiting<P>]) -> Result<Heads, NoMemory>
     requires few { length cores.now ≤ 64 }
     requires in_line { (core : ℕ) → core < length cores.now → IsInLine P.first (parts_of core cores.now) }
@@ -171,7 +173,6 @@ fn heads_of<P: Part>(alloc: Global, cores: &[Waiting<P>]) -> Result<Heads, NoMem
     Ok(heads)
 }
 
-/// Changes the head of each core.
 fn set_heads<P: Part>(heads: &mut Heads, cores: &[Waiting<P>])
     requires few { length cores.now ≤ 64 }
     requires enough { length cores.now ≤ length heads.old }
@@ -185,7 +186,6 @@ fn set_heads<P: Part>(heads: &mut Heads, cores: &[Waiting<P>])
     }
 }
 
-/// What comes next of a core.
 fn head_at<P: Part>(cores: &[Waiting<P>], core: usize) -> Head
     requires within { core < length cores.now }
     requires few { core < 64 }
@@ -194,7 +194,7 @@ fn head_at<P: Part>(cores: &[Waiting<P>], core: usize) -> Head
     Head::of_next(core, next_at(cores, core))
 }
 
-/// The first moment of a core, or never.
+/// Returns the first moment of a core, or never.
 #[inline(always)]
 fn next_at<P: Part>(cores: &[Waiting<P>], core: usize) -> Soonest
     requires { core < length cores.now }
@@ -203,7 +203,7 @@ fn next_at<P: Part>(cores: &[Waiting<P>], core: usize) -> Soonest
     cores[core].next()
 }
 
-/// A sweep from the first moment of this core, which comes first, with all cores in it.
+/// Returns a sweep from the first moment of `core`, which comes first, with all cores in it.
 fn sweep_of<P: Part>(cores: &[Waiting<P>], core: usize, until: Tick) -> Sweep
     requires next { IsNextCore P.first cores.now until core }
     requires few { length cores.now ≤ 64 }
@@ -218,7 +218,8 @@ fn sweep_of<P: Part>(cores: &[Waiting<P>], core: usize, until: Tick) -> Sweep
     sweep
 }
 
-/// Gives out what comes next, core by core, as long as the sweep knows it. Answers how many moments of cores that was.
+/// Gives the next rows, core by core, as long as the sweep knows which core is next. Returns the
+/// number of moments of cores that were given.
 fn pour_sweep<P: Part>(
     cores: &mut [Waiting<P>],
     sweep: &mut Sweep,
@@ -244,7 +245,6 @@ fn pour_sweep<P: Part>(
     Ok(poured)
 }
 
-/// Adds a part of a core.
 fn add_to<P: Part>(
     cores: &mut [Waiting<P>],
     core: usize,
@@ -264,7 +264,7 @@ fn add_to<P: Part>(
     waiting.add(part)
 }
 
-/// Gives out all rows of the first moment that the first part of a core has.
+/// Gives all rows that the first part of a core has at its first moment.
 #[inline(always)]
 fn pour_of<P: Part>(cores: &mut [Waiting<P>], core: usize, out: &mut P::Out) -> Result<(), Refused>
     requires within { core < length cores.old }

@@ -2,9 +2,10 @@ ghost use Rattle.std.specs.Prelude.{◌≡◌};
 
 use mcs_ticks::{Refused, Sink, Soonest};
 
-/// What lies of one core, in order of its moments, and waits to be given out, a moment at a time. Each part says by `holds` which rows it
-/// holds for an output, by `first` the moment of the first of them, and by `left` a number that falls with each moment that is given. What
-/// it gives to an output is as if the output had been given the rows one by one.
+/// Rows of one core, in order of their moments, that wait to be given one moment at a time. Each
+/// part defines `holds` (the rows that it holds for an output) and `first` (the moment of the first
+/// row). It also defines `left`, a number that falls with each moment that is given. The effect on
+/// an output is that of giving it the rows one by one.
 pub trait Part: Drop {
     ghost use Rattle.std.specs.Prelude.{◌≡◌, ◌<◌, ℕ, suc, List, Option, true, IfSome, IsSome, OnErr, OnOk};
     ghost use Rattle.mcs_ticks.specs.declared.row.Row.{Row};
@@ -20,11 +21,12 @@ pub trait Part: Drop {
 
     ghost left: { Self → ℕ };
 
-    /// The moment of its first row, or never.
+    /// Returns the moment of its first row, or never.
     fn next(&self) -> Soonest
         ensures { result ≡ first self.now };
 
-    /// Gives out all rows of its first moment.
+    /// Gives all rows of its first moment. If the output refuses a row, it was given the rows
+    /// before that one.
     fn pour(&mut self, out: &mut Self::Out) -> Result<(), Refused>
         requires { IsSome (first self.old) }
         ensures fewer { OnOk result (left self.new < left self.old) }

@@ -5,16 +5,17 @@ use std::collections::VecDeque;
 use std::marker::Model;
 use std::mem;
 
-/// How many moments are read at once
+/// Number of moments that are read at once.
 const AHEAD: usize = 8;
 
-/// Rows in their order, and the moments of the next few beside them. A row that has left the processor's cache is waited for, and
-/// what comes after waits with it. So the moments of eight rows are read side by side, in one wait in place of eight, and those of
-/// further rows only when these are used up.
+/// Rows in order, with a copy of the moments of the next few. A row that has left the processor's
+/// cache delays all that follows. The moments of eight rows are therefore read together, in one
+/// wait for memory instead of eight. Further ones are read only when these are used up.
 #[derive(Debug, Drop)]
 pub(crate) struct RowQueue {
     rows: VecDeque<Row>,
-    /// that of the first row is in the place `at`, that of the second in the next one, and so on, as far as there are rows
+    /// the moment of the first row is at index `at`, that of the second at the next index, and so
+    /// on, as far as there are rows
     moments: [Tick; AHEAD],
     at: usize,
 }
@@ -30,7 +31,7 @@ impl Model for RowQueue {
 }
 
 impl RowQueue {
-    /// These rows, in this order. The list is moved in.
+    /// Returns these rows, in this order. The list is moved in.
     pub(crate) fn of_rows(rows: Vec<Row>) -> Self
         ensures { result.items ≡ rows.items }
     {
@@ -43,7 +44,7 @@ impl RowQueue {
         }
     }
 
-    /// The moment of the first row.
+    /// Returns the moment of the first row, or `None` if there is no row.
     pub(crate) fn first_moment(&self) -> Option<Tick>
         ensures { result ≡ option_map (λ row. row.moment) (slice_get self.now.items 0) }
     {
@@ -69,14 +70,15 @@ impl RowQueue {
         row
     }
 
-    /// Takes all rows. Their room is kept.
+    /// Drops all rows and keeps the capacity.
     pub(crate) fn clear(&mut self)
         ensures { self.new.items ≡ [] }
     {
         self.rows.clear();
     }
 
-    /// The room of the rows where none is left, as a list without rows; else a list without room.
+    /// Returns the memory of the rows as an empty list, if no row is left. Otherwise returns a list
+    /// without capacity.
     pub(crate) fn take_room(&mut self) -> Vec<Row>
         ensures room { result.items ≡ [] }
         ensures same { self.new ≡ self.old }
@@ -89,7 +91,8 @@ impl RowQueue {
     }
 }
 
-/// The moments of the first eight rows, or 0 where there is none. No read needs what another one gave.
+/// Returns the moments of the first eight rows, or 0 for a missing row. The reads are independent
+/// of each other.
 #[inline(never)]
 fn moments_of(rows: &VecDeque<Row>) -> [Tick; AHEAD]
     ensures some { (k : ℕ) → k < 8 → IfSome (slice_get rows.now.items k) (λ row. slice_index result k ≡ row.moment) }
@@ -102,7 +105,7 @@ fn moments_of(rows: &VecDeque<Row>) -> [Tick; AHEAD]
     moments
 }
 
-/// The moment of the row in this place, or 0 where there is none.
+/// Returns the moment of the row at this index, or 0 if there is none.
 fn moment_at(rows: &VecDeque<Row>, place: usize) -> Tick
     ensures some { IfSome (slice_get rows.now.items place) (λ row. result ≡ row.moment) }
     ensures none { IfNone (slice_get rows.now.items place) (result ≡ 0) }

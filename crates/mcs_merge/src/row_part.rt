@@ -7,7 +7,8 @@ use crate::queue::RowQueue;
 use mcs_ticks::{Refused, Row, Sink, Soonest, Tick};
 use std::marker::{Model, PhantomData};
 
-/// Rows of one core in order of their moments, which wait to be given to a sink. Contracts see the list of them.
+/// Rows of one core in order of their moments, which wait to be given to a sink. Contracts see the
+/// list of rows.
 pub struct RowPart<S> {
     rows: RowQueue,
     to: PhantomData<S>,
@@ -29,7 +30,7 @@ impl<S> Drop for RowPart<S> {
 }
 
 impl<S> RowPart<S> {
-    /// These rows, in this order. The list is moved in.
+    /// Returns these rows, in this order. The list is moved in.
     pub fn new(rows: Vec<Row>) -> Self
         ensures { result ≡ rows.items }
     {
@@ -39,7 +40,7 @@ impl<S> RowPart<S> {
         }
     }
 
-    /// The room of the rows, as a list without rows.
+    /// Returns the memory of the rows as an empty list.
     pub fn into_room(mut self) -> Vec<Row>
         ensures { result.items ≡ [] }
     {
@@ -48,7 +49,7 @@ impl<S> RowPart<S> {
     }
 }
 
-/// It holds its rows, and gives them to the sink one by one.
+/// The part holds its rows, and gives them to the sink one by one.
 impl<S: Sink> Part for RowPart<S> {
     ghost use Rattle.std.specs.Prelude.{◌≡◌, length};
     ghost use Rattle.mcs_merge.specs.Parts.{first_moment};
@@ -82,7 +83,7 @@ impl<S: Sink> Part for RowPart<S> {
     ghost holds_on = { λ before after part rows row held taken. held };
 }
 
-/// Takes the first row where it is of this moment.
+/// Takes the first row if it has this moment.
 #[inline(always)]
 fn pop_at(rows: &mut RowQueue, moment: Tick) -> Option<Row>
     ensures first { IfSome result (λ row. (row.moment ≡ moment) × (rows.old.items ≡ row ∷ rows.new.items)) }

@@ -1,4 +1,4 @@
-//! The next moments of many cores, where they lie close together.
+//! The next moments of many cores, if they are close together.
 ghost use Rattle.std.specs.Prelude.{◌≡◌, ◌+◌, ◌<◌, ◌≤◌, true, IfSome};
 ghost use Rattle.mcs_merge.specs.stored.Sweep.{no_sweep, IsLowest, IsPut, IsTaken};
 
@@ -7,14 +7,14 @@ use std::marker::Model;
 
 const MOMENTS: usize = 256;
 
-/// A sweep over a few moments that follow one another: for each of them the cores of which something comes next at it.
+/// A sweep over a few consecutive moments: for each of them, the cores whose next moment it is.
 #[derive(Debug, Drop)]
 pub(crate) struct Sweep {
-    /// a core is in the set of a moment where its bit is 1
+    /// a core is in the set of a moment if its bit is 1
     sets: [u64; MOMENTS],
     /// the moment of the first set
     start: Tick,
-    /// the place up to which the sweep has come
+    /// the index that the sweep has reached
     at: usize,
     /// the moment before which it ends
     end: Tick,
@@ -31,7 +31,8 @@ impl Model for Sweep {
 }
 
 impl Sweep {
-    /// From this moment on, and before that one, with no core yet.
+    /// Returns a sweep from `start` on and before `until`, without cores. It covers at most 256
+    /// moments.
     pub(crate) fn new(start: Tick, until: Tick) -> Self
         ensures { result ≡ no_sweep start until }
     {
@@ -44,7 +45,8 @@ impl Sweep {
         }
     }
 
-    /// Puts a core in at its next moment, where that is before the end. Whether the sweep has not yet passed it.
+    /// Adds a core at its next moment, if that is before the end. Returns false if the sweep has
+    /// already passed that moment.
     #[inline(always)]
     pub(crate) fn put(&mut self, core: usize, next: Soonest) -> bool
         requires { core < 64 }
@@ -62,7 +64,7 @@ impl Sweep {
         true
     }
 
-    /// Takes out the core that comes first, where there is one.
+    /// Takes out the core that comes first, if there is one.
     #[inline(always)]
     pub(crate) fn take(&mut self) -> Option<usize>
         ensures { IfSome result (λ core. IsTaken self.old core self.new) }
@@ -81,7 +83,7 @@ impl Sweep {
     }
 }
 
-/// The lowest core of a set that has any.
+/// Returns the lowest core of a set that is not empty.
 #[inline(always)]
 fn lowest(set: u64) -> usize
     requires { 0 < set }

@@ -11,12 +11,13 @@ use std::collections::VecDeque;
 use std::marker::Model;
 use std::mem;
 
-/// The parts of a core that wait to be given out, one behind another. Contracts see the list of them, whose first may be empty.
+/// The parts of a core that wait to be given, in order. Contracts see the list of them; the first
+/// may be empty.
 #[derive(Drop)]
 pub(crate) struct Waiting<P: Part> {
     front: P,
     later: VecDeque<P>,
-    /// a part of which all was given out
+    /// a used-up part
     spare: Option<P>,
 }
 
@@ -32,7 +33,7 @@ impl<P: Part> Model for Waiting<P> {
 }
 
 impl<P: Part> Waiting<P> {
-    /// This part alone.
+    /// Returns a line of this part alone.
     pub(crate) fn new(alloc: Global, part: P) -> Self
         ensures part { result ≡ part ∷ [] }
         ensures in_line { IsInLine P.first result }
@@ -44,15 +45,14 @@ impl<P: Part> Waiting<P> {
         }
     }
 
-    /// The first moment, or never.
+    /// Returns the first moment, or never.
     pub(crate) fn next(&self) -> Soonest
         ensures { result ≡ first_of P.first self.now }
     {
         self.front.next()
     }
 
-    /// Puts a part behind the others, and gives back one of which all was given out, where there is one. Only where something waits does it
-    /// take memory; where there is none the part is handed back.
+    /// Appends a part, with the results of `Merger::add`.
     pub(crate) fn add(&mut self, part: P) -> Result<Option<P>, (P, NoMemory)>
         ensures added { (out : P.Out) (rows more : List Row) → Hold P.holds out self.old rows → P.holds out part more
             → OnOk result (Hold P.holds out self.new (rows ++ more)) }
@@ -75,7 +75,7 @@ impl<P: Part> Waiting<P> {
         }
     }
 
-    /// Gives out all rows of the first moment that the part at the front has.
+    /// Gives all rows that the front part has at its first moment.
     #[inline(always)]
     pub(crate) fn pour(&mut self, out: &mut P::Out) -> Result<(), Refused>
         requires { IsSome (first_of P.first self.old) }
@@ -92,7 +92,7 @@ impl<P: Part> Waiting<P> {
     }
 }
 
-/// Where the part at the front is empty, the next one comes to the front, and it is spare.
+/// If the front part is empty, the next one becomes the front and the empty one becomes the spare.
 fn go_on<P: Part>(front: &mut P, later: &mut VecDeque<P>, spare: &mut Option<P>)
     requires behind { All (λ part. IsSome (P.first part)) later.old.items }
     requires unused { IfSome spare.old (λ part. P.first part ≡ None) }

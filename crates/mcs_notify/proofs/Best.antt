@@ -34,7 +34,7 @@ read-is places thread read below is = sym is ∙ get_or_read places thread read 
 more : (n : ℕ) → suc n ≡ n + 1
 more n = omega arith
 
--- the waiter behind the last one
+-- the waiter after the last one
 pub next-is : (places : List Place) (first len last : ℕ) (place : Place) → last ≡ nth places first len → place ≡ place_of places last → place.behind ≡ nth places first (len + 1)
 next-is places first len last place last_is is =
     ap (λ (p : Place). p.behind) is ∙ ap (λ n. (place_of places n).behind) last_is ∙ sym (nth-next places first len) ∙ ap (nth places first) (more len)

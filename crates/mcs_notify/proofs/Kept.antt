@@ -1,4 +1,4 @@
--- What is kept of the lines, through each call, and how it is seen.
+-- Properties of the lines that each call keeps, and how callers see them.
 use Rattle.std.proofs.Common.{◌≡◌, ℕ, zero, suc, ◌+◌, ◌-◌, ◌<◌, ◌≤◌, ◌==◌, if◌then◌else◌, false, List, [], ◌∷◌, ◌++◌, length, length-set, get_or, set, replicate, refl, sym, ap, subst, ◌∙◌, inl, inr, arith, get_or-set_same, get_or-set_other, ◌≢◌, bit_or}
 use Rattle.std.proofs.lemmas.Bool.{cases_eq, cases_lt, eq-eqb, ne_eqb}
 use Rattle.std.proofs.lemmas.List.{length-map, get_or-map, get_or_read, map-set}
@@ -68,7 +68,7 @@ changed-kept {kept} {places} h new i k waiters within same now ends once below =
     among : i < length (notes_at kept places)
     among = omega (arith, within, length-map kept (note_at places))
 
--- notifications as they are kept and seen, and one of them as it was read
+-- notifications as they are kept and seen, and one that was read
 pub record IsRead (kept : List Kept) (places : List Place) (all : Notifications) (note i : ℕ) (k : Kept) : Type 0 where
   pub is_kept : IsKept kept places
   pub view : seen_as kept places ≡ all
@@ -105,7 +105,7 @@ module _ {kept : List Kept} {places : List Place} {all : Notifications} {note i 
   only-here : (x : ℕ) → 0 < times x (waiters_of places k.line) → times_in x (notes_at kept places) ≡ times x (note_of (notes_at kept places) i).waiters
   only-here x some = omega (arith, here-le x, r.is_kept.once x, ap (λ (n : Note). times x n.waiters) here)
 
-  -- its waiters are no more than there are threads
+  -- its waiters are at most as many as there are threads
   pub few : k.line.len ≤ length places
   few = omega (arith, length-waiters_from places k.line.first k.line.len, length-le-room (length places) (waiters_of places k.line) once-here below-here)
 

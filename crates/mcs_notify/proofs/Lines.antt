@@ -14,7 +14,7 @@ pub length-waiters_from : (places : List Place) (first len : ℕ) → length (wa
 length-waiters_from places first zero = refl
 length-waiters_from places first (suc len) = ap suc (length-waiters_from places (place_of places first).behind len)
 
--- the next of them is behind the last
+-- the next of them follows the last
 pub nth-next : (places : List Place) (first k : ℕ) → nth places first (suc k) ≡ (place_of places (nth places first k)).behind
 nth-next places first zero = refl
 nth-next places first (suc k) = nth-next places (place_of places first).behind k
@@ -44,7 +44,7 @@ waiters_from-other places first (suc len) y place none =
     ap (λ (p : Place). record { thread = first; priority = p.priority } ∷ waiters_from (set places y place) p.behind len) same
     ∙ ap (λ (qs : List Queued). queued_at places first ∷ qs) (waiters_from-other places behind len y place (omega arith))
 
--- what stands behind a waiter of another name is as it was
+-- a change of another thread's place changes no link of the first waiter
 cons-other : (places : List Place) (first len y : ℕ) (place : Place) → first ≢ y →
     waiters_from (set places y place) first (suc len) ≡ queued_at places first ∷ waiters_from (set places y place) (place_of places first).behind len
 cons-other places first len y place ne =
@@ -60,7 +60,7 @@ cons-named places first len thread h none =
     ap (λ (p : Place). record { thread = first; priority = p.priority } ∷ waiters_from (set places first place) p.behind len) same
     ∙ ap (λ (qs : List Queued). queued_at places first ∷ qs) (waiters_from-other places thread len first place none)
 
--- a thread behind the last
+-- a thread appended after the last
 waiters_from-back : (places : List Place) (first len last x : ℕ) → last < length places →
     last ≡ last_or first (waiters_from places (place_of places first).behind len) → times last (waiters_from places first (suc len)) ≤ 1 →
     x ≢ last → waiters_from (named last x places) first (suc (suc len)) ≡ waiters_from places first (suc len) ++ queued_at places x ∷ []
@@ -79,7 +79,7 @@ waiters_from-back places first (suc len) last x h e once other =
     cons-other places first (suc (suc len)) last place ne
     ∙ ap (λ (qs : List Queued). queued_at places first ∷ qs) (waiters_from-back places second len last x h e (omega arith) other)
 
--- a waiter that is not the first leaves: the one before it names the one behind it
+-- a waiter other than the first leaves: the one before it then names the one after it
 waiters_from-unlinked : (places : List Place) (first k len : ℕ) → k < len → nth places first k < length places →
     ((x : ℕ) → times x (waiters_from places first (suc len)) ≤ 1) →
     waiters_from (named (nth places first k) (place_of places (nth places first (suc k))).behind places) first len

@@ -38,7 +38,7 @@ without-cons_same y q qs e = rw (eq-eqb q.thread y e) refl
 pub without-cons_other : (y : ℕ) (q : Queued) (qs : List Queued) → q.thread ≢ y → without y (q ∷ qs) ≡ q ∷ without y qs
 without-cons_other y q qs ne = rw (ne_eqb q.thread y ne) refl
 
--- where another one is the last, it stays the last
+-- if another thread is the last, it stays the last
 pub last_or-without : (d y : ℕ) (qs : List Queued) → last_or d qs ≢ y → last_or d (without y qs) ≡ last_or d qs
 last_or-without d y [] ne = refl
 last_or-without d y (q ∷ qs) ne = elim (cases_eq q.thread y) [
@@ -64,7 +64,7 @@ times_in-set x (suc i) (old ∷ notes) note h =
     let below : i < length notes = omega arith in
     omega (arith, times_in-set x i notes note below)
 
--- a thread that waits on no notification stands in no line
+-- a thread that waits on no notification occurs in no line
 pub times_in-free : (x : ℕ) (notes : List Note) → is_waiting x notes ≡ false → times_in x notes ≡ 0
 times_in-free x [] free = refl
 times_in-free x (note ∷ notes) free =
@@ -113,6 +113,6 @@ unfolding count_below
 count_below-le zero qs once = omega arith
 count_below-le (suc n) qs once = omega (arith, once n, count_below-le n qs once)
 
--- threads below a number, each of which waits once, are no more than that
+-- threads below a number, each waiting once, are at most that number
 pub length-le-room : (n : ℕ) (qs : List Queued) → ((x : ℕ) → times x qs ≤ 1) → ((x : ℕ) → 0 < times x qs → x < n) → length qs ≤ n
 length-le-room n qs once below = omega (arith, length-le-count_below n qs below, count_below-le n qs once)

@@ -4,16 +4,16 @@ ghost use Rattle.mcs_notify.specs.stored.Lines.{IsBest, BestLeaves, nth, place_o
 use mcs_ticks::{NoMemory, Queued, ThreadId};
 use std::alloc::Global;
 
-/// The place of a thread that waits: its priority, and the thread behind it in its line. The last of a line has none behind it, and
-/// of a thread that waits nowhere the place means nothing.
+/// The place of a waiting thread: its priority, and the next thread of its line. The place has no
+/// meaning for a thread that does not wait, and `behind` has none for the last of a line.
 #[derive(Clone, Copy, Debug)]
 pub(crate) struct Place {
     behind: ThreadId,
     priority: u8,
 }
 
-/// The waiters of one notification, in order of beginning to wait: the first and the last of them, and how many there are. With
-/// none the other two mean nothing.
+/// The waiters of one notification, in order of beginning to wait: the first, the last, and their
+/// number. If the number is 0, the first and the last have no meaning.
 #[derive(Clone, Copy, Debug)]
 pub(crate) struct Line {
     first: ThreadId,
@@ -21,7 +21,7 @@ pub(crate) struct Line {
     len: usize,
 }
 
-/// A waiter, and the one before it, or itself where it is the first.
+/// A waiter, and the one before it; the first waiter names itself.
 #[derive(Clone, Copy, Debug)]
 struct Waiter {
     before: ThreadId,
@@ -29,7 +29,7 @@ struct Waiter {
 }
 
 impl Place {
-    /// The place of a thread that waits nowhere.
+    /// The place of a thread that does not wait.
     pub(crate) const NONE: Place = Place {
         behind: ThreadId(0),
         priority: 0,
@@ -37,7 +37,7 @@ impl Place {
 }
 
 impl Line {
-    /// No waiter.
+    /// A line with no waiters.
     pub(crate) const EMPTY: Line = Line {
         first: ThreadId(0),
         last: ThreadId(0),
@@ -51,7 +51,7 @@ impl Line {
         self.len == 0
     }
 
-    /// The waiters, in order of beginning to wait.
+    /// Returns the waiters, in order of beginning to wait.
     pub(crate) fn waiters(&self, alloc: Global, places: &[Place]) -> Result<Vec<Queued>, NoMemory>
         requires { (k : ℕ) → k < self.now.len → nth places.now self.now.first k < length places.now }
         ensures { IfOk result (λ list. list.items ≡ waiters_of places.now self.now) }
@@ -69,7 +69,7 @@ impl Line {
         Ok(list)
     }
 
-    /// Puts a thread behind the last waiter.
+    /// Appends a thread to the waiters.
     pub(crate) fn push_back(&mut self, places: &mut [Place], thread: ThreadId, priority: u8)
         requires room { self.old.len + 1 < 2 ^ 64 }
         requires thread { thread < length places.old }
@@ -90,7 +90,8 @@ impl Line {
         self.len += 1;
     }
 
-    /// Takes the waiter of greatest priority out, of these the longest waiting, in one walk over the line.
+    /// Takes out the waiter of maximum priority, in one pass over the line; at equal priority, the
+    /// longest waiting.
     pub(crate) fn pop_best(&mut self, places: &mut [Place]) -> ThreadId
         requires some { 0 < self.old.len }
         requires within { (k : ℕ) → k < self.old.len → nth places.old self.old.first k < length places.old }
@@ -101,7 +102,7 @@ impl Line {
         best.thread
     }
 
-    /// The waiter of greatest priority, of these the longest waiting.
+    /// Returns the waiter of maximum priority; at equal priority, the longest waiting.
     fn best(&self, places: &[Place]) -> Waiter
         requires some { 0 < self.now.len }
         requires within { (k : ℕ) → k < self.now.len → nth places.now self.now.first k < length places.now }
@@ -125,7 +126,6 @@ impl Line {
         }
     }
 
-    /// Takes a waiter out.
     fn remove(&mut self, places: &mut [Place], one: &Waiter)
         requires some { 0 < self.old.len }
         requires thread { one.now.thread < length places.old }

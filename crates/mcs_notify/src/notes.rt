@@ -14,8 +14,9 @@ struct Kept {
     line: Line,
 }
 
-/// The notifications of a system: words, and the threads that wait on them. Contracts see a list of notes, by number, and how many
-/// threads there are. Each notification has a line of its waiters, and each thread one place, in which it names the one behind it.
+/// The notifications of a system: words, and the threads that wait on them. Contracts see a list of
+/// notifications, by number, and the number of threads. Each notification has a line of its
+/// waiters, and each thread has one place, which names the next thread of its line.
 #[derive(Debug, Drop)]
 pub struct Notes {
     notes: Vec<Kept>,
@@ -36,7 +37,8 @@ impl Model for Notes {
 }
 
 impl Notes {
-    /// This many notifications with word 0 and no waiters, and a place to wait for each of `threads` threads.
+    /// Returns `notes` notifications with word 0 and no waiters, and a place to wait for each of
+    /// `threads` threads.
     pub fn new(alloc: Global, notes: usize, threads: usize) -> Result<Self, NoMemory>
         ensures { IfOk result (λ made. made ≡ record { notes = replicate notes quiet_note; threads = threads }) }
     {
@@ -50,8 +52,9 @@ impl Notes {
         })
     }
 
-    /// Posts a badge: the waiter of greatest priority, of these the longest waiting, is woken with the badge, or, where no thread
-    /// waits, the badge is ORed into the word. Goes once through the waiters of this notification: constant time where there is none.
+    /// Posts a badge. The waiter of maximum priority (at equal priority, the longest waiting) is
+    /// woken with the badge. If no thread waits, the badge is ORed into the word. Takes time linear
+    /// in the waiters of this notification, and constant time if it has none.
     pub fn post(&mut self, note: NoteId, badge: u32) -> Posted
         requires { note < length self.old.notes }
         ensures posted { result ≡ posted badge (note_of self.old.notes note) }
@@ -66,8 +69,8 @@ impl Notes {
         Posted::Woke(woken, badge)
     }
 
-    /// Waits for a word: a word that is not 0 is taken, and at word 0 the thread joins the waiters. The thread is not waiting on
-    /// any notification. Constant time.
+    /// Waits for a word: a word other than 0 is taken, and at word 0 the thread joins the waiters.
+    /// The caller ensures that the thread does not wait on any notification. Takes constant time.
     pub fn wait(&mut self, note: NoteId, thread: ThreadId, priority: u8) -> Waited
         requires note { note < length self.old.notes }
         requires thread { thread < self.old.threads }
@@ -88,7 +91,7 @@ impl Notes {
         Waited::Blocks
     }
 
-    /// The word of a notification.
+    /// Returns the word of a notification.
     pub fn word(&self, note: NoteId) -> u32
         requires { note < length self.now.notes }
         ensures { result ≡ (note_of self.now.notes note).word }
@@ -96,7 +99,8 @@ impl Notes {
         self.notes[note.0].word
     }
 
-    /// The threads that wait on a notification, in order of beginning to wait. NoMemory where the list is refused.
+    /// Returns the threads that wait on a notification, in order of beginning to wait. Fails with
+    /// `NoMemory` if the list cannot be allocated.
     pub fn waiters(&self, alloc: Global, note: NoteId) -> Result<Vec<Queued>, NoMemory>
         requires { note < length self.now.notes }
         ensures { IfOk result (λ list. list.items ≡ (note_of self.now.notes note).waiters) }

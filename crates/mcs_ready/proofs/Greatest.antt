@@ -1,4 +1,4 @@
--- The end of a set, where a priority enters the set or leaves it.
+-- The end of a set, when a priority enters the set or leaves it.
 use Rattle.std.proofs.Common.{◌≡◌, ℕ, ◌+◌, ◌-◌, ◌*◌, ◌/◌, ◌^◌, ◌<◌, ◌≤◌, ◌==◌, if◌then◌else◌, true, false, List, Option, Some, None, get_or, ◌∙◌, inl, inr, arith}
 use Rattle.std.specs.Prelude.{max}
 use Rattle.std.proofs.lemmas.Bool.{cases_lt, ne_eqb}
@@ -6,7 +6,7 @@ use Rattle.std.proofs.lemmas.Bool.Decides.{nat_tests}
 use Rattle.mcs_ready.specs.stored.Priorities.{has, end_behind, IsEnd, IsGreatest}
 use Rattle.mcs_ready.proofs.Marks.{has-highest, has_above}
 
--- a set ends behind its greatest priority, and where it ends tells the greatest
+-- a set ends just after its maximum priority, and its end gives the maximum
 pub IsEnd-behind : (words : List ℕ) (g : Option ℕ) → end_behind g ≤ 256 → IsGreatest words g → IsEnd words (end_behind g)
 IsEnd-behind words None few none = (few, λ q _. none q, λ above. absurd (omega (arith, above)))
 IsEnd-behind words (Some g) few found =

@@ -1,4 +1,4 @@
--- What the places keep, through each call.
+-- Properties of the places that each call keeps.
 use Rattle.std.proofs.Common.{◌≡◌, ◌≢◌, ℕ, zero, suc, ◌+◌, ◌<◌, ◌≤◌, ◌==◌, if◌then◌else◌, true, false, List, [], ◌∷◌, ◌++◌, length, map, get_or, set, refl, sym, ap, subst, ◌∙◌, inl, inr, arith, get_or-set_same, get_or-set_other, length-set, replicate}
 use Rattle.std.specs.Prelude.{nat_lt, Option, None, Some, MatchOption}
 use Rattle.std.proofs.Math.ListN.{get_or-map as get_or-map_at}
@@ -26,7 +26,7 @@ names-other : (next : List ℕ) (y v x : ℕ) → x ≢ y → names_one (set nex
 names-other next y v x ne = rw (get_or-set_other next y x v no_thread ne) refl
 
 module _ (words words' lasts next next' : List ℕ) (p last : ℕ) (threads : List ℕ) where
-  -- one line is changed, its threads are these now, and its priority is marked by whether there is one
+  -- one line changes to these threads, and its priority is marked if and only if it has one
   IsKept-changed : IsKept words lasts next → p < 256 → length next' ≡ length next →
       all_threads next' (set lasts p last) ≡ set (all_threads next lasts) p threads →
       ((q : ℕ) → has words' q ≡ (if q == p then is_some_in threads else has words q)) →
@@ -77,16 +77,16 @@ module _ (words lasts next : List ℕ) (kept : IsKept words lasts next) where
   below-some : (x : ℕ) → x < length next → x ≢ no_thread
   below-some x below e = absurd (omega (arith, kept.few))
 
-  -- it stands in no other line
+  -- it occurs in no other line
   other-line : (q x j : ℕ) → 1 ≤ times x (line q) → j ≢ q → times x (line j) ≡ 0
   other-line q x j stands ne =
       grind (arith, times-elsewhere x q j (all_threads next lasts) (λ e. ne (sym e)), kept.once x, ap (times x) (line-at q), ap (times x) (line-at j))
 
-  -- a thread that names none stands in none
+  -- a thread that names no next one occurs in no line
   free-line : (x j : ℕ) → names_one next x ≡ false → times x (line j) ≡ 0
   free-line x j free = omega (arith, once-at j x, ap one_if free)
 
-  -- a line in which a thread does not stand, where that one names another one
+  -- a line stays unchanged if a thread that is not in it names another one
   other-set : (y z j : ℕ) → times y (line j) ≡ 0 → threads_of (set next y z) (get_or lasts j no_thread) ≡ threads_of next (get_or lasts j no_thread)
   other-set y z j none = threads-other next (get_or lasts j no_thread) y z (few-at j) none
 
@@ -96,7 +96,7 @@ module _ (words lasts next : List ℕ) (kept : IsKept words lasts next) where
       let same = other-set y z j none in
       threads-other (set next y z) (get_or lasts j no_thread) w v (rw (same, length-set next y z) (few-at j)) (rw same none') ∙ same
 
-  -- a line that is marked is one of the 256, and has a last thread, which stands in it
+  -- a marked line is one of the 256, and has a last thread, which occurs in it
   pub marked-below : (p : ℕ) → has words p ≡ true → p < 256
   marked-below p marked = elim (cases_lt p 256) [
     | inl below ↦ below
@@ -301,7 +301,7 @@ module _ (words lasts next : List ℕ) (kept : IsKept words lasts next) where
         pub head-several : first ≢ last → head ≢ end
         head-several ne e = ne (head-read ∙ e ∙ sym end-read)
 
-    -- the queue begins with it, where no line above has a thread
+    -- the queue begins with it, if no line above has a thread
     queue-rest : (rest : List ℕ) → line p ≡ head ∷ rest → ((q : ℕ) → p < q → has words q ≡ false) →
         queue_from 0 (all_threads next lasts) ≡ queued head p ∷ queue_from 0 (set (all_threads next lasts) p rest)
     queue-rest rest split none =
@@ -385,7 +385,7 @@ module _ (words lasts next : List ℕ) (kept : IsKept words lasts next) where
       | inr more ↦ rw (queue-rest_in more none) refl
     ]
 
-  -- a thread stands in the queue where it names one
+  -- a thread is in the queue if and only if it names a next one
   pub is_held-kept : (x : ℕ) → is_held x (queue_from 0 (all_threads next lasts)) ≡ names_one next x
   is_held-kept x = is_held-queue_from x 0 (all_threads next lasts) ∙ ap (nat_lt 0) (kept.once x) ∙ grind (arith, nat_tests)
 

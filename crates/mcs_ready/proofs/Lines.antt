@@ -6,7 +6,8 @@ use Rattle.std.proofs.lemmas.Grind.{common_steps}
 use Rattle.mcs_ready.specs.stored.Lines.{no_thread, line_to, threads_of, all_threads, times}
 use Rattle.mcs_ready.proofs.Times.{times-cons_same}
 
--- where there are fewer than there may be, one more may be: the last is reached
+-- if a line is shorter than its bound, the last is reached, so a greater bound does not change the
+-- line
 pub line-more : (next : List ℕ) (last n x : ℕ) → length (line_to next last n x) < n → line_to next last (suc n) x ≡ line_to next last n x
 line-more next last zero x few = absurd (omega arith)
 line-more next last (suc n) x few = grind (arith, line-more next last n (get_or next x 0))
@@ -37,7 +38,7 @@ pub line-back : (next : List ℕ) (last n first x : ℕ) → last < length next 
 line-back next last zero first x below few none = absurd (omega arith)
 line-back next last (suc n) first x below few none = grind (arith, nat_tests, common_steps, line-back next last n (get_or next first 0) x below)
 
--- the last one of a line that has no more threads than there is room for stands in it
+-- the last thread of a line that is no longer than the places occurs in it
 pub last-stands : (next : List ℕ) (last : ℕ) → last ≢ no_thread → length (threads_of next last) ≤ length next → 1 ≤ times last (threads_of next last)
 last-stands next last some few =
     let line : length (line_to next last (suc (length next)) (get_or next last 0)) ≤ length next = rw (ne_eqb last no_thread some) at few in

@@ -7,7 +7,8 @@ use Rattle.mcs_ready.specs.stored.Lines.{line_to, threads_of, all_threads, queue
 use Rattle.mcs_ready.specs.Ready.{queued}
 use Rattle.mcs_ready.proofs.Times.{times-cons_same}
 
--- after i of the threads of a line: what is listed and the threads from x on are all of them, and each has a place
+-- after i of the threads of a line: the listed threads and those from x on are all of them, and
+-- each has a place
 pub record IsListing (start items : List Queued) (next : List ℕ) (priority last x i : ℕ) : Type 0 where
   pub rest : items ++ queued_at priority (line_to next last (suc (length next) - i) x) ≡ start ++ queued_at priority (threads_of next last)
   pub listed : length items ≡ length start + i

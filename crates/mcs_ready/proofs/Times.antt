@@ -1,4 +1,4 @@
--- How often a thread stands in lines.
+-- How often a thread occurs in lines.
 use Rattle.std.proofs.Common.{◌≡◌, ℕ, zero, suc, ◌+◌, ◌<◌, ◌≤◌, ◌==◌, true, false, List, [], ◌∷◌, ◌++◌, length, map, get_or, set, eqb, refl, ap, ◌∙◌, arith}
 use Rattle.std.specs.Prelude.{nat_lt}
 use Rattle.std.specs.List.{list_any, AllByRecursion, IsDistinct}
@@ -27,11 +27,11 @@ times_in-set x i [] line h = absurd (omega arith)
 times_in-set x zero (ys ∷ lines) line h = omega arith
 times_in-set x (suc i) (ys ∷ lines) line h = omega (arith, times_in-set x i lines line (omega arith))
 
--- a thread stands where it stands
+-- a thread counts once more at the head of a line
 pub times-cons_same : (x : ℕ) (ys : List ℕ) → times x (x ∷ ys) ≡ 1 + times x ys
 times-cons_same x ys = rw (eq-eqb x x refl) refl
 
--- a thread that stands in one line stands in no other, where it stands in one place
+-- a thread that occurs once occurs in one line only
 pub times-elsewhere : (x i j : ℕ) (lines : List (List ℕ)) → (i ≡ j → ⊥) → times x (get_or lines i []) + times x (get_or lines j []) ≤ times_in x lines
 times-elsewhere x i j [] ne = omega arith
 times-elsewhere x zero zero (line ∷ lines) ne = absurd (ne refl)
@@ -39,7 +39,7 @@ times-elsewhere x zero (suc j) (line ∷ lines) ne = omega (arith, times-le-time
 times-elsewhere x (suc i) zero (line ∷ lines) ne = omega (arith, times-le-times_in x i lines)
 times-elsewhere x (suc i) (suc j) (line ∷ lines) ne = omega (arith, times-elsewhere x i j lines (λ e. ne (ap suc e)))
 
--- the thread stands in the queue where it stands in a line
+-- the thread is in the queue if and only if it occurs in a line
 is_held-queued_at : (x p : ℕ) (ys : List ℕ) → is_held x (queued_at p ys) ≡ nat_lt 0 (times x ys)
 is_held-queued_at x p [] = refl
 is_held-queued_at x p (y ∷ ys) = grind (arith, nat_tests, is_held-queued_at x p ys)
@@ -67,7 +67,8 @@ stands : (x : ℕ) (ys : List ℕ) → list_any (eqb x) ys ≡ true → 1 ≤ ti
 stands x [] e = cc
 stands x (y ∷ ys) e = grind (arith, nat_tests, stands x ys)
 
--- threads of which each names one, and each stands once, are no more than there is room for
+-- if each thread of a list names a next one and occurs once, the list is at most as long as there
+-- are places
 module _ (xs next : List ℕ) (once : (x : ℕ) → times x xs ≤ one_if (names_one next x)) where
   at_most : (x : ℕ) → times x xs ≤ 1
   at_most x = grind (arith, once x)
@@ -78,7 +79,7 @@ module _ (xs next : List ℕ) (once : (x : ℕ) → times x xs ≤ one_if (names
   pub length-le-room : length xs ≤ length next
   length-le-room = length-le_from_distinct_below xs (length next) (distinct xs at_most) within
 
-  -- and fewer, where one that there is room for names none
+  -- and it is shorter, if one of the places names no next one
   pub length-lt-room : (x : ℕ) → x < length next → names_one next x ≡ false → length xs < length next
   unfolding IsDistinct
   length-lt-room x below free = omega (arith, length-le_from_distinct_below (x ∷ xs) (length next) both all)
@@ -106,7 +107,7 @@ times-get_or [] i h = absurd (omega arith)
 times-get_or (y ∷ ys) zero h = omega (arith, times-cons_same y ys)
 times-get_or (y ∷ ys) (suc i) h = omega (arith, times-get_or ys i (omega arith))
 
--- where each stands at most once, no two places have the same
+-- if each occurs at most once, no two indices have the same
 pub distinct_from_once : (xs : List ℕ) → ((x : ℕ) → times x xs ≤ 1) → (i j : ℕ) → i < j → j < length xs → get_or xs i 0 ≡ get_or xs j 0 → ⊥
 distinct_from_once [] once i j before h same = absurd (omega arith)
 distinct_from_once (y ∷ ys) once i zero before h same = absurd (omega arith)

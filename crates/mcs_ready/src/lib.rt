@@ -1,5 +1,6 @@
-//! Ready queues of one core, after the seL4 Reference Manual: for each of 256 priorities the threads in their order, the greatest
-//! priority first. Every call but `new` and `list` takes the same few steps, however many threads are held, and no memory.
+//! Ready queues of one core, after the seL4 Reference Manual: for each of 256 priorities the
+//! threads in their order, highest priority first. Every call except `new` and `list` takes
+//! constant time, for any number of threads, and allocates no memory.
 #![tactic(auto)]
 
 mod priorities;

@@ -3,11 +3,11 @@ ghost use Rattle.mcs_ready.specs.stored.Priorities.{has, end_behind, IsGreatest,
 
 use std::marker::Model;
 
-/// A set of priorities. Priority `p` is in it where bit `p % 64` of word `p / 64` is 1.
+/// A set of priorities. Priority `p` is in it if bit `p % 64` of word `p / 64` is 1.
 #[derive(Debug, Drop)]
 pub(crate) struct Priorities {
     words: [u64; 4],
-    /// One more than the greatest priority in the set, and 0 where the set is empty.
+    /// The maximum priority of the set plus 1, or 0 if the set is empty.
     end: u16,
 }
 
@@ -23,7 +23,7 @@ impl Model for Priorities {
 }
 
 impl Priorities {
-    /// No priority.
+    /// Returns the empty set.
     pub(crate) fn new() -> Self
         ensures { (q : ℕ) → has result q ≡ false }
     {
@@ -33,7 +33,7 @@ impl Priorities {
         }
     }
 
-    /// The set with `priority` in it.
+    /// Adds `priority` to the set.
     #[inline(always)]
     pub(crate) fn insert(&mut self, priority: u8)
         ensures { (q : ℕ) → has self.new q ≡ (if q == priority then true else has self.old q) }
@@ -42,7 +42,7 @@ impl Priorities {
         self.end = self.end.max(u16::from(priority) + 1);
     }
 
-    /// The set without `priority`, which is its greatest.
+    /// Removes `priority`, which is the maximum of the set.
     #[inline(always)]
     pub(crate) fn remove(&mut self, priority: u8)
         requires { IsGreatest self.old (Some priority) }
@@ -58,7 +58,7 @@ impl Priorities {
         }
     }
 
-    /// The greatest priority in the set.
+    /// Returns the maximum priority of the set, or `None` if it is empty.
     #[inline(always)]
     pub(crate) fn greatest(&self) -> Option<u8>
         ensures { IsGreatest self.now result }
@@ -70,7 +70,7 @@ impl Priorities {
     }
 }
 
-/// One more than the priority, and 0 for none.
+/// Returns the priority plus 1, or 0 for `None`.
 #[inline(always)]
 fn end_behind(greatest: Option<u8>) -> u16
     ensures { result ≡ end_behind greatest }
@@ -81,7 +81,7 @@ fn end_behind(greatest: Option<u8>) -> u16
     }
 }
 
-/// The greatest priority of the first `end` words.
+/// Returns the maximum priority of the first `end` words, or `None` if they are empty.
 fn highest_below(words: &[u64; 4], end: u8) -> Option<u8>
     requires { end ≤ 4 }
     ensures { IsGreatestBelow (end * 64) words.now result }

@@ -8,18 +8,19 @@ use mcs_ticks::{NoMemory, Queued, ThreadId};
 use std::alloc::Global;
 use std::marker::Model;
 
-/// No thread. It stands as the last of a line with no thread, and behind a thread that is not held.
+/// The number of no thread: the last of an empty line, and the next of a thread that is not held.
 const NONE: ThreadId = ThreadId(usize::MAX);
 
-/// The ready threads of one core, each with its priority. Contracts see the queue by priority, the greatest first and first in
-/// first out within one, and `room`, the number of threads that there is room for.
+/// The ready threads of one core, each with its priority. Contracts see the queue by priority,
+/// highest first and first in first out within a priority, and `room`, the number of threads that
+/// fit.
 #[derive(Debug, Drop)]
 pub struct Ready {
-    /// the priorities with a thread
+    /// the priorities that have a thread
     priorities: Priorities,
     /// for each priority the last thread of its line
     lasts: Vec<ThreadId>,
-    /// for each thread the one behind it in its line; behind the last stands the first
+    /// for each thread the next one in its line; the next of the last is the first
     next: Vec<ThreadId>,
 }
 
@@ -38,8 +39,8 @@ impl Model for Ready {
 }
 
 impl Ready {
-    /// No ready thread, with room for the threads 0 to `threads` less one. NoMemory where there was no memory for them; no later
-    /// call but `list` takes any.
+    /// Returns an empty queue with room for the threads numbered below `threads`. Fails with
+    /// `NoMemory` if the allocation fails. Only `list` allocates later.
     pub fn new(alloc: Global, threads: usize) -> Result<Self, NoMemory>
         ensures { IfOk result (λ ready. ready ≡ record { queue = []; room = threads }) }
     {
@@ -50,7 +51,8 @@ impl Ready {
         })
     }
 
-    /// Enters `x` behind the threads of its priority. The thread is below the number that there is room for, and is not held.
+    /// Enters `x` after the threads of its priority. The caller ensures that `x` is below `room`
+    /// and is not held.
     #[inline(always)]
     pub fn push_back(&mut self, x: ThreadId, priority: u8)
         requires below { x < self.old.room }
@@ -68,7 +70,8 @@ impl Ready {
         }
     }
 
-    /// Enters `x` before the threads of its priority. The thread is below the number that there is room for, and is not held.
+    /// Enters `x` before the threads of its priority. The caller ensures that `x` is below `room`
+    /// and is not held.
     #[inline(always)]
     pub fn push_front(&mut self, x: ThreadId, priority: u8)
         requires below { x < self.old.room }
@@ -86,7 +89,7 @@ impl Ready {
         }
     }
 
-    /// The greatest priority of the threads that are held, or None where none is.
+    /// Returns the maximum priority of the held threads, or `None` if the queue is empty.
     #[inline(always)]
     pub fn best(&self) -> Option<u8>
         ensures { result ≡ priority_of (by_priority.best self.now.queue) }
@@ -94,7 +97,8 @@ impl Ready {
         self.priorities.greatest()
     }
 
-    /// Takes the first thread of the greatest priority, or answers None where none is held.
+    /// Removes and returns the first thread of the maximum priority, or returns `None` if the queue
+    /// is empty.
     #[inline(always)]
     pub fn pop_best(&mut self) -> Option<ThreadId>
         ensures first { result ≡ thread_of (by_priority.best self.old.queue) }
@@ -114,15 +118,15 @@ impl Ready {
         Some(x)
     }
 
-    /// Whether `x` is held. No number from `room` on is.
+    /// Whether `x` is held. A number from `room` on never is.
     pub fn holds(&self, x: ThreadId) -> bool
         ensures { result ≡ is_held x self.now.queue }
     {
         x.0 < self.next.len() && self.next[x.0] != NONE
     }
 
-    /// The threads that are held, each with its priority, the greatest first and first in first out within one. NoMemory where
-    /// the list is refused.
+    /// Returns the held threads with their priorities, highest first and first in first out within
+    /// a priority. Fails with `NoMemory` if the list cannot be allocated.
     pub fn list(&self, alloc: Global) -> Result<Vec<Queued>, NoMemory>
         ensures { IfOk result (λ list. list.items ≡ self.now.queue) }
     {
@@ -130,7 +134,7 @@ impl Ready {
     }
 }
 
-/// The threads of all lines, those of the greatest priority first.
+/// Returns the threads of all lines, highest priority first.
 fn threads_by_priority(
     alloc: Global,
     next: &[ThreadId],
@@ -147,7 +151,7 @@ fn threads_by_priority(
     Ok(list)
 }
 
-/// Appends the threads of a line, as they stand in a queue.
+/// Appends the threads of a line with their priority, in order.
 fn push_line(
     list: &mut Vec<Queued>,
     next: &[ThreadId],
@@ -171,7 +175,7 @@ fn push_line(
     Ok(())
 }
 
-/// A fact of every ready queue: no thread is held twice, and each has a number that there is room for.
+/// Law of every ready queue: no thread is held twice, and each number is below `room`.
 pub fn held_once(ready: &Ready)
     ensures distinct { AreDistinct ready.now.queue }
     ensures below { AreBelow ready.now.room ready.now.queue }

@@ -1,4 +1,4 @@
--- What a charge keeps.
+-- Properties that a charge keeps.
 use Rattle.std.proofs.Common.{◌≡◌, ℕ, ◌+◌, ◌-◌, ◌^◌, ◌<◌, ◌≤◌, ◌⊎◌, inl, inr, List, [], ◌∷◌, ◌++◌, length, refl, sym, ap, ◌∙◌, arith}
 use Rattle.std.specs.Prelude.{nat_lt}
 use Rattle.std.proofs.lemmas.Bool.{cases_eq, cases_lt, eq-eqb, ne_eqb, lt-ltb, le-ltb, cond_both}
@@ -29,7 +29,7 @@ IsLike-cons r m n from first end (z ∷ xs) l p q b i =
 IsLike-rest : (r s : Refill) (m n from end : ℕ) (rs : List Refill) → length (s ∷ rs) ≤ m → IsLike (r ∷ s ∷ rs) n from end → IsLike (s ∷ rs) m s.begins end
 IsLike-rest r s m n from end rs l h = record { apart = h.apart.2; some = omega arith; few = l; from_is = omega arith; end_is = h.end_is }
 
--- another refill in place of the last one, as where that grows or moves
+-- the last refill replaced, for instance grown or moved
 abbrev with_last : (Refill → Refill) → List Refill → List Refill
 with_last f [] = []
 with_last f (r ∷ []) = f r ∷ []
@@ -53,7 +53,7 @@ IsLike-more back n from end (r ∷ s ∷ rs) l p q h =
     IsLike-cons r (length (s ∷ rs) + 1) n from s.begins _ (s ∷ rs ++ back ∷ []) (omega arith) h.apart.0 h.from_is h.apart.1
     (IsLike-more back (length (s ∷ rs) + 1) s.begins end (s ∷ rs) l p (omega arith) (IsLike-rest r s _ n from end rs (omega arith) h))
 
--- giving a refill back behind the others
+-- a returned refill is appended
 IsLike-given_back : (back : Refill) (n from end : ℕ) (ts : List Refill) → end ≤ back.begins → 1 ≤ back.amount → IsLike ts n from end → IsLike (given_back n back ts) n from (back.begins + back.amount)
 IsLike-given_back back n from end [] l p h = absurd (omega (arith, h.some))
 IsLike-given_back back n from end (r ∷ rs) l p h = elim (cases_eq (last_end (r ∷ rs)) back.begins) [

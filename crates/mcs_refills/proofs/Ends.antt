@@ -1,4 +1,4 @@
--- The last refill of a list, behind the others.
+-- The last refill of a list.
 use Rattle.std.proofs.Common.{◌≡◌, ℕ, zero, suc, ◌+◌, ◌-◌, ◌<◌, ◌≤◌, ◌≢◌, cond, List, [], ◌∷◌, ◌++◌, length, take, refl, sym, ap, ◌∙◌, arith}
 use Rattle.std.specs.Prelude.{◌==◌, nat_lt, Some, slice_get, slice_set}
 use Rattle.std.proofs.lemmas.Bool.Decides.{nat_tests}
@@ -15,7 +15,7 @@ last-at (r ∷ []) zero x l e = ap (λ (y : Refill). y ∷ []) (sym (same_Some _
 last-at (r ∷ s ∷ rs) zero x l e = absurd (omega arith)
 last-at (r ∷ rs) (suc n) x l e = ap (λ xs. r ∷ xs) (last-at rs n x (omega arith) e)
 
--- the last refill stands behind the others
+-- the last refill follows the others
 pub last-is : (rs : List Refill) (x : Refill) → Some x ≡ last_item rs → rs ≡ take (length rs - 1) rs ++ x ∷ []
 last-is [] x e = cc
 last-is (r ∷ rs) x e = last-at (r ∷ rs) (length (r ∷ rs) - 1) x (omega arith) e
@@ -26,7 +26,7 @@ set-at (r ∷ []) zero x l = refl
 set-at (r ∷ s ∷ rs) zero x l = absurd (omega arith)
 set-at (r ∷ rs) (suc n) x l = ap (λ xs. r ∷ xs) (set-at rs n x (omega arith))
 
--- another refill in place of the last one
+-- the last refill replaced
 pub set-last : (rs : List Refill) (x : Refill) → 1 ≤ length rs → slice_set rs (length rs - 1) x ≡ take (length rs - 1) rs ++ x ∷ []
 set-last rs x l = set-at rs (length rs - 1) x (omega arith)
 

@@ -32,7 +32,7 @@ first-enough min_budget (r ∷ rs) a l =
 head-enough : (min_budget low high : ℕ) (us : List ℕ) → IsWithin low high us → min_budget ≤ length us → min_budget ≤ head_amount (with_enough min_budget us)
 head-enough min_budget low high us h l = first-enough min_budget (refills_of us) (apart-refills_of low high us h) (omega (arith, total-refills_of us))
 
--- where nothing is asked of the head, nothing moves
+-- a minimum of 0 at the head moves no date
 with_enough-none : (us : List ℕ) → with_enough 0 us ≡ us
 with_enough-none us = ap dates_of (by (refills_of us)) ∙ dates_of-refills_of us
   where

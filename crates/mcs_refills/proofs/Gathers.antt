@@ -15,7 +15,7 @@ last_end-first r (s ∷ rs) a = omega (arith, a.1, last_end-first s rs a.2)
 pub next-bounds : (h x : Refill) (rs rest : List Refill) → rs ≡ x ∷ rest → AreApart (h ∷ rs) → (h.amount ≤ x.begins) × (x.begins + x.amount ≤ last_end (h ∷ rs))
 next-bounds h x rs rest e a = let b = rw e at a in rw e (omega (arith, b.1), last_end-first x rest b.2)
 
--- the others stand behind the head
+-- the others follow the head
 pub first-is : (rs : List Refill) (x : Refill) → slice_get rs 0 ≡ Some x → rs ≡ x ∷ drop 1 rs
 first-is [] x e = cc
 first-is (r ∷ rs) x e = cc

@@ -1,4 +1,5 @@
--- Sequences of calls on a list of refills, and what is left of it: the definitions, evaluated. The tests make the same calls.
+-- Sequences of calls on a list of refills and the resulting lists: the definitions, evaluated. The
+-- tests make the same calls.
 use Rattle.std.specs.Prelude.{◌≡◌, ℕ, List, [], ◌∷◌, refl}
 use Rattle.mcs_refills.specs.declared.refill.Refill.{Refill}
 use Rattle.mcs_refills.specs.Server.{Server, refills_of, new_server, server_charged, server_unblocked, server_reconfigured}

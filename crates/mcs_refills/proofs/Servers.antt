@@ -43,7 +43,7 @@ in-good-order server (r ∷ rs) h e =
       few = omega (arith, h.few, ap length (refills-shown (r ∷ rs) server.dates h.apart e));
     }
 
--- a charge leaves at most so many refills
+-- a charge leaves at most `max_refills` refills
 few-charged : (k min_budget period max_refills low : ℕ) (us : List ℕ) → IsWithin low (low + period) us → length (refills_of us) ≤ max_refills → 1 ≤ k → k ≤ head_amount us →
     length (refills_of (with_enough min_budget (charged k period max_refills us))) ≤ max_refills
 few-charged k min_budget period max_refills low us h few p le =

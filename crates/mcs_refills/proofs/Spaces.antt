@@ -308,7 +308,7 @@ two_parts budget period begins amount l m =
 pub kept-reconfigured : (budget period t : ℕ) (us : List ℕ) → budget ≤ period → AreKept budget period (reconfigured t budget period us)
 kept-reconfigured budget period t us l = two_parts budget period (max (first_date us) t) (min (head_amount us) budget) l (omega arith)
 
--- one date more is at most one refill more, and none where it touches
+-- one more date adds at most one refill; if it touches the first, it adds no refill
 length-with_date : (d : ℕ) (rs : List Refill) → length (with_date d rs) ≤ 1 + length rs
 length-with_date d [] = omega arith
 length-with_date d (r ∷ rs) = grind (arith)

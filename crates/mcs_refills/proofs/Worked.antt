@@ -129,7 +129,7 @@ last_refill_ends = refl
 apart_is_a_gap : AreApart (r 3 7 ∷ r 100 3 ∷ []) ≡ ((1 ≤ 7) × (10 < 100) × ((1 ≤ 3) × Unit {0} × Unit {0}))
 apart_is_a_gap = refl
 
--- 7 ticks from 3 on end at 10, where the next refill begins
+-- 7 ticks from 3 on end at 10, when the next refill begins
 touching_refills_are_not_apart : AreApart (r 3 7 ∷ r 10 3 ∷ []) → ⊥
 touching_refills_are_not_apart h = omega (arith, h.1)
 

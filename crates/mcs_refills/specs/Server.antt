@@ -1,10 +1,11 @@
--- The budget of a sporadic server, as dates: one for each tick of it, the moment from which that tick may be used.
--- The dates ascend. A refill is a longest run of consecutive dates, and the head is the first refill.
+-- The budget of a sporadic server as dates: for each tick, the moment from which it may be used.
+-- The dates ascend. A refill is a longest run of consecutive dates, and the head is the first
+-- refill.
 use Rattle.std.specs.Prelude.{ℕ, ◌+◌, ◌-◌, min, max, Bool, ◌||◌, ◌==◌, nat_lt, nat_le, if◌then◌else◌, List, [], ◌∷◌, ◌++◌, map, length, take, drop}
 use Rattle.std.specs.List.{range_with_len}
 use Rattle.mcs_refills.specs.declared.refill.Refill.{Refill}
 
--- `amount` consecutive dates, the first of them `begins`
+-- `amount` consecutive dates from `begins` on
 abbrev pub dates_from : ℕ → ℕ → List ℕ
 dates_from begins amount = range_with_len begins amount
 
@@ -13,7 +14,7 @@ abbrev pub dates_of : List Refill → List ℕ
 dates_of [] = []
 dates_of (refill ∷ refills) = dates_from refill.begins refill.amount ++ dates_of refills
 
--- one more date before these refills: it joins the first of them where it touches it
+-- the refills with one more date before them: if it touches the first refill, it joins that
 abbrev pub with_date : ℕ → List Refill → List Refill
 with_date date [] = record { begins = date; amount = 1 } ∷ []
 with_date date (first ∷ others) =
@@ -26,7 +27,7 @@ abbrev pub refills_of : List ℕ → List Refill
 refills_of [] = []
 refills_of (date ∷ dates) = with_date date (refills_of dates)
 
--- the head's moment: the first date
+-- the moment of the head: the first date
 abbrev pub first_moment : List Refill → ℕ
 first_moment [] = 0
 first_moment (head ∷ others) = head.begins
@@ -45,33 +46,33 @@ last_date [] = 0
 last_date (date ∷ []) = date
 last_date (date ∷ next ∷ dates) = last_date (next ∷ dates)
 
--- how many dates the head has
+-- the number of dates of the head
 abbrev pub head_amount : List ℕ → ℕ
 head_amount dates = first_amount (refills_of dates)
 
--- the server is ready at t where its first date is at most t
+-- the server is ready at t if its first date is at most t
 abbrev pub is_ready : ℕ → List ℕ → Bool
 is_ready t dates = nat_le (first_date dates) t
 
--- the refills, the last of them moved so that it ends just before the moment
+-- the refills, the last of them moved to end just before the moment
 abbrev pub last_moved : ℕ → List Refill → List Refill
 last_moved moment [] = []
 last_moved moment (last ∷ []) = record { begins = moment - last.amount; amount = last.amount } ∷ []
 last_moved moment (first ∷ next ∷ others) = first ∷ last_moved moment (next ∷ others)
 
--- whether the dates end just where those that return begin
+-- whether the dates end just before those that return
 abbrev pub touches : List ℕ → List ℕ → Bool
 touches dates returned = last_date dates + 1 == first_date returned
 
--- dates and, after them, the dates that return: where these do not touch and there is no room for one more refill,
--- the last refill first moves later until it touches them
+-- the dates followed by the returned ones. If these do not touch and no further refill fits, the
+-- last refill first moves later until it touches them
 abbrev pub rejoined : ℕ → List ℕ → List ℕ → List ℕ
 rejoined max_refills dates returned =
     if touches dates returned || nat_lt (length (refills_of dates)) max_refills
     then dates ++ returned
     else dates_of (last_moved (first_date returned) (refills_of dates)) ++ returned
 
--- a charge of k: the first k dates are used, and return a period later
+-- a charge of k: the first k dates are used and return a period later
 abbrev pub charged : ℕ → ℕ → ℕ → List ℕ → List ℕ
 charged k period max_refills dates = rejoined max_refills (drop k dates) (map (λ date. date + period) (take k dates))
 
@@ -89,27 +90,28 @@ abbrev pub enough : ℕ → List Refill → List Refill
 enough min_budget [] = []
 enough min_budget (head ∷ others) = gathered min_budget head others
 
--- enough at the head
+-- the dates with at least `min_budget` at the head, as far as refills can join
 abbrev pub with_enough : ℕ → List ℕ → List ℕ
 with_enough min_budget dates = dates_of (enough min_budget (refills_of dates))
 
--- a charge of k, and then enough at the head
+-- a charge of k, followed by `with_enough`
 abbrev pub charged_with_enough : ℕ → ℕ → ℕ → ℕ → List ℕ → List ℕ
 charged_with_enough k min_budget period max_refills dates = with_enough min_budget (charged k period max_refills dates)
 
--- unblocking at t: the date in place i becomes the greater of itself and t + i
+-- unblocking at t: the date in place i becomes the maximum of itself and t + i
 abbrev pub unblocked : ℕ → List ℕ → List ℕ
 unblocked t [] = []
 unblocked t (date ∷ dates) = max date t ∷ unblocked (t + 1) dates
 
--- an order at t: the head begins at t or later and has at most the budget; what it lacks is one refill that ends a period later
+-- an order at t: the head begins at t or later and has at most the budget; the missing ticks become
+-- one refill that ends a period after the head begins
 abbrev pub reconfigured : ℕ → ℕ → ℕ → List ℕ → List ℕ
 reconfigured t budget period dates =
     let begins = max (first_date dates) t in
     let amount = min (head_amount dates) budget in
     dates_from begins amount ++ dates_from (begins + period - (budget - amount)) (budget - amount)
 
--- a sporadic server: its dates, its period, at most how many refills it has, and for how many there is room
+-- a sporadic server: its dates, its period, its maximum number of refills, and its capacity
 pub record Server : Type 0 where
   pub dates : List ℕ
   pub period : ℕ
@@ -121,16 +123,17 @@ abbrev pub new_server : ℕ → ℕ → ℕ → ℕ → ℕ → Server
 new_server at budget period max_refills room =
     record { dates = dates_from at budget; period = period; max_refills = max_refills; room = room }
 
--- the server after a charge of k with enough at the head
+-- the server after a charge of k and `with_enough`
 abbrev pub server_charged : ℕ → ℕ → Server → Server
 server_charged k min_budget server =
     record server { dates = charged_with_enough k min_budget server.period server.max_refills server.dates }
 
--- unblocking at t
+-- the server after unblocking at t
 abbrev pub server_unblocked : ℕ → Server → Server
 server_unblocked t server = record server { dates = unblocked t server.dates }
 
--- an order at t, which sets the budget, the period and the number of refills
+-- the server after an order at t, which sets the budget, the period and the maximum number of
+-- refills
 abbrev pub server_reconfigured : ℕ → ℕ → ℕ → ℕ → Server → Server
 server_reconfigured t budget period max_refills server =
     record server { dates = reconfigured t budget period server.dates; period = period; max_refills = max_refills }

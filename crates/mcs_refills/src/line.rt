@@ -6,8 +6,8 @@ use circular_buffer::HeapCircularBuffer;
 use std::alloc::{AllocError, Global};
 use std::marker::Model;
 
-/// One refill or more. The first lies here and the others in a ring, so that a look at the first waits for no other memory.
-/// Contracts see them as one list, and for how many there is room.
+/// One refill or more. The first lies in this struct and the others in a ring, so reading the first
+/// touches no other memory. Contracts see one list, and its capacity.
 #[derive(Debug, Drop)]
 pub struct Line {
     head: Refill,
@@ -25,7 +25,7 @@ impl Model for Line {
 }
 
 impl Line {
-    /// A line of one refill, with room for `room`.
+    /// Returns a line of one refill, with capacity for `room` refills.
     pub fn new(alloc: Global, refill: Refill, room: usize) -> Result<Self, AllocError>
         requires some { 1 ≤ room }
         ensures { IfOk result (λ line. line ≡ buffer (refill ∷ []) room) }
@@ -37,14 +37,14 @@ impl Line {
         })
     }
 
-    /// The first refill.
+    /// Returns the first refill.
     pub fn first(&self) -> Refill
         ensures { slice_get self.now.items 0 ≡ Some result }
     {
         self.head
     }
 
-    /// The last refill.
+    /// Returns the last refill.
     pub fn last(&self) -> Refill
         ensures { Some result ≡ last_item self.now.items }
     {
@@ -54,7 +54,7 @@ impl Line {
         }
     }
 
-    /// The refill in place `i`, from 0, or None past the last.
+    /// Returns the refill at index `i`, from 0, or `None` past the last.
     pub fn get(&self, i: usize) -> Option<Refill>
         ensures { result ≡ slice_get self.now.items i }
     {
@@ -65,21 +65,21 @@ impl Line {
         }
     }
 
-    /// How many refills there are.
+    /// Returns the number of refills.
     pub fn len(&self) -> usize
         ensures { result ≡ length self.now.items }
     {
         self.others.len() + 1
     }
 
-    /// Writes another refill in place of the first one.
+    /// Replaces the first refill.
     pub fn set_first(&mut self, refill: Refill)
         ensures { self.new ≡ buffer (refill ∷ drop 1 self.old.items) self.old.capacity }
     {
         self.head = refill;
     }
 
-    /// Writes another refill in place of the last one.
+    /// Replaces the last refill.
     pub fn set_last(&mut self, refill: Refill)
         ensures { self.new ≡ buffer (take (length self.old.items - 1) self.old.items ++ refill ∷ []) self.old.capacity }
     {
@@ -90,7 +90,7 @@ impl Line {
         }
     }
 
-    /// Takes the first refill out, where there is another.
+    /// Removes the first refill; the caller ensures that there is another.
     pub fn drop_first(&mut self)
         requires { 2 ≤ length self.old.items }
         ensures { self.new ≡ buffer (drop 1 self.old.items) self.old.capacity }
@@ -101,7 +101,7 @@ impl Line {
         }
     }
 
-    /// Puts a refill behind the others, where there is room: none is overwritten.
+    /// Appends a refill. The caller ensures that there is room, so no refill is overwritten.
     pub fn push_last(&mut self, refill: Refill)
         requires room { length self.old.items < self.old.capacity }
         ensures { self.new ≡ buffer (self.old.items ++ refill ∷ []) self.old.capacity }
@@ -109,7 +109,7 @@ impl Line {
         self.others.push_back(refill);
     }
 
-    /// Writes one refill in place of all.
+    /// Replaces all refills by one.
     pub fn set_only(&mut self, refill: Refill)
         ensures { self.new ≡ buffer (refill ∷ []) self.old.capacity }
     {
@@ -118,7 +118,6 @@ impl Line {
     }
 }
 
-/// Writes another refill in place of the last one of a ring.
 fn replace_last(ring: &mut HeapCircularBuffer<Refill>, refill: Refill)
     requires some { 1 ≤ length ring.old.items }
     ensures { ring.new ≡ buffer (take (length ring.old.items - 1) ring.old.items ++ refill ∷ []) ring.old.capacity }
@@ -130,7 +129,8 @@ fn replace_last(ring: &mut HeapCircularBuffer<Refill>, refill: Refill)
     }
 }
 
-/// Takes the first refill of a ring out. An only one leaves by the back, so that the ring stays where it lies.
+/// Removes the first refill of a ring. An only refill is popped from the back, so the ring's start
+/// does not move.
 fn pop_first(ring: &mut HeapCircularBuffer<Refill>) -> Option<Refill>
     ensures value { result ≡ slice_get ring.old.items 0 }
     ensures items { ring.new ≡ buffer (drop 1 ring.old.items) ring.old.capacity }

@@ -9,10 +9,13 @@ use mcs_ticks::{NoMemory, Tick};
 use std::alloc::Global;
 use std::marker::Model;
 
-/// The refills of a sporadic scheduling context, after the sporadic server of Sprunt, Sha and Lehoczky (1989) and the seL4
-/// Reference Manual (MCS). Contracts see a server: its budget dates, one for each tick of the budget in ascending order, its
-/// period, at most how many refills it has, and for how many there is room. The refills are the longest runs of consecutive
-/// dates. The first lies in this struct, and there is a ring for the others. Only [`Refills::new`] takes memory.
+/// The refills of a sporadic scheduling context, after the sporadic server of Sprunt, Sha and
+/// Lehoczky (1989) and the seL4 Reference Manual (MCS).
+///
+/// Contracts see a server: its budget dates (one for each tick of the budget, ascending), its
+/// period, its maximum number of refills, and its capacity. The refills are the longest runs of
+/// consecutive dates. The first lies in this struct, the others in a ring. Only [`Refills::new`]
+/// allocates memory.
 #[derive(Debug, Drop)]
 pub struct Refills {
     line: Line,
@@ -33,8 +36,9 @@ impl Model for Refills {
 }
 
 impl Refills {
-    /// One refill with the whole budget, which may be used from `at` on. Amounts and the period are in ticks; there is room
-    /// for `room` refills, 2 to 66, of which `max_refills` are used. `NoMemory` is answered where the room is refused.
+    /// Returns one refill with the whole budget, which may be used from `at` on. The budget and the
+    /// period are in ticks. There is room for `room` refills, at most 66, and at most `max_refills`
+    /// of them are used, at least 2. Fails with `NoMemory` if the allocation fails.
     pub fn new(
         alloc: Global,
         at: Tick,
@@ -64,7 +68,7 @@ impl Refills {
         })
     }
 
-    /// The first refill. Its moment is one that a [`Tick`] holds.
+    /// Returns the first refill. Its moment fits a [`Tick`].
     pub fn head(&self) -> Refill
         ensures moment { result.begins ≡ first_date self.now.dates }
         ensures amount { result.amount ≡ head_amount self.now.dates }
@@ -74,7 +78,7 @@ impl Refills {
         self.line.first()
     }
 
-    /// How many refills there are.
+    /// Returns the number of refills.
     pub fn len(&self) -> usize
         ensures number { result ≡ length (refills_of self.now.dates) }
         ensures few { result ≤ self.now.max_refills }
@@ -82,7 +86,7 @@ impl Refills {
         self.line.len()
     }
 
-    /// The refill in place `i`, from 0, or None past the last.
+    /// Returns the refill at index `i`, from 0, or `None` past the last.
     pub fn get(&self, i: usize) -> Option<Refill>
         ensures { result ≡ slice_get (refills_of self.now.dates) i }
     {
@@ -96,8 +100,9 @@ impl Refills {
         self.head().begins <= t.get()
     }
 
-    /// Charges the first `ticks` of the head, which return a period later: where the list is full, its last refill first moves
-    /// later until they touch it. Then, while the head has fewer than `min_budget` ticks, it moves later and joins the next
+    /// Charges the first `ticks` of the head; they return a period later. If they do not touch the
+    /// last refill and the list is full, the last refill first moves later until it touches them.
+    /// Then, while the head has fewer than `min_budget` ticks, it moves later and joins the next
     /// refill.
     #[inline(always)]
     pub fn charge(&mut self, ticks: u64, min_budget: u64)
@@ -115,7 +120,8 @@ impl Refills {
         );
     }
 
-    /// Unblocks at `t`: a head whose moment has come moves to `t`, and the refills that it reaches join it.
+    /// Unblocks at `t`: a head whose moment has come moves to `t`, and the refills that it reaches
+    /// join it.
     pub fn unblock(&mut self, t: Tick)
         requires { t ≤ 2 ^ 40 }
         ensures { self.new ≡ server_unblocked t self.old }
@@ -123,8 +129,9 @@ impl Refills {
         unblock_list(&mut self.line, t.get());
     }
 
-    /// A SchedControl order at `t`: the budget, the period and the number of refills are these from now on. The head stays, but
-    /// begins at `t` at the earliest and has at most the budget; what it lacks is one refill that ends a period later.
+    /// Applies a SchedControl order at `t`, which sets the budget, the period and the maximum
+    /// number of refills. The head stays, but begins at `t` at the earliest and has at most the
+    /// budget. The missing ticks become one refill that ends a period after the head begins.
     pub fn reorder(&mut self, t: Tick, budget: u64, period: u64, max_refills: usize)
         requires early { t ≤ 2 ^ 40 }
         requires some { 1 ≤ budget }
@@ -139,7 +146,8 @@ impl Refills {
         self.max_refills = max_refills;
     }
 
-    /// A law of the type: the dates of each list ascend and span less than the period, and have at most `max_refills` refills.
+    /// Law of the type: the dates of each list ascend, span less than the period, and form at most
+    /// `max_refills` refills.
     pub fn in_good_order(&self)
         ensures { IsServer (length self.now.dates) self.now }
     {

@@ -3,7 +3,8 @@ ghost use Rattle.mcs_refills.specs.Slice.{full_slice, charged_slice, reconfigure
 
 use std::marker::Model;
 
-/// The time slice of a round robin scheduling context: what is left of its budget, in ticks. It is always ready.
+/// The time slice of a round-robin scheduling context: the remaining ticks of its budget. It is
+/// always ready.
 #[derive(Debug, Drop)]
 pub struct Slice {
     budget: u64,
@@ -21,7 +22,7 @@ impl Model for Slice {
 }
 
 impl Slice {
-    /// A full slice.
+    /// Returns a full slice.
     pub fn new(budget: u64) -> Self
         requires some { 1 ≤ budget }
         requires in_range { budget ≤ 2 ^ 40 }
@@ -33,7 +34,7 @@ impl Slice {
         }
     }
 
-    /// The ticks that are left, 1 to the budget.
+    /// Returns the remaining ticks, 1 to the budget.
     pub fn left(&self) -> u64
         ensures value { result ≡ self.now.left }
         ensures some { 1 ≤ result }
@@ -43,7 +44,7 @@ impl Slice {
         self.left
     }
 
-    /// Charges ticks that were used. Where none is left, the slice is full again.
+    /// Charges used ticks. If no ticks remain, the slice is full again.
     #[inline(always)]
     pub fn charge(&mut self, ticks: u64)
         requires some { 1 ≤ ticks }
@@ -57,7 +58,7 @@ impl Slice {
         };
     }
 
-    /// A SchedControl order: the budget is this from now on, and no more than it is left.
+    /// Applies a SchedControl order: sets the budget, and caps the remaining ticks at it.
     pub fn reorder(&mut self, budget: u64)
         requires some { 1 ≤ budget }
         requires in_range { budget ≤ 2 ^ 40 }

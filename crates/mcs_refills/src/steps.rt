@@ -7,7 +7,8 @@ ghost use Rattle.mcs_refills.specs.Server.{first_amount, first_moment, enough};
 use crate::Refill;
 use crate::line::Line;
 
-/// Takes ticks from the head, where some are left. A head that is wholly used leaves.
+/// Takes ticks from the head. A head that is exhausted leaves the list; the caller ensures that a
+/// refill remains.
 pub fn take(refills: &mut Line, ticks: u64)
     requires left { 1 ≤ length (taken ticks refills.old.items) }
     requires in_head { ticks ≤ first_amount refills.old.items }
@@ -25,8 +26,8 @@ pub fn take(refills: &mut Line, ticks: u64)
     }
 }
 
-/// Gives a refill back behind the others. Where it touches the last one it joins it, and where there is no room
-/// the last one first moves to it.
+/// Appends a returned refill. If it touches the last refill, the two join. If the list is full, the
+/// last refill first moves later to touch it.
 pub fn give_back(refills: &mut Line, back: Refill, max_refills: usize)
     requires fits { max_refills ≤ refills.old.capacity }
     requires later { last_end refills.old.items ≤ back.begins }
@@ -51,7 +52,7 @@ pub fn give_back(refills: &mut Line, back: Refill, max_refills: usize)
     }
 }
 
-/// While the head has fewer than `min_budget` ticks, it moves to the next refill and joins it.
+/// Moves the head later to join the next refill, while the head has fewer than `min_budget` ticks.
 pub fn gather(refills: &mut Line, min_budget: u64)
     requires apart { AreApart refills.old.items }
     requires early { last_end refills.old.items < 2 ^ 63 }
@@ -74,8 +75,8 @@ pub fn gather(refills: &mut Line, min_budget: u64)
     refills.set_first(head);
 }
 
-/// A charge: the first ticks of the head are used and return a period later, and then there is enough at the head. An only refill
-/// that is wholly used is written over.
+/// Charges the first ticks of the head, as `Refills::charge` does. An only refill that is exhausted
+/// is overwritten.
 #[inline(always)]
 pub fn charge_list(refills: &mut Line, period: u64, max_refills: usize, ticks: u64, min_budget: u64)
     requires kept { IsKept refills.old.items period max_refills }
@@ -97,7 +98,7 @@ pub fn charge_list(refills: &mut Line, period: u64, max_refills: usize, ticks: u
     }
 }
 
-/// A charge that leaves some ticks besides those that return.
+/// Charges ticks and leaves at least one refill besides those that return.
 #[inline(never)]
 fn charge_part(refills: &mut Line, period: u64, max_refills: usize, ticks: u64, min_budget: u64)
     requires kept { IsKept refills.old.items period max_refills }
@@ -118,7 +119,7 @@ fn charge_part(refills: &mut Line, period: u64, max_refills: usize, ticks: u64, 
     gather(refills, min_budget);
 }
 
-/// Unblocking at `t`: a head whose moment has come moves to `t`, and the refills that it reaches join it.
+/// Unblocks at `t`, as `Refills::unblock` does.
 pub fn unblock_list(refills: &mut Line, t: u64)
     requires apart { AreApart refills.old.items }
     requires early { last_end refills.old.items < 2 ^ 63 }
@@ -140,8 +141,7 @@ pub fn unblock_list(refills: &mut Line, t: u64)
     refills.set_first(Refill { begins: t, amount });
 }
 
-/// An order at `t`: the head begins at `t` or later and has at most the budget, and what it lacks is one refill that ends a
-/// period later.
+/// Applies an order at `t`, as `Refills::reorder` does.
 pub fn reconfigure_list(refills: &mut Line, t: u64, budget: u64, period: u64)
     requires room { 2 ≤ refills.old.capacity }
     requires within { budget < period }

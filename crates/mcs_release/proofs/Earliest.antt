@@ -17,7 +17,7 @@ pub earlier-keeps : (P : Dated → Type 0) (x : Dated) (r : Option Dated) → P 
 earlier-keeps P x None h k = h
 earlier-keeps P x (Some y) h k = cond_both (nat_lt y.date x.date) y x P (λ e. k) (λ e. h)
 
--- where no date is less than this one, that of the earliest is not
+-- if all dates are at least this one, the earliest one is too
 earliest-least : (places : List (Option Dated)) (date : ℕ) → ((i : ℕ) (y : Dated) → get_or places i None ≡ Some y → date ≤ y.date) →
     IfSome (earliest (entered places)) (λ y. date ≤ y.date)
 earliest-least [] date all = tt
@@ -34,7 +34,7 @@ earliest-place (place ∷ places) zero x e first =
 earliest-place (place ∷ places) (suc k) x e first =
     grind (arith, nat_tests, first zero, earliest-place places k x e (λ i z at. ((first (suc i) z at).0, λ before. (first (suc i) z at).1 (omega arith))))
 
--- the earliest, where its date has come
+-- the earliest, if its date has come
 abbrev due_only : ℕ → Option Dated → Option Dated
 due_only t None = None
 due_only t (Some x) = cond (nat_le x.date t) (Some x) None
@@ -47,7 +47,7 @@ first_due-earliest : (t : ℕ) (queue : List Dated) → first_due t queue ≡ du
 first_due-earliest t [] = refl
 first_due-earliest t (x ∷ queue) = due-step t x (earliest queue) (filter (is_due t) queue) (first_due-earliest t queue)
 
--- where the least date has come, the earliest is the first that is due; else none is due
+-- if the earliest date has come, the earliest is the first due; otherwise `first_due` is `None`
 pub first_due-come : (t : ℕ) (queue : List Dated) → HasCome t (next_date queue) → first_due t queue ≡ earliest queue
 first_due-come t queue come = grind (arith, nat_tests, first_due-earliest t queue)
 
@@ -67,7 +67,7 @@ next_date-entered (y ∷ queue) x =
     next_date-cons y (queue ++ x ∷ []) ∙ ap (sooner (Some y.date)) (next_date-entered queue x) ∙ sooner-assoc y.date x.date (next_date queue)
     ∙ sym (ap (λ (r : Option ℕ). sooner r (Some x.date)) (next_date-cons y queue))
 
--- there is no date where none waits, and only there
+-- the date is `None` only if the queue is empty
 pub next_date-none : (queue : List Dated) → next_date queue ≡ None → queue ≡ []
 next_date-none [] e = refl
 next_date-none (x ∷ queue) e = cc

@@ -9,7 +9,7 @@ pub entered-none : (places : List (Option Dated)) → ((i : ℕ) → get_or plac
 entered-none [] none = refl
 entered-none (place ∷ places) none = grind (arith, none zero, entered-none places (λ i. none (suc i)))
 
--- what stands before empty places
+-- the entries before a tail of empty places are all entries
 pub entered-before : (places : List (Option Dated)) (past : ℕ) → ((i : ℕ) → past ≤ i → get_or places i None ≡ None) →
     entered (take past places) ≡ entered places
 entered-before [] zero behind = refl
@@ -30,7 +30,7 @@ entered-push (place ∷ places) zero x h behind =
     rw (entered-none (place ∷ places) (λ i. behind i (omega arith)), entered-none places (λ i. behind (suc i) (omega arith))) refl
 entered-push (place ∷ places) (suc k) x h behind = grind (arith, entered-push places k x (omega arith) (λ i above. behind (suc i) (omega arith)))
 
--- a thread stands where it stands
+-- the thread of an occupied place occurs among the entries
 pub times-stands : (places : List (Option Dated)) (k : ℕ) (x : Dated) → get_or places k None ≡ Some x → 1 ≤ times x.thread (entered places)
 times-stands [] k x e = cc
 times-stands (place ∷ places) zero x e = grind (arith, nat_tests)
@@ -66,14 +66,14 @@ entered-moved (place ∷ places) (suc i) zero x e h gap =
 entered-moved (place ∷ places) (suc i) (suc end) x e h gap =
     grind (arith, entered-moved places i end x e (omega arith) (λ j from below. gap (suc j) (omega arith) (omega arith)))
 
--- what stands before the next place, with its entry where it has one
+-- the entries before the next place, followed by its entry if it has one
 pub entered-next : (places : List (Option Dated)) (i : ℕ) (place : Option Dated) → get_or places i None ≡ place → i < length places →
     entered (take (suc i) places) ≡ entered (take i places) ++ entered (place ∷ [])
 entered-next [] i place e below = absurd (omega arith)
 entered-next (first ∷ places) zero place e below = ap (λ (p : Option Dated). entered (p ∷ [])) e
 entered-next (first ∷ places) (suc i) place e below = grind (arith, entered-next places i place e (omega arith))
 
--- as many entries stand before the end of those that moved as before, and one more
+-- an entry that moves to the front adds one to those before the end
 pub entered-filled : (places : List (Option Dated)) (i front : ℕ) (x : Dated) → front ≤ i → i < length places →
     length (entered (take (suc front) (set (set places i None) front (Some x)))) ≡ suc (length (entered (take front places)))
 entered-filled [] i front x before below = absurd (omega arith)

@@ -1,4 +1,4 @@
--- What a release queue keeps, through each call.
+-- Properties of a release queue that each call keeps.
 use Rattle.std.proofs.Common.{◌≡◌, ℕ, zero, suc, ◌+◌, ◌^◌, ◌<◌, ◌≤◌, false, List, [], ◌∷◌, ◌++◌, length, get_or, set, Option, Some, None, refl, sym, ap, ◌∙◌, arith, get_or-set_other, length-set}
 use Rattle.std.specs.Prelude.{nat_lt}
 use Rattle.std.proofs.lemmas.Bool.Decides.{nat_tests}
@@ -26,7 +26,7 @@ IsKept-new places room empty wide few = record {
   few = few;
 }
 
--- where none waits, no place has a thread
+-- if no thread waits, no place has a thread
 pub entered-nil : (lone : Option Dated) (places : List (Option Dated)) → waiting lone places ≡ [] → entered places ≡ []
 entered-nil None places e = e
 entered-nil (Some x) places e = cc
@@ -82,7 +82,7 @@ module _ (soonest : Option ℕ) (lone : Option Dated) (places : List (Option Dat
         few = omega (arith, length-set places' place (Some x), wide, kept.few);
       }
 
--- an empty place stays so where one is emptied
+-- an empty place stays empty when another is emptied
 still : (places : List (Option Dated)) (k i : ℕ) → get_or places i None ≡ None → get_or (set places k None) i None ≡ None
 still places k i e = grind (arith, common_steps, get_or_past (set places k None) i None)
 
@@ -141,7 +141,7 @@ pub same_value : (queue queue' : List Dated) (room room' : ℕ) → queue ≡ qu
     old ≡ new
 same_value queue queue' room room' e f = cc
 
--- a lone one in the first place is all that waits, and all places behind it are empty
+-- a lone thread moved to the first place is all that waits, and all later places are empty
 pub entered-lone : (lone : Option Dated) (x : Dated) (places : List (Option Dated)) → IsAlone lone places → lone ≡ Some x → 0 < length places →
     entered (set places 0 (Some x)) ≡ waiting lone places
 entered-lone None x places alone e room = cc

@@ -23,7 +23,7 @@ earliest-first date (x ∷ xs) all =
     let earliest = earliest-date date xs (All-tail Has x xs all) in
     grind (arith, nat_tests)
 
--- the first that is due stands in the queue
+-- the first due thread is in the queue
 first-stands : (t : ℕ) (queue : List Dated) (x : Dated) → slice_get (filter (is_due t) queue) 0 ≡ Some x → (k : ℕ) × (k < length queue) × (get_or queue k x ≡ x)
 first-stands t [] x e = cc
 first-stands t (y ∷ queue) x e = elim (cases_Bool (is_due t y)) [

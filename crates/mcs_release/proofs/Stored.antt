@@ -77,7 +77,7 @@ module _ (numbers threads : List ℕ) (same : length numbers ≡ length threads)
     | inr past ↦ (let no = sym (place-empty place (get_or_past numbers place empty past)) ∙ e in cc)
   ]
 
-  -- where the least number is none, all places are empty
+  -- if the minimum is `empty`, all places are empty
   pub entered-least_none : least numbers ≡ empty → entered (places_of numbers threads) ≡ []
   entered-least_none e = entered-none (places_of numbers threads) (λ place. place-empty place (none place))
     where

@@ -39,7 +39,7 @@ times-stands : (x : ℕ) (ys : List Dated) → list_any (eqb x) (threads_of ys) 
 times-stands x [] e = cc
 times-stands x (y ∷ ys) e = grind (arith, nat_tests, times-stands x ys)
 
--- entries of different threads below the number that there is room for are no more than that
+-- distinct threads below `room` are at most `room` entries
 pub length-le-room : (xs : List Dated) (room : ℕ) → ((x : ℕ) → times x xs ≤ one_if (nat_lt x room)) → length xs ≤ room
 length-le-room xs room once =
     omega (arith, length-map xs (λ (x : Dated). x.thread), length-le_from_distinct_below (threads_of xs) room (distinct xs at_most) below)

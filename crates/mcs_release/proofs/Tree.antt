@@ -1,11 +1,12 @@
--- A tree of least numbers: its root is the least of all, and a number that changes changes the nodes on its way to the root alone.
+-- A tree of minima: its root is the minimum of all, and a change of a number changes only the nodes
+-- on its way to the root.
 use Rattle.std.proofs.Common.{◌≡◌, ℕ, zero, suc, ◌+◌, ◌-◌, ◌*◌, ◌/◌, ◌<◌, ◌≤◌, ◌≢◌, List, [], ◌∷◌, length, get_or, set, refl, sym, ap, ◌∙◌, inl, inr, arith, get_or-set_other, length-set, min}
 use Rattle.std.proofs.lemmas.Bool.{cases_eq, cases_lt}
 use Rattle.std.proofs.lemmas.Grind.{common_steps}
 use Rattle.std.proofs.lemmas.List.{get_or-drop, get_or_past, drop-set-lt, drop-set-add, length-drop}
 use Rattle.mcs_release.specs.stored.Least.{empty, leaves, least, least_child, IsLeast}
 
--- the least is no more than any, and is one of them
+-- the minimum is at most each number, and is one of them
 pub least-lower : (xs : List ℕ) (i : ℕ) → least xs ≤ get_or xs i empty
 least-lower [] i = omega arith
 least-lower (x ∷ xs) zero = omega arith
@@ -37,7 +38,7 @@ module _ (inner : ℕ) (nodes : List ℕ) (tree : IsLeast inner nodes) where
     | inr ne ↦ omega (arith, child-least nodes node, tree.each (node / 4 + 2) (omega arith) (omega arith), root-lower n (node / 4 + 2) (omega arith) (omega arith) (omega arith))
   ]
 
-  -- .. and none is less than the least of the numbers of all places
+  -- .. and every node is at least the minimum of the numbers of all places
   leaves-lower : (n node : ℕ) → 4 * inner + 4 ≤ node + n → 3 ≤ node → least (leaves inner nodes) ≤ get_or nodes node empty
   leaves-lower zero node few from = omega (arith, get_or_past nodes node empty (omega (arith, tree.size)), least-le-empty (leaves inner nodes))
   leaves-lower (suc n) node few from =
@@ -61,7 +62,7 @@ module _ (inner : ℕ) (nodes : List ℕ) (tree : IsLeast inner nodes) where
         | inr none ↦ omega (arith, lower)
       ]
 
--- a node changes: the least of the children of any other than its parent is as it was
+-- if a node changes, the minimum of children changes only at its parent
 child-other : (nodes : List ℕ) (j p x : ℕ) → 3 ≤ p → p ≢ j / 4 + 2 → least_child (set nodes j x) p ≡ least_child nodes p
 child-other nodes j p x inner apart = grind (arith, common_steps)
 
@@ -70,7 +71,8 @@ child-lowered : (nodes : List ℕ) (j p x : ℕ) → 3 ≤ p → p ≡ j / 4 + 2
     least_child (set nodes j x) p ≡ min (least_child nodes p) x
 child-lowered nodes j p x inner parent within less = grind (arith, common_steps)
 
--- the number of a place was lowered, and each node from it up to this one: only the parent of this one may be too great
+-- the number of a place was lowered, and each node from it up to this one: only the parent of this
+-- one may be too great
 pub record IsRising (inner : ℕ) (start nodes : List ℕ) (place node number : ℕ) : Type 0 where
   pub size : length nodes ≡ 4 * inner + 4
   pub low : 3 ≤ node
@@ -124,8 +126,8 @@ module _ (inner : ℕ) (start nodes : List ℕ) (place node number : ℕ) (risin
     placed = drop-set-lt (inner + 3) nodes (node / 4 + 2) number (omega (arith, rising.high)) ∙ rising.placed;
   }
 
--- the number of a place was taken away, and each node from it up to this one made the least of its children again: the parent of this
--- one may be too little
+-- the place was emptied, and each node from it up to this one is the minimum of its children again:
+-- only the parent of this one may be too small
 pub record IsClearing (inner : ℕ) (start nodes : List ℕ) (place node : ℕ) : Type 0 where
   pub size : length nodes ≡ 4 * inner + 4
   pub low : 3 ≤ node

@@ -1,12 +1,13 @@
-//! Trees of least numbers over places, in one list. The children of a node stand together, so that the root is node 3, the parent of
-//! node `j` is `j / 4 + 2`, and nodes 0 to 2 are not used. Behind the inner nodes stand the numbers of the places.
+//! Trees of minima over places, each stored in one list. The four children of a node are adjacent,
+//! so the root is node 3, the parent of node `j` is `j / 4 + 2`, and nodes 0 to 2 are unused. The
+//! numbers of the places follow the inner nodes.
 ghost use Rattle.std.specs.Prelude.{◌≡◌, ◌+◌, ◌-◌, ◌*◌, ◌≤◌, length, slice_index_or, slice_set};
 ghost use Rattle.mcs_release.specs.stored.Least.{empty, leaves, least_child, IsLeast};
 
 /// The root of each tree.
 pub(crate) const ROOT: usize = 3;
 
-/// What a place has that has no number: more than any number.
+/// The number of an empty place, above every other number.
 pub(crate) const EMPTY: u64 = u64::MAX;
 
 /// Lowers the number of a place.
@@ -28,7 +29,7 @@ pub(crate) fn lower(nodes: &mut [u64], inner: usize, place: usize, number: u64)
     }
 }
 
-/// Takes the number of a place away.
+/// Empties a place.
 pub(crate) fn clear(nodes: &mut [u64], inner: usize, place: usize)
     requires tree { IsLeast inner nodes.old }
     requires within { place ≤ 3 * inner }
@@ -43,7 +44,7 @@ pub(crate) fn clear(nodes: &mut [u64], inner: usize, place: usize)
     }
 }
 
-/// Makes each inner node the least of its children again, after numbers of places were changed.
+/// Recomputes every inner node as the minimum of its children, after numbers of places changed.
 pub(crate) fn rebuild(nodes: &mut [u64], inner: usize)
     requires { length nodes.old ≡ 4 * inner + 4 }
     ensures tree { IsLeast inner nodes.new }
@@ -55,7 +56,7 @@ pub(crate) fn rebuild(nodes: &mut [u64], inner: usize)
     }
 }
 
-/// The least of the four children of an inner node.
+/// Returns the minimum of the four children of an inner node.
 #[inline(always)]
 fn least_child(nodes: &[u64], node: usize) -> u64
     requires inner { 3 ≤ node }

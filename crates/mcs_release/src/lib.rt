@@ -1,5 +1,6 @@
-//! Release queues of one core, after the seL4 Reference Manual: threads that wait for a date, each with the date from which it may
-//! leave. They leave by date, and at one date in the order in which they entered. No call but `new` and `list` takes memory.
+//! Release queues of one core, after the seL4 Reference Manual: threads that wait for a date, each
+//! with the date from which it may leave. They leave by date, and at equal dates in the order in
+//! which they entered. Only `new` and `list` allocate memory.
 #![tactic(auto)]
 
 mod dated;

@@ -9,17 +9,19 @@ use mcs_ticks::{NoMemory, ThreadId, Tick};
 use std::alloc::Global;
 use std::marker::Model;
 
-/// There are no more places than this.
+/// Maximum number of places.
 const PLACES: u64 = 1 << 21;
 
-/// Places for threads that wait, each empty or with a thread and its date. Contracts see them in their order.
+/// Places for waiting threads, each empty or with a thread and its date. Contracts see them in
+/// their order.
 #[derive(Debug, Drop)]
 pub(crate) struct Places {
-    /// the thread of each place, where it is not empty
+    /// the thread of each place that is not empty
     threads: Vec<ThreadId>,
-    /// a tree of least numbers over the places, whose root is that of the thread of least date and then of least place
+    /// a tree of minima over the places; its root is the number of the thread with the earliest
+    /// date, and at equal dates the first place
     nodes: Vec<u64>,
-    /// how many of these nodes are inner ones
+    /// the number of inner nodes
     inner: usize,
 }
 
@@ -38,7 +40,7 @@ impl Model for Places {
 }
 
 impl Places {
-    /// At least so many places, all empty.
+    /// Returns at least `wanted` places, all empty.
     pub(crate) fn new(alloc: Global, wanted: usize) -> Result<Self, NoMemory>
         requires few { wanted + 4 ≤ 2 ^ 21 }
         ensures empty { IfOk result (λ places. AreEmptyFrom 0 places) }
@@ -55,7 +57,7 @@ impl Places {
         })
     }
 
-    /// How many places there are.
+    /// Returns the number of places.
     #[inline(always)]
     pub(crate) fn len(&self) -> usize
         ensures { result ≡ length self.now }
@@ -63,7 +65,7 @@ impl Places {
         self.threads.len()
     }
 
-    /// The least date, or None where all places are empty.
+    /// Returns the earliest date, or `None` if all places are empty.
     #[inline(always)]
     pub(crate) fn first_date(&self) -> Option<Tick>
         ensures { result ≡ next_date (entered self.now) }
@@ -71,14 +73,15 @@ impl Places {
         date_of(self.nodes[ROOT])
     }
 
-    /// The threads in the order of their places, each with its date.
+    /// Returns the threads in the order of their places, each with its date.
     pub(crate) fn list(&self, alloc: Global) -> Result<Vec<Dated>, NoMemory>
         ensures { IfOk result (λ list. list.items ≡ entered self.now) }
     {
         entries(alloc, &self.nodes[self.inner + ROOT..], &self.threads)
     }
 
-    /// Takes the thread of least date, and of several with that date the one in the first of their places. There is one.
+    /// Takes the thread with the earliest date; at equal dates, the one in the first place. The
+    /// caller ensures that there is one.
     #[inline(always)]
     pub(crate) fn take_first(&mut self) -> ThreadId
         requires { IsSome (earliest (entered self.old)) }
@@ -100,7 +103,7 @@ impl Places {
         lower(&mut self.nodes, self.inner, place, key(entry.date, place));
     }
 
-    /// Moves all to the front in their order, and answers how many there are.
+    /// Moves all entries to the front in their order, and returns their number.
     #[inline(never)]
     pub(crate) fn close_up(&mut self) -> usize
         ensures entered { entered self.new ≡ entered self.old }
@@ -114,7 +117,7 @@ impl Places {
     }
 }
 
-/// The number of a thread in this place that waits for this date.
+/// Returns the number of a thread in this place that waits for this date.
 #[inline(always)]
 fn key(date: Tick, place: usize) -> u64
     requires { place < 2 ^ 21 }
@@ -124,7 +127,7 @@ fn key(date: Tick, place: usize) -> u64
     date.get() * PLACES + place as u64
 }
 
-/// The date of such a number, or None for that of an empty place.
+/// Returns the date of such a number, or `None` for the number of an empty place.
 #[inline(always)]
 fn date_of(number: u64) -> Option<Tick>
     ensures { result ≡ date_of number }
@@ -132,7 +135,7 @@ fn date_of(number: u64) -> Option<Tick>
     Tick::new(number / PLACES)
 }
 
-/// The entries of places with these numbers and threads, in their order.
+/// Returns the entries of places with these numbers and threads, in order.
 fn entries(alloc: Global, numbers: &[u64], threads: &[ThreadId]) -> Result<Vec<Dated>, NoMemory>
     requires { length numbers.now ≡ length threads.now }
     ensures { IfOk result (λ list. list.items ≡ entered (places_of numbers.now threads.now)) }
@@ -149,8 +152,8 @@ fn entries(alloc: Global, numbers: &[u64], threads: &[ThreadId]) -> Result<Vec<D
     Ok(list)
 }
 
-/// Moves the threads and the numbers of all to the front in their order, and answers how many there are. The inner nodes stay as
-/// they are.
+/// Moves the threads and their numbers to the front in order, and returns how many there are. The
+/// inner nodes do not change.
 fn move_to_front(nodes: &mut [u64], threads: &mut [ThreadId], inner: usize) -> usize
     requires numbered { AreOfPlaces (leaves inner nodes.old) }
     requires size { length nodes.old ≡ 4 * inner + 4 }

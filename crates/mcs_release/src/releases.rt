@@ -8,23 +8,24 @@ use mcs_ticks::{NoMemory, Soonest, ThreadId, Tick};
 use std::alloc::Global;
 use std::marker::Model;
 
-/// No more threads than this have places.
+/// Maximum number of threads of a queue.
 const MOST: usize = 1 << 20;
 
-/// So many places there are beyond five for each four threads.
+/// Places beyond five for each four threads.
 const MORE: usize = 34;
 
-/// The threads of one core that wait for a date, each with its date. Contracts see them in the order in which they entered, and
-/// `room`, the number of threads that there is room for.
+/// The threads of one core that wait for a date, each with its date. Contracts see them in the
+/// order in which they entered, and `room`, the number of threads that fit.
 #[derive(Debug, Drop)]
 pub struct Releases {
-    /// the least date of all
+    /// the earliest date of all
     soonest: Soonest,
-    /// the only one, where it came when there was none: so all places stay empty where one thread waits
+    /// the only thread, if it entered an empty queue; it gets a place when a second one enters
     lone: Option<Dated>,
-    /// else all, in the order in which they entered; the place of one that has left is empty
+    /// otherwise all threads, in the order in which they entered; the place of a thread that left
+    /// is empty
     places: Places,
-    /// the place of the next thread that enters, behind all that are held
+    /// the place of the next thread that enters, after all held threads
     end: usize,
     room: usize,
 }
@@ -42,8 +43,9 @@ impl Model for Releases {
 }
 
 impl Releases {
-    /// No thread, with room for the threads 0 to `threads` less one. NoMemory where there was no memory for them, or they are more
-    /// than 2^20; no later call but `list` takes any.
+    /// Returns an empty queue with room for the threads numbered below `threads`. Fails with
+    /// `NoMemory` if the allocation fails or if `threads` exceeds 2^20. Only `list` allocates
+    /// later.
     pub fn new(alloc: Global, threads: usize) -> Result<Self, NoMemory>
         ensures { IfOk result (λ releases. releases ≡ record { queue = []; room = threads }) }
     {
@@ -60,7 +62,7 @@ impl Releases {
         })
     }
 
-    /// The least date of the threads that are held, or None where none is.
+    /// Returns the earliest date of the held threads, or `None` if the queue is empty.
     #[inline(always)]
     pub fn next(&self) -> Option<Tick>
         ensures { result ≡ next_date self.now.queue }
@@ -68,7 +70,7 @@ impl Releases {
         self.soonest.moment()
     }
 
-    /// The least date of the threads that are held, or never where none is.
+    /// Returns the earliest date of the held threads, or never if the queue is empty.
     #[inline(always)]
     pub fn soonest(&self) -> Soonest
         ensures { result ≡ next_date self.now.queue }
@@ -76,7 +78,8 @@ impl Releases {
         self.soonest
     }
 
-    /// The threads that wait, each with its date, in the order in which they entered. NoMemory where the list is refused.
+    /// Returns the waiting threads with their dates, in the order in which they entered. Fails with
+    /// `NoMemory` if the list cannot be allocated.
     pub fn list(&self, alloc: Global) -> Result<Vec<Dated>, NoMemory>
         ensures { IfOk result (λ list. list.items ≡ self.now.queue) }
     {
@@ -88,7 +91,8 @@ impl Releases {
         self.places.list(alloc)
     }
 
-    /// Takes the thread of least date, of those with date at most `t`, and of several with that date the one that entered first.
+    /// Takes the thread with the earliest date, if that is at most `t`; at equal dates, the one
+    /// that entered first.
     #[inline(always)]
     pub fn pop_due(&mut self, t: Tick) -> Option<ThreadId>
         ensures first { result ≡ thread_of (first_due t self.old.queue) }
@@ -100,7 +104,8 @@ impl Releases {
         Some(self.take_first())
     }
 
-    /// Takes the thread of least date, and of several with that date the one that entered first. There is one.
+    /// Takes the thread with the earliest date; at equal dates, the one that entered first. The
+    /// caller ensures that there is one.
     #[inline(always)]
     fn take_first(&mut self) -> ThreadId
         requires { IsSome (earliest self.old.queue) }
@@ -117,7 +122,7 @@ impl Releases {
         thread
     }
 
-    /// Enters `x` with the date `at`. The thread is below the number that there is room for, and is not held.
+    /// Enters `x` with the date `at`. The caller ensures that `x` is below `room` and is not held.
     #[inline(always)]
     pub fn enter(&mut self, x: ThreadId, at: Tick)
         requires below { x < self.old.room }
@@ -151,8 +156,9 @@ impl Releases {
     }
 }
 
-/// An empty place behind all: the lone one, if any, gets the first place, and where the last place is taken, all move to the front.
-/// By then, since the last time, the threads of at least a fifth of the places have left.
+/// Returns an empty place after all taken ones. A lone thread first moves to place 0. If the last
+/// place is taken, all threads move to the front; since the last such move, the threads of at least
+/// a fifth of the places have left.
 #[inline(always)]
 fn place_behind(places: &mut Places, lone: &mut Option<Dated>, end: usize) -> usize
     requires alone { IsAlone lone.old places.old }
@@ -175,7 +181,7 @@ fn place_behind(places: &mut Places, lone: &mut Option<Dated>, end: usize) -> us
     places.close_up()
 }
 
-/// A fact of every release queue: no thread is held twice, and each has a number that there is room for.
+/// Law of every release queue: no thread is held twice, and each number is below `room`.
 pub fn held_once(releases: &Releases)
     ensures distinct { AreDistinct releases.now.queue }
     ensures below { AreBelow releases.now.room releases.now.queue }

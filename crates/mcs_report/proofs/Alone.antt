@@ -1,4 +1,4 @@
--- What a row does to the accounts, it does to each account alone.
+-- A row changes each account alone.
 use Rattle.std.proofs.Common.{◌≡◌, ℕ, suc, zero, ◌+◌, ◌<◌, Option, if◌then◌else◌, ◌==◌, List, [], ◌∷◌, get_or, set, fold, refl, sym, ap, ◌∙◌, arith}
 use Rattle.std.proofs.lemmas.Bool.Decides.{nat_tests}
 use Rattle.mcs_ticks.specs.declared.row.Row.{Row}

@@ -1,4 +1,4 @@
--- What a thread in bandwidth mode runs in a schedule, in any stretch of a period.
+-- How long a thread in bandwidth mode runs in a schedule, in any interval of one period.
 use Rattle.std.proofs.Common.{◌≡◌, ℕ, zero, suc, ◌+◌, ◌≤◌, cond, inl, inr, List, [], ◌∷◌, map, min, sym, ap, ◌∙◌, append-nil, arith}
 use Rattle.std.specs.Prelude.{flat_map, nat_le, sum}
 use Rattle.std.proofs.lemmas.Bool.{cases_lt, le-leb, lt-leb}

@@ -28,7 +28,7 @@ use Rattle.mcs_report.proofs.Rounds.{ends_round, roundless, turn-roundless}
 
 -- folding over the parts of a range, in order
 module _ {A B : Type 0} (f : B → A → B) (g : ℕ → List A) where
-  -- where no part changes anything
+  -- if no part changes anything
   fold-silent : (n a : ℕ) → ((c : ℕ) → a ≤ c → c < a + n → (b : B) → fold f b (g c) ≡ b) → (b : B) → fold f b (flat_map g (range_with_len a n)) ≡ b
   fold-silent zero a silent b = refl
   fold-silent (suc n) a silent b =
@@ -36,7 +36,7 @@ module _ {A B : Type 0} (f : B → A → B) (g : ℕ → List A) where
       ∙ ap (λ d. fold f d (flat_map g (range_with_len (a + 1) n))) (silent a (omega arith) (omega arith) b)
       ∙ fold-silent n (a + 1) (λ c l m. silent c (omega arith) (omega arith)) b
 
-  -- where one part alone does
+  -- if one part alone does
   fold-one : (home n a : ℕ) → a ≤ home → home < a + n → ((c : ℕ) → a ≤ c → c < a + n → c ≢ home → (b : B) → fold f b (g c) ≡ b)
       → (b : B) → fold f b (flat_map g (range_with_len a n)) ≡ fold f b (g home)
   fold-one home zero a l m silent b = absurd (omega arith)

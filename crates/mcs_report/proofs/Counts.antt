@@ -1,4 +1,4 @@
--- What the rows say of one thread, but for the ticks that it ran.
+-- The rows of one thread, except for the ticks that it ran.
 use Rattle.std.proofs.Common.{◌≡◌, ℕ, ◌+◌, ◌-◌, ◌≤◌, ◌^◌, min, max, cond, if◌then◌else◌, ◌==◌, List, [], ◌∷◌, ◌++◌, length, fold, sum, count_by, length-append, sym, ap, subst, ◌∙◌, arith}
 use Rattle.std.proofs.lemmas.Bool.Decides.{nat_tests}
 use Rattle.std.proofs.lemmas.List.Sums.{fold-append, sum_by-cons, sum_by-append}

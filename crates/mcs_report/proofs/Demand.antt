@@ -1,4 +1,4 @@
--- What a thread runs in a schedule is bounded, and its report says no more.
+-- A bound on how long a thread runs in a schedule, also in its report.
 use Rattle.std.proofs.Common.{◌≡◌, ℕ, zero, suc, ◌+◌, ◌<◌, List, [], ◌∷◌, length, get_or, ap, arith}
 use Rattle.mcs_ticks.specs.declared.row.Row.{Row}
 use Rattle.mcs_system.specs.declared.part.ThreadPart.{ThreadPart}

@@ -15,7 +15,7 @@ use Rattle.mcs_report.specs.Places.{is_on, threads_on, place_of, place_on}
 use Rattle.mcs_report.specs.stored.Places.{home_in, AreHomes}
 use Rattle.mcs_laws.proofs.Homes.{core_of_context}
 
--- how many of the first ones pass a test, and what stands behind them among all that pass it
+-- how many of the first ones pass a test, and what follows them among all that pass it
 module _ {A : Type 0} (p : A → Bool) where
   count-cons : (x : A) (xs : List A) → count_by p (x ∷ xs) ≡ cond (p x) 1 0 + count_by p xs
   count-cons x xs = sum_by-cons (λ y. cond (p y) 1 0) x xs

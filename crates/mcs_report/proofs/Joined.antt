@@ -8,7 +8,7 @@ use Rattle.mcs_report.specs.declared.account.Account.{Account}
 use Rattle.mcs_report.specs.Tally.{no_account}
 
 module _ (account : ℕ → Account) where
-  -- the first n accounts stand in their places
+  -- the first n accounts are in place
   pub record ArePut (accounts : List Account) (n : ℕ) : Type 0 where
     pub each : (k : ℕ) → k < n → get_or accounts k no_account ≡ account k
 

@@ -51,7 +51,7 @@ module _ (x : ℕ) where
       let first = part item k in
       rw (roundless-append first.rows (each part items first.core).rows, h item k) (each-roundless part h items first.core)
 
-  -- a thread that waits on nothing is not woken
+  -- a thread that waits on no note is not woken
   another : (y word badge note : ℕ) (k : Core) → places x k ≡ 0 → posted badge (note_of k note) ≡ Woke y word → (y == x) ≡ false
   another y word badge note k none e =
       grind (arith, nat_tests, woke y word badge (note_of k note).word (note_of k note).waiters e, set-waiting x k.notes note quiet_note)

@@ -1,4 +1,4 @@
--- The ticks that a thread ran, where each run is stopped before the next one.
+-- The ticks that a thread ran, if each run is stopped before the next one.
 use Rattle.std.proofs.Common.{◌≡◌, ℕ, ◌+◌, ◌-◌, true, false, cond, List, [], ◌∷◌, ◌++◌, fold, sum, Option, Some, None, refl, ap, ◌∙◌, arith}
 use Rattle.std.proofs.lemmas.List.Sums.{sum_by-cons}
 use Rattle.mcs_ticks.specs.declared.row.Row.{Row}
@@ -67,7 +67,7 @@ abbrev pub IsOpen : ℕ → Option ℕ → List Row → Type 0
 IsOpen x None rows = Unit {0}
 IsOpen x (Some begin) rows = StopsFirst x rows
 
--- the length of each run, where a row begins one, and where none does
+-- the length of each run, if a row begins one, and if none does
 run_lengths-run : (h x : ℕ) (r : Row) (rows : List Row) → runs x r.what ≡ true
     → sum (run_lengths h x (r ∷ rows)) ≡ (next_stop h x rows - r.moment) + sum (run_lengths h x rows)
 run_lengths-run h x r rows e = rw e (sum_by-cons (λ y. y) (next_stop h x rows - r.moment) (run_lengths h x rows))

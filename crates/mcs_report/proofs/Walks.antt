@@ -38,7 +38,8 @@ module _ (x : ℕ) where
   abbrev pub after_row : What → Bool → Bool
   after_row what going = cond (runs x what) true (cond (stops x what) false going)
 
-  -- from whether the thread runs before the rows to whether it runs after them: it begins to run only where it does not run
+  -- from whether the thread runs before the rows to whether it runs after them: it begins to run
+  -- only if it does not run
   abbrev pub Walks : Bool → List What → Bool → Type 0
   Walks before [] last = before ≡ last
   Walks before (what ∷ rows) last = (runs x what ≡ true → before ≡ false) × Walks (after_row what before) rows last

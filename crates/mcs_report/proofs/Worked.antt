@@ -144,11 +144,12 @@ runs_three_ticks = refl
 may_run_four_ticks_by_six : demand_of depletes 0 6 ≡ 4
 may_run_four_ticks_by_six = refl
 
--- a whole slice for each period is every tick, and more where the last period has not ended
+-- a whole slice for each period is every tick, and more if the last period has not ended
 may_run_always : demand_of (one_core (context 4 4 ∷ []) (thread 0 5 1 0 (Compute 9 ∷ []) ∷ [])) 0 7 ≡ 8
 may_run_always = refl
 
--- an order to 4 of 10 at once lets the thread run more than 1 in 10: the tick at 0, and those from 7 on
+-- an order to 4 of 10 at once lets the thread run more than 1 in 10: the tick at 0, and those from
+-- 7 on
 abbrev raised : System
 raised =
     record (one_core (context 1 10 ∷ []) (thread 0 5 1 0 (Compute 20 ∷ []) ∷ [])) {
@@ -185,7 +186,8 @@ no_place_on_another_core = refl
 no_place_of_no_thread : place_on two_cores 0 3 ≡ None
 no_place_of_no_thread = refl
 
--- the rows of thread 2 are counted at its place, and those of thread 1, of another core, and of thread 3, which there is not, nowhere
+-- the rows of thread 2 are counted at its place, and those of thread 1, of another core, and of
+-- thread 3, which there is not, nowhere
 counts_its_own_threads :
     (core_tally_of
     two_cores
@@ -201,7 +203,7 @@ counts_its_own_threads :
     ≡ opened 1 0 ∷ record (opened 1 9) { report = report 3 1 4 4 4 0 0 0 0 } ∷ []
 counts_its_own_threads = refl
 
--- each core counts the rows of its own turns, and together they report the schedule
+-- each core counts the rows of its turns, and together they report the schedule
 abbrev tallies_by_core : List CoreTally
 tallies_by_core =
     core_tally_of two_cores 0 6 (rows_within two_cores 0 0 7) ∷ core_tally_of two_cores 1 6 (rows_within two_cores 1 0 7) ∷ []

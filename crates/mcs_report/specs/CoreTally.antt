@@ -1,4 +1,4 @@
--- A tally of the rows of one core: the accounts of that core's threads alone.
+-- A tally of one core's rows: the accounts of that core's threads only.
 use Rattle.std.specs.Prelude.{◌≡◌, ℕ, Bool, true, List, [], map, fold, get_or, length}
 use Rattle.std.specs.List.{range_with_len}
 use Rattle.mcs_ticks.specs.declared.row.Row.{Row}
@@ -7,7 +7,7 @@ use Rattle.mcs_report.specs.declared.account.Account.{Account}
 use Rattle.mcs_report.specs.Tally.{Tally, opened, no_account, told_at}
 use Rattle.mcs_report.specs.Places.{threads_on, place_of, place_on}
 
--- what is counted of each thread of a core, in their order
+-- the counts of each thread of a core, in order
 pub record CoreTally : Type 0 where
   pub system : System
   pub core : ℕ
@@ -27,35 +27,35 @@ opened_core_tally system c horizon =
       accounts = opened_on system c;
     }
 
--- one row more
+-- a further row
 abbrev pub core_added : CoreTally → Row → CoreTally
 core_added tally r =
     record tally {
       accounts = told_at (place_on tally.system tally.core) tally.horizon r.moment r.what tally.accounts;
     }
 
--- how a tally of a core takes a row: it counts it if it is of one of its threads, and refuses none
+-- how a core's tally takes a row: it counts it if it is of one of its threads, and refuses none
 abbrev pub CoreCounts : CoreTally → Row → Bool → CoreTally → Type 0
 CoreCounts before row taken after = (taken ≡ true) × (after ≡ core_added before row)
 
--- the tally of core c of these rows
+-- the tally of core c for these rows
 abbrev pub core_tally_of : System → ℕ → ℕ → List Row → CoreTally
 core_tally_of system c horizon rows = fold core_added (opened_core_tally system c horizon) rows
 
--- these are the rows that it was told
+-- the rows that the tally was given
 abbrev pub HoldsRows : CoreTally → List Row → Type 0
 HoldsRows tally rows = tally ≡ core_tally_of tally.system tally.core tally.horizon rows
 
--- the accounts of core c stand in its tally
+-- the accounts of core c are in its tally
 abbrev pub accounts_of : List CoreTally → ℕ → List Account
 accounts_of tallies c = get_or (map (λ tally. tally.accounts) tallies) c []
 
--- and that of a thread among them, at its place
+-- the account of a thread among them, at its index
 abbrev pub account_of : System → List CoreTally → ℕ → Account
 account_of system tallies thread =
     get_or (accounts_of tallies (core_of system (thread_part system thread))) (place_of system thread) no_account
 
--- the tallies of all cores put together
+-- the tallies of all cores joined
 abbrev pub joined : System → ℕ → List CoreTally → Tally
 joined system horizon tallies =
     record {

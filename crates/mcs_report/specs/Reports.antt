@@ -12,17 +12,17 @@ use Rattle.mcs_report.specs.declared.reports.ThreadReport.{ThreadReport}
 use Rattle.mcs_report.specs.declared.reports.CoreReport.{CoreReport}
 use Rattle.mcs_report.specs.declared.reports.Reports.{Reports}
 
--- whether this says that the thread begins to run
+-- whether this row starts a run of the thread
 abbrev pub runs : ℕ → What → Bool
 runs thread (row.Run x) = x == thread
 runs thread _ = false
 
--- whether this says that the thread stops
+-- whether this row stops the thread
 abbrev pub stops : ℕ → What → Bool
 stops thread (row.Stop x cause charged until) = x == thread
 stops thread _ = false
 
--- the moment of the thread's next stop, or the horizon
+-- the time of the thread's next stop, or the horizon
 abbrev pub next_stop : ℕ → ℕ → List Row → ℕ
 next_stop horizon thread [] = horizon
 next_stop horizon thread (r ∷ rows) = if stops thread r.what then r.moment else next_stop horizon thread rows
@@ -38,20 +38,21 @@ abbrev pub response_in : ℕ → What → List ℕ
 response_in thread (row.Round x number response) = if x == thread then response ∷ [] else []
 response_in thread _ = []
 
--- the responses of the thread's rounds
+-- the response times of the thread's jobs
 abbrev pub responses : ℕ → List Row → List ℕ
 responses thread rows = flat_map (λ r. response_in thread r.what) rows
 
--- whether a response is above the deadline; deadline 0 is none
+-- whether a response time exceeds the deadline. Deadline 0 means none.
 abbrev pub is_late : ℕ → ℕ → Bool
 is_late deadline response = not (deadline == 0) && nat_lt deadline response
 
--- whether this says that the thread stops because its head is spent
+-- whether this row stops the thread because its head is exhausted
 abbrev pub is_spent : ℕ → What → Bool
 is_spent thread (row.Stop x why.Spent charged until) = x == thread
 is_spent thread _ = false
 
--- the ticks from the moment until the date with which a thread waits, or up to the horizon; none where it doesn't wait
+-- ticks from this time until the date for which a thread waits, or the horizon. 0 if it doesn't
+-- wait.
 abbrev pub wait_until : ℕ → ℕ → Option ℕ → ℕ
 wait_until horizon moment None = 0
 wait_until horizon moment (Some until) = min until horizon - moment
@@ -61,15 +62,15 @@ wait_in horizon thread moment (row.Stop x why.Spent charged (Some until)) =
     if x == thread then wait_until horizon moment (Some until) ∷ [] else []
 wait_in horizon thread moment _ = []
 
--- how long the thread waited after each stop with a spent head, up to the horizon
+-- how long the thread waited after each stop with an exhausted head, up to the horizon
 abbrev pub waits : ℕ → ℕ → List Row → List ℕ
 waits horizon thread rows = flat_map (λ r. wait_in horizon thread r.moment r.what) rows
 
--- 0 where there is none
+-- 0 if there is none
 abbrev pub greatest : List ℕ → ℕ
 greatest xs = fold max 0 xs
 
--- 0 where there is none
+-- 0 if there is none
 abbrev pub least : List ℕ → ℕ
 least [] = 0
 least (x ∷ xs) = fold min x xs
@@ -93,13 +94,13 @@ thread_reports horizon rows number [] = []
 thread_reports horizon rows number (thread ∷ threads) =
     thread_report horizon rows number thread.deadline ∷ thread_reports horizon rows (suc number) threads
 
--- what the threads of core c ran, each
+-- the ticks that each thread of core c ran
 abbrev pub ran_on : System → ℕ → List ThreadPart → List ThreadReport → List ℕ
 ran_on system c (thread ∷ threads) (report ∷ reports) =
     if core_of system thread == c then report.ran ∷ ran_on system c threads reports else ran_on system c threads reports
 ran_on system c _ _ = []
 
--- a core is idle where none of its threads runs
+-- a core is idle while no thread of it runs
 abbrev pub core_report_of : ℕ → List ℕ → CoreReport
 core_report_of horizon ran = record { busy = capped (sum ran); idle = horizon - capped (sum ran) }
 

@@ -1,4 +1,4 @@
--- A tally of the rows so far: one step for each row, and the reports at the end.
+-- A tally of the rows so far: one step per row, and the reports at the end.
 use Rattle.std.specs.Prelude.{◌≡◌, ℕ, ◌+◌, ◌-◌, min, max, ◌==◌, if◌then◌else◌, Bool, true, List, map, filter, get_or, set, Option, Some, None}
 use Rattle.std.specs.List.{range_with_len}
 use Rattle.mcs_ticks.specs.declared.row.Row.{Row}
@@ -13,7 +13,7 @@ use Rattle.mcs_report.specs.declared.reports.Reports.{Reports}
 use Rattle.mcs_ticks.specs.Capped.{capped}
 use Rattle.mcs_report.specs.Reports.{is_late, wait_until, core_report_of}
 
--- what is counted of each thread, with its open run; the moment of the last row, at first 0
+-- the counts of each thread, with its open run, and the time of the last row, at first 0
 pub record Tally : Type 0 where
   pub horizon : ℕ
   pub cores : ℕ
@@ -37,7 +37,7 @@ no_report = record {
 abbrev pub opened : ℕ → ℕ → Account
 opened core deadline = record { core = core; deadline = deadline; since = None; report = no_report }
 
--- what stands past the last account; it is never reached
+-- the default beyond the last account, which is never used
 abbrev pub no_account : Account
 no_account = opened 0 0
 
@@ -57,7 +57,7 @@ ended moment account =
       report = record account.report { ran = capped (account.report.ran + ticks_since moment account.since) };
     }
 
--- the thread stops with a spent head and waits
+-- the thread stops with an exhausted head and waits
 abbrev pub waited : ℕ → Account → Account
 waited wait account =
     record account {
@@ -73,7 +73,7 @@ abbrev pub stopped : ℕ → ℕ → Why → Option ℕ → Account → Account
 stopped horizon moment why.Spent until account = waited (wait_until horizon moment until) (ended moment account)
 stopped horizon moment cause until account = ended moment account
 
--- a round of the thread ends
+-- a job of the thread ends
 abbrev pub responded : ℕ → Account → Account
 responded response account =
     record account {
@@ -97,12 +97,12 @@ told horizon moment (row.Stop x cause charged until) accounts = changed x (stopp
 told horizon moment (row.Round x number response) accounts = changed x (responded response) accounts
 told horizon moment _ accounts = accounts
 
--- the account at this place changes; with no place, none does
+-- the account at this index changes; without an index none does
 abbrev pub changed_at : Option ℕ → (Account → Account) → List Account → List Account
 changed_at None change accounts = accounts
 changed_at (Some place) change accounts = changed place change accounts
 
--- as `told`, where the account of a thread stands at a place of its own, or isn't there
+-- as `told`, if the account of a thread is at a given index, or isn't there
 abbrev pub told_at : (ℕ → Option ℕ) → ℕ → ℕ → What → List Account → List Account
 told_at place horizon moment (row.Run x) accounts = changed_at (place x) (begun moment) accounts
 told_at place horizon moment (row.Stop x cause charged until) accounts =
@@ -120,7 +120,7 @@ opened_tally system horizon =
       accounts = map (λ thread. opened (core_of system thread) thread.deadline) system.threads;
     }
 
--- one row more
+-- a further row
 abbrev pub added : Tally → Row → Tally
 added tally r =
     record tally {
@@ -132,11 +132,11 @@ added tally r =
 abbrev pub Counts : Tally → Row → Bool → Tally → Type 0
 Counts before row taken after = (taken ≡ true) × (after ≡ added before row)
 
--- the report of a thread at the horizon, where its open run ends
+-- the report of a thread at the horizon, at which its open run ends
 abbrev pub report_at : ℕ → Account → ThreadReport
 report_at horizon account = (ended horizon account).report
 
--- what the threads of core c ran, each
+-- the ticks that each thread of core c ran
 abbrev pub ran_by : ℕ → List Account → ℕ → List ℕ
 ran_by horizon accounts c =
     map (λ account. (report_at horizon account).ran) (filter (λ account. account.core == c) accounts)

@@ -1,3 +1,4 @@
+//! The running counts of one thread.
 ghost use Rattle.std.specs.Prelude.{◌≡◌};
 ghost use Rattle.mcs_report.specs.Reports.{is_late, wait_until};
 ghost use Rattle.mcs_report.specs.Tally.{opened, begun, ended, waited, stopped, responded, ticks_since, report_at};
@@ -5,7 +6,7 @@ ghost use Rattle.mcs_report.specs.Tally.{opened, begun, ended, waited, stopped, 
 use crate::ThreadReport;
 use mcs_ticks::{CoreId, Tick, Why};
 
-/// What is counted of a thread so far, and the moment at which its open run began.
+/// The counts of a thread so far, and the start of its open run.
 #[derive(Clone, Copy, Debug, PartialEq, Eq)]
 pub(crate) struct Account {
     pub core: CoreId,

@@ -1,3 +1,4 @@
+//! The tally of one core's rows.
 ghost use Rattle.std.specs.Prelude.{◌≡◌, ◌↔◌, map, get_or, IfOk, IsTrue};
 ghost use Rattle.std.specs.Arc.{arc_value};
 ghost use Rattle.std.specs.List.{range_with_len};
@@ -14,8 +15,9 @@ use std::alloc::Global;
 use std::marker::Model;
 use std::sync::Arc;
 
-/// What is counted of the rows of one core so far, with accounts of that core's threads alone. Rows are added one by one, each in constant
-/// time and without memory. Contracts see the system, the core, the horizon and the accounts of the core's threads in their order.
+/// The counts of one core's rows so far: one account per thread of that core. Rows are added one by
+/// one, each in constant time and without memory. Contracts see the system, the core, the horizon
+/// and the accounts in order.
 #[derive(Drop)]
 pub struct CoreTally {
     own: Own,
@@ -36,7 +38,7 @@ impl Model for CoreTally {
     ghost invariant = { λ a. map reopened a.accounts.items ≡ opened_on (arc_value a.own.places) a.own.core };
 }
 
-/// A core, whose threads have their places on it.
+/// A core. Its threads have their indexes on it.
 #[derive(Drop)]
 struct Own {
     places: Arc<Places>,
@@ -70,7 +72,8 @@ fn opened_on(alloc: Global, system: &System, core: CoreId) -> Result<Vec<Account
 }
 
 impl CoreTally {
-    /// The tally of this core before its first row, of a run of the system up to the horizon. `NoMemory` where a growth was refused.
+    /// Returns the tally of this core for a run up to the horizon, before its first row. `NoMemory`
+    /// if an allocation failed.
     pub fn new(
         alloc: Global,
         places: Arc<Places>,
@@ -87,7 +90,8 @@ impl CoreTally {
         })
     }
 
-    /// A tally for each core of the system, from core 0 on, before their first rows. `NoMemory` where a growth was refused.
+    /// Returns one tally per core of the system, from core 0, before their first rows. `NoMemory`
+    /// if an allocation failed.
     pub fn of_all_cores(
         alloc: Global,
         places: &Arc<Places>,
@@ -106,8 +110,8 @@ impl CoreTally {
         Ok(tallies)
     }
 
-    /// Counts one row more, in constant time and without memory. A row of a thread of another core, or of one that the system does not have,
-    /// is not counted.
+    /// Counts a further row, in constant time and without memory. A row of another core's thread,
+    /// or of an unknown thread, is not counted.
     #[inline(always)]
     pub fn add(&mut self, row: &Row)
         ensures { self.new ≡ core_added self.old row.now }
@@ -121,7 +125,8 @@ impl CoreTally {
         );
     }
 
-    /// Whether it counts for this core in a run of this system up to this horizon. It compares the systems.
+    /// Whether the tally counts for this core in a run of this system up to this horizon. It
+    /// compares the systems.
     pub fn is_for(&self, system: &System, core: CoreId, horizon: Tick) -> bool
         ensures { IsTrue result ↔ ((self.now.system ≡ system.now) × (self.now.core ≡ core) × (self.now.horizon ≡ horizon)) }
     {
@@ -129,7 +134,7 @@ impl CoreTally {
         own.core == core && self.horizon == horizon && *own.places.system() == *system
     }
 
-    /// The account at this place.
+    /// The account at this index.
     pub(crate) fn account(&self, place: usize) -> Account
         ensures { result ≡ get_or self.now.accounts place no_account }
     {
@@ -148,7 +153,7 @@ fn reopen(accounts: &mut [Account])
     }
 }
 
-/// A tally counts each row of its core that it is given, and refuses none.
+/// Counts each row that it is given, and refuses none.
 impl Sink for CoreTally {
     ghost use Rattle.mcs_report.specs.CoreTally.{CoreCounts};
 
@@ -161,7 +166,7 @@ impl Sink for CoreTally {
     }
 }
 
-/// A tally keeps no rows, so it has no size.
+/// A tally keeps no rows, so its size is 0.
 impl Measured for CoreTally {
     ghost size = { λ _. 0 };
 
@@ -170,7 +175,7 @@ impl Measured for CoreTally {
     }
 }
 
-/// A tally holds the rows that it was told since it was opened or cleared.
+/// A tally holds the rows that it was given since it was opened or cleared.
 impl Collector for CoreTally {
     ghost use Rattle.std.specs.Prelude.{◌≡◌, [], refl};
     ghost use Rattle.mcs_report.specs.CoreTally.{HoldsRows, opened_core_tally};
@@ -180,7 +185,7 @@ impl Collector for CoreTally {
 
     ghost amount = { λ _. 0 };
 
-    /// The tally as it was before its first row.
+    /// Resets the tally to its state before the first row.
     fn clear(&mut self)
         ensures emptied { HoldsRows self.new [] }
         ensures opened { self.new ≡ opened_core_tally self.old.system self.old.core self.old.horizon }

@@ -1,3 +1,4 @@
+//! The core of each thread, and its index on that core.
 ghost use Rattle.std.specs.Prelude.{◌≡◌, ◌<◌, length, map, IfOk};
 ghost use Rattle.std.specs.Arc.{arc_value};
 ghost use Rattle.std.specs.List.{range_with_len};
@@ -11,15 +12,15 @@ use std::alloc::Global;
 use std::marker::Model;
 use std::sync::Arc;
 
-/// The core of a thread, and its place among the threads of that core.
+/// The core of a thread, and its index among the threads of that core.
 #[derive(Clone, Copy, Debug, PartialEq, Eq)]
 pub(crate) struct Home {
     pub core: CoreId,
     pub place: usize,
 }
 
-/// For each thread of a system its core, and its place among the threads of that core, so that neither is looked for. One table serves the
-/// tallies of all cores. Contracts see the system.
+/// For each thread its core and its index among the threads of that core, so that both are found at
+/// once. One table serves the tallies of all cores. Contracts see the system.
 #[derive(Drop)]
 pub struct Places {
     system: Arc<System>,
@@ -38,7 +39,7 @@ impl Model for Places {
     ghost invariant = { λ a. AreHomes (arc_value a.system) a.homes.items };
 }
 
-/// The threads of each core are counted as they come.
+/// Counts the threads of each core as they come.
 fn homes_of(alloc: Global, parts: &SystemParts) -> Result<Vec<Home>, NoMemory>
     requires { IsWellFormed parts.now }
     ensures { IfOk result (λ homes. homes.items ≡ map (home_in parts.now) (range_with_len 0 (length parts.now.threads))) }
@@ -56,7 +57,7 @@ fn homes_of(alloc: Global, parts: &SystemParts) -> Result<Vec<Home>, NoMemory>
 }
 
 impl Places {
-    /// The places of the threads of a system. `NoMemory` where a growth was refused.
+    /// Returns the table of a system. `NoMemory` if an allocation failed.
     pub fn new(alloc: Global, system: Arc<System>) -> Result<Self, NoMemory>
         ensures { IfOk result (λ places. places ≡ arc_value system) }
     {
@@ -71,7 +72,7 @@ impl Places {
         &self.system
     }
 
-    /// A thread's core and place.
+    /// The core and index of a thread.
     pub(crate) fn home(&self, thread: ThreadId) -> Home
         requires { thread < length self.now.threads }
         ensures { result ≡ home_in self.now thread }
@@ -79,7 +80,7 @@ impl Places {
         self.homes[thread.0]
     }
 
-    /// A thread's place on this core, if it has one there.
+    /// The index of a thread on this core, if it is there.
     #[inline(always)]
     pub(crate) fn place_on(&self, core: CoreId, thread: ThreadId) -> Option<usize>
         ensures { result ≡ place_on self.now core thread }

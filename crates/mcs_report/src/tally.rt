@@ -1,3 +1,4 @@
+//! The tally of a schedule's rows.
 ghost use Rattle.std.specs.Prelude.{◌≡◌, ℕ, ◌≤◌, ◌+◌, [], length, map, fold, vec_capacity, IfOk};
 ghost use Rattle.std.specs.List.{range_with_len};
 ghost use Rattle.mcs_system.specs.System.{core_of};
@@ -15,9 +16,11 @@ use mcs_ticks::{CoreId, NoMemory, Refused, Row, Sequence, Sink, ThreadId, Tick, 
 use std::alloc::Global;
 use std::marker::Model;
 
-/// What is counted of the rows of a schedule so far: for each thread the sums of its report and its open run. Rows are added one
-/// by one, each in constant time and without memory, since all room is taken when the tally is made. Contracts see the accounts
-/// of the threads, the horizon, the number of cores, and the moment of the last row.
+/// The counts of a schedule's rows so far, per thread the sums of its report and its open run.
+///
+/// Rows are added one by one, each in constant time and without memory, since all room is taken
+/// when the tally is made. Contracts see the accounts, the horizon, the number of cores, and the
+/// time of the last row.
 #[derive(Drop)]
 pub struct Tally {
     horizon: Tick,
@@ -55,7 +58,7 @@ fn opened_accounts(alloc: Global, parts: &SystemParts) -> Result<Vec<Account>, N
     Ok(accounts)
 }
 
-/// Each account at its thread's number.
+/// Each account is at its thread's number.
 #[derive(Clone, Copy)]
 struct Numbers {
     many: usize,
@@ -86,7 +89,7 @@ fn tell_numbered(accounts: &mut [Account], horizon: Tick, moment: Tick, what: Wh
     tell(accounts, &numbers, horizon, moment, what);
 }
 
-/// Tells rows one after another. Answers the moment of the last one, or `last` where there is none.
+/// Adds rows in order. Returns the time of the last one, or `last` if there is none.
 fn tell_all(accounts: &mut [Account], horizon: Tick, last: Tick, rows: &[Row]) -> Tick
     ensures { (cores : ℕ) →
         fold added (record { horizon = horizon; cores = cores; last = last; accounts = accounts.old }) rows.now
@@ -156,7 +159,8 @@ fn all_core_reports(
 }
 
 impl Tally {
-    /// The tally before the first row, of a run of the system up to the horizon. `NoMemory` where a growth was refused.
+    /// Returns the tally of a run up to the horizon, before the first row. `NoMemory` if an
+    /// allocation failed.
     pub fn new(alloc: Global, system: &System, horizon: Tick) -> Result<Self, NoMemory>
         ensures { IfOk result (λ tally. tally ≡ opened_tally system.now horizon) }
     {
@@ -171,7 +175,8 @@ impl Tally {
         })
     }
 
-    /// Counts one row more, in constant time and without memory. A row of a thread that the system does not have is not counted.
+    /// Counts a further row, in constant time and without memory. A row of an unknown thread is not
+    /// counted.
     #[inline(always)]
     pub fn add(&mut self, row: &Row)
         ensures { self.new ≡ added self.old row.now }
@@ -185,7 +190,7 @@ impl Tally {
         );
     }
 
-    /// Counts rows in their order, each as `add` does.
+    /// Counts rows in order, like `add`.
     pub fn add_all(&mut self, rows: &[Row])
         ensures { self.new ≡ fold added self.old rows.now }
     {
@@ -193,8 +198,9 @@ impl Tally {
         self.last = tell_all(accounts, self.horizon, self.last, rows);
     }
 
-    /// The reports of the rows that the cores have counted each by itself, without taking memory: the account of each thread is that of its
-    /// core's tally. This tally had no rows. It was opened for its room, when the run began.
+    /// Returns the reports of the rows that each core has counted separately, without taking
+    /// memory. The account of each thread is that of its core's tally. This tally must have no
+    /// rows: it was opened for its room when the run began.
     pub fn together(mut self, places: &Places, tallies: &[CoreTally]) -> Reports
         requires { self ≡ opened_tally places.now self.horizon }
         ensures { result ≡ finished (joined places.now self.horizon tallies.now) }
@@ -203,7 +209,8 @@ impl Tally {
         self.finish()
     }
 
-    /// The reports of the rows that were added, without taking memory: runs that were not stopped end at the horizon.
+    /// Returns the reports of the rows that were added, without taking memory. Runs that were not
+    /// stopped end at the horizon.
     pub fn finish(self) -> Reports
         ensures { result ≡ finished self }
     {
@@ -225,7 +232,7 @@ impl Tally {
     }
 }
 
-/// A tally counts each row that it is given, and refuses none.
+/// Counts each row that it is given, and refuses none.
 impl Sink for Tally {
     ghost use Rattle.mcs_report.specs.Tally.{Counts};
 

@@ -1,21 +1,23 @@
+//! Counts a row in the account of its thread.
 ghost use Rattle.std.specs.Prelude.{◌≡◌, ◌<◌, ℕ, length, Some};
 ghost use Rattle.mcs_report.specs.Tally.{told_at};
 
 use crate::account::Account;
 use mcs_ticks::{ThreadId, Tick, What};
 
-/// Where the accounts of threads stand in a list.
+/// Finds the account of a thread in a list.
 pub(crate) trait Stand {
     ghost use Rattle.std.specs.Prelude.{◌≡◌, ℕ, Option};
 
     ghost place: { Self → ℕ → Option ℕ };
 
-    /// The place of a thread's account, if that is there.
+    /// The index of a thread's account, if it is there.
     fn place(&self, thread: ThreadId) -> Option<usize>
         ensures { result ≡ place self.now thread };
 }
 
-/// Tells a row to the account of its thread. One whose kind is known where it is told is counted by that kind's steps alone.
+/// Counts a row in the account of its thread. If the kind of the row is known to the caller, only
+/// the steps for that kind remain.
 #[inline(always)]
 pub(crate) fn tell<S: Stand>(
     accounts: &mut [Account],

@@ -1,3 +1,4 @@
+//! Joins the tallies of all cores.
 ghost use Rattle.std.specs.Prelude.{◌≡◌, ◌<◌, length, map};
 ghost use Rattle.std.specs.List.{range_with_len};
 ghost use Rattle.mcs_report.specs.CoreTally.{account_of};
@@ -6,7 +7,7 @@ use crate::account::Account;
 use crate::{CoreTally, Places};
 use mcs_ticks::{CoreId, ThreadId};
 
-/// The account of a thread, which its core has.
+/// The account of a thread, from its core's tally.
 fn account_of(places: &Places, tallies: &[CoreTally], thread: ThreadId) -> Account
     requires { thread < length places.now.threads }
     ensures { result ≡ account_of places.now tallies.now thread }
@@ -18,7 +19,7 @@ fn account_of(places: &Places, tallies: &[CoreTally], thread: ThreadId) -> Accou
     }
 }
 
-/// The accounts of all threads, each from its core.
+/// Writes the accounts of all threads, each from its core's tally.
 pub(crate) fn put_together(accounts: &mut [Account], places: &Places, tallies: &[CoreTally])
     requires { length accounts.old ≡ length places.now.threads }
     ensures { accounts.new ≡ map (account_of places.now tallies.now) (range_with_len 0 (length places.now.threads)) }

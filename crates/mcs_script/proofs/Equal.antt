@@ -1,4 +1,4 @@
--- `==` of scripts is true exactly where they have the same items.
+-- `==` of scripts is true if and only if they have the same items.
 use Rattle.std.proofs.Common.{◌≡◌, ℕ, Bool, true, false, ◌&&◌, eqb, List, refl, ap, arith}
 use Rattle.std.specs.Bool.{Decides}
 use Rattle.std.specs.Cmp.Lexicographic.{pointwise, pointwise_decides}

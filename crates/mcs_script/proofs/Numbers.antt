@@ -1,4 +1,4 @@
--- What a text of digits says.
+-- The number of a text of digits.
 use Rattle.std.proofs.Common.{◌≡◌, ◌≢◌, ℕ, ◌+◌, ◌-◌, ◌*◌, ◌^◌, ◌<◌, ◌≤◌, Bool, true, false, not, ◌&&◌, cond, eqb, List, [], ◌∷◌, length, get_or, Some, None, refl, sym, ap, arith}
 use Rattle.std.specs.Prelude.{fold, nat_le}
 use Rattle.std.specs.Str.{all_ascii_digits}
@@ -21,7 +21,7 @@ pub own : IsNumeralModel (λ digits. all_ascii_digits digits ≡ true) value_of
 unfolding read_on
 own = numerals_by_fold _ tells_all_ascii_digits read_on folds
 
--- digits of which the first is not 0
+-- digits, the first of them not 0
 numeral : (digits : List ℕ) → get_or digits 0 0 ≢ 48 → all_ascii_digits digits ≡ true → 0 < length digits → is_numeral digits ≡ true
 numeral [] n e p = absurd (omega arith)
 numeral (c ∷ cs) n e p = rw (differ c n, e) refl
@@ -46,7 +46,7 @@ number-out_of_range most n digits v out = by (is_numeral digits)
     by true = rw (sym v, outside n most out) refl
     by false = refl
 
--- where `parse` refuses
+-- the case in which `parse` refuses
 pub number-refused : (most : ℕ) (digits : List ℕ) → most < 2 ^ 64 → ¬ ((all_ascii_digits digits ≡ true) × (0 < length digits) × (value_of digits < 2 ^ 64)) → None ≡ number_up_to most digits
 number-refused most [] m h = refl
 number-refused most (c ∷ cs) m h = by (not (eqb c 48)) (all_ascii_digits (c ∷ cs)) (nat_le 1 (value_of (c ∷ cs))) (nat_le (value_of (c ∷ cs)) most) refl refl

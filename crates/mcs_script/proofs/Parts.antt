@@ -33,11 +33,11 @@ pub parts-last : (text : List ℕ) → position_or_len is_space text ≡ length 
 parts-last [] e p = absurd (omega arith)
 parts-last (c ∷ text) e p = rw (no_space (c ∷ text) e) refl
 
--- a text is empty where its length is 0
+-- a text with a length other than 0 is not empty
 pub not_empty : (text : List ℕ) → eqb (length text) 0 ≡ false → 0 < length text
 not_empty text e = grind (arith, nat_tests)
 
--- a part that is found, and what stands behind it
+-- the first part of a text, and the parts after it
 pub parts-found : (text part behind : List ℕ) → part ≡ before_first is_space text → behind ≡ after_first is_space text → position_or_len is_space text < length text → 0 < length part →
     parts text ≡ part ∷ parts behind
 parts-found text part behind e f p q = rw (e, f) (parts-piece text p (rw e at q))

@@ -1,4 +1,4 @@
--- The next item of a script: where it stands, and what is left of one as it is run.
+-- The next item of a script: its number, and the remaining ticks of an item as it runs.
 use Rattle.std.proofs.Common.{◌≡◌, ℕ, suc, ◌+◌, ◌<◌, ◌≤◌, Bool, true, false, cond, List, [], ◌∷◌, length, drop, Some, None, refl, arith}
 use Rattle.std.specs.Prelude.{Option, ◌||◌}
 use Rattle.std.specs.List.{slice_get}
@@ -21,7 +21,7 @@ taken-within word number next passes (item ∷ items) e =
     by true h f = let k = h f in (omega (arith, k.0), omega (arith, k.1))
     by false h f = let k : number ≡ next = cc in (omega arith, omega arith)
 
--- the next item is one of the script, and stands behind this one, unless this one is a wait
+-- the next item is one of the script; it is after this one, unless this one is a wait
 pub next-within : (script : List Item) (word item next : ℕ) → item < length script → next_item script word item ≡ Some next → next < length script
 next-within script word item next l e =
     by (first_taken word (item + 1) false (drop (item + 1) script)) (λ n f. (taken-within word (item + 1) n false (drop (item + 1) script) f).1) (is_wait (slice_get script item)) e

@@ -83,7 +83,7 @@ the_older_words_too = refl
 unknown_to_the_older_ones : read_as (codes "spin") ≡ Err UnknownWord
 unknown_to_the_older_ones = refl
 
--- a compute of 3 and a signal, in rounds of which a call costs 2
+-- a compute of 3 and a signal; a call costs 2
 abbrev script : List Item
 script = item.Compute 3 ∷ item.Signal 0 1 ∷ []
 

@@ -1,4 +1,4 @@
--- What the text of an item says.
+-- The item of a text.
 use Rattle.std.specs.Prelude.{◌≡◌, ℕ, ◌+◌, ◌-◌, ◌*◌, ◌^◌, Bool, ◌&&◌, not, ◌==◌, nat_eq, nat_le, true, false, if◌then◌else◌, List, [], ◌∷◌, filter, fold, codes, Result, Ok, Err, Option, Some, None, MatchResult}
 use Rattle.std.specs.List.{slice_split}
 use Rattle.std.specs.Str.{all_ascii_digits}
@@ -8,7 +8,7 @@ use Rattle.mcs_script.specs.declared.fault.ItemFault.TheVariants.{UnknownWord, M
 use Rattle.mcs_script.specs.declared.raw.RawItem.{RawItem}
 use Rattle.mcs_script.specs.declared.raw.RawItem.TheVariants as code
 
--- an item with names as they are written
+-- an item with names as written
 pub data Raw : Type 0 where
   Compute : ℕ → Raw
   Signal : List ℕ → ℕ → Raw
@@ -35,7 +35,7 @@ is_empty (c ∷ text) = false
 abbrev pub parts : List ℕ → List (List ℕ)
 parts text = filter (λ part. not (is_empty part)) (slice_split (λ c. c == 32) text)
 
--- decimal digits, of which the first is not 0
+-- decimal digits; the first is not 0
 abbrev pub is_numeral : List ℕ → Bool
 is_numeral [] = false
 is_numeral (first ∷ digits) = not (first == 48) && all_ascii_digits (first ∷ digits)
@@ -43,18 +43,18 @@ is_numeral (first ∷ digits) = not (first == 48) && all_ascii_digits (first ∷
 abbrev pub value_of : List ℕ → ℕ
 value_of digits = fold (λ value digit. 10 * value + (digit - 48)) 0 digits
 
--- a number from 1 to the greatest
+-- a number from 1 to `most`
 abbrev pub number_up_to : ℕ → List ℕ → Option ℕ
 number_up_to most digits =
     if is_numeral digits && (nat_le 1 (value_of digits) && nat_le (value_of digits) most) then Some (value_of digits)
     else None
 
--- the item that a number makes
+-- the item with this number, or a fault
 abbrev pub with_number : (ℕ → Raw) → Option ℕ → Result Raw ItemFault
 with_number item None = Err BadNumber
 with_number item (Some number) = Ok (item number)
 
--- what follows the word of each item
+-- the parts after the word of each item
 abbrev pub compute_of : List (List ℕ) → Result Raw ItemFault
 compute_of [] = Err MissingPart
 compute_of (ticks ∷ []) = with_number Compute (number_up_to (2 ^ 40) ticks)
@@ -93,7 +93,7 @@ spin_of (extra ∷ others) = Err ExtraPart
 abbrev pub is_text : List ℕ → List ℕ → Bool
 is_text word text = pointwise nat_eq word text
 
--- the first part is the item's word
+-- the first part is the word of the item
 abbrev pub item_of : List (List ℕ) → Result Raw ItemFault
 item_of [] = Err UnknownWord
 item_of (word ∷ others) =
@@ -106,7 +106,7 @@ item_of (word ∷ others) =
 abbrev pub read_as : List ℕ → Result Raw ItemFault
 read_as text = item_of (parts text)
 
--- with the words of version 3 too
+-- also with the words of version 3
 abbrev pub new_item_of : List (List ℕ) → Result Raw ItemFault
 new_item_of [] = Err UnknownWord
 new_item_of (word ∷ others) =
@@ -118,6 +118,6 @@ new_item_of (word ∷ others) =
 abbrev pub read_new_as : List ℕ → Result Raw ItemFault
 read_new_as text = new_item_of (parts text)
 
--- a call's answer is this one
+-- the result of a call is this one
 abbrev pub Says : {A B : Type 0} → (A → B) → Result A ItemFault → Result B ItemFault → Type 0
 Says view result answer = MatchResult result (λ item. answer ≡ Ok (view item)) (λ fault. answer ≡ Err fault)

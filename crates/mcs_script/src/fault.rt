@@ -4,17 +4,19 @@ ghost use Rattle.mcs_script.specs.Fault.{item_fault_text};
 use std::fmt;
 use thiserror::Error;
 
-/// Why a text is no item. Of several faults the first of this list is the answer. Each has a text of its own (profile M).
+/// Why a text is not an item. If there are several faults, the first of this list is returned. Each
+/// has a text (profile M).
 #[derive(Clone, Copy, Debug, PartialEq, Eq, Error)]
 pub enum ItemFault {
-    /// The first part is no item's word, or there is no part. The words are `compute`, `signal`, `wait` and `yield`, and of version 3
-    /// also `on`, `call` and `spin`.
+    /// The first part is not a known word, or there is no part. The words are `compute`, `signal`,
+    /// `wait` and `yield`, and in version 3 also `on`, `call` and `spin`.
     UnknownWord,
     /// There are too few parts after the word.
     MissingPart,
     /// There are too many parts after the word.
     ExtraPart,
-    /// A number is not decimal digits without a sign or a leading zero, or it is out of its range.
+    /// A number is not written as decimal digits without a sign or a leading zero, or it is out of
+    /// range.
     BadNumber,
 }
 

@@ -3,7 +3,8 @@ ghost use Rattle.mcs_script.specs.Script.{cost, is_on, badges_in, passes_after};
 
 use mcs_ticks::NoteId;
 
-/// An item of a script: what a thread does next. Notifications and servers are named by their numbers (profile M).
+/// An item of a script: the next action of a thread. Notifications and servers are given by their
+/// numbers (profile M).
 #[derive(Clone, Copy, Debug, PartialEq, Eq)]
 pub enum Item {
     /// Run for this many ticks, 1 to 2^40.
@@ -12,21 +13,21 @@ pub enum Item {
     Signal(NoteId, u32),
     /// Wait on the notification until it gives a word.
     Wait(NoteId),
-    /// Give the rest of the head refill, or of the time slice, away.
+    /// Give up the rest of the head refill, or of the time slice.
     Yield,
-    /// Begin a handler of these badges, 1 to 2^32 - 1: the items from here to the next handler are gone through only where the
-    /// round's word has one of them. It takes no time.
+    /// Begin a handler of these badges, 1 to 2^32 - 1. The items up to the next handler run only if
+    /// the round's word has one of them. Takes no time.
     On(u32),
     /// Run without end.
     Spin,
-    /// Enter the server, and go on at this priority.
+    /// Enter the server, and continue at this priority.
     Enter(NoteId, u8),
-    /// Leave the server, and go on at this priority.
+    /// Leave the server, and continue at this priority.
     Leave(NoteId, u8),
 }
 
 impl Item {
-    /// The rest of an item that never ends.
+    /// The remaining ticks of an item that never ends.
     pub const NEVER: u64 = u64::MAX;
 
     /// Whether it begins a handler.
@@ -36,7 +37,7 @@ impl Item {
         matches!(self, Item::On(_))
     }
 
-    /// Its badges, where it begins a handler.
+    /// Returns its badges if it begins a handler, otherwise 0.
     pub(crate) fn badges(self) -> u32
         ensures { result ≡ badges_in self }
     {
@@ -46,7 +47,8 @@ impl Item {
         }
     }
 
-    /// Whether a thread passes over what follows it, where it does so before it: at the beginning of a handler its badges decide.
+    /// Whether a thread skips the items after this one, if `passes` says whether it skips this one.
+    /// At the start of a handler its badges decide.
     pub(crate) fn passes_after(&self, word: u32, passes: bool) -> bool
         ensures { result ≡ passes_after word passes self.now }
     {
@@ -56,7 +58,8 @@ impl Item {
         }
     }
 
-    /// The ticks that the item costs, where each but `compute`, `spin` and `on` costs `call`.
+    /// Returns the ticks that the item costs: `call` for each item except `compute`, `spin` and
+    /// `on`.
     pub(crate) fn cost(self, call: u64) -> u64
         ensures { result ≡ cost call self }
     {

@@ -1,4 +1,5 @@
-//! Scripts, the texts of their items, and the place of a thread in its script. Rounds count from 1, items from 0.
+//! Scripts, the texts of their items, and the place of a thread in its script. Rounds (jobs) count
+//! from 1, items from 0.
 #![tactic(auto)]
 
 mod fault;

@@ -3,23 +3,24 @@ ghost use Rattle.mcs_script.specs.Script.{first_place, goes_to, move_after, plac
 
 use crate::{Item, Moved, Script};
 
-/// How far a thread is in its script, and how it goes through it.
+/// How far a thread is in its script.
 #[derive(Clone, Copy, Debug, PartialEq, Eq)]
 pub struct Place {
     /// The round, from 1.
     pub round: u64,
     /// The number of the item, from 0.
     pub item: usize,
-    /// The ticks that are left of the item.
+    /// The remaining ticks of the item.
     pub left: u64,
-    /// Of the word that began the round, the badges that a handler takes; 0 at the script's first item.
+    /// The badges of the round's word that a handler takes; 0 at the first item of the script.
     pub word: u32,
-    /// The priority of the thread here: its own, or that of the server in which it is.
+    /// The priority of the thread here: that of the thread, or of the server that it is in.
     pub priority: u8,
 }
 
 impl Place {
-    /// The beginning of the first round of a thread of this priority. A call of the kernel costs `call` ticks.
+    /// Returns the start of the first round of a thread with this priority. A kernel call costs
+    /// `call` ticks.
     pub fn first(script: &Script, call: u64, priority: u8) -> Self
         ensures { result ≡ first_place call priority script.now }
     {
@@ -33,9 +34,10 @@ impl Place {
         }
     }
 
-    /// Goes on behind the item at which the place is: to the next item that the thread goes through, or to the first item of the next
-    /// round, or nowhere after the last of `rounds` rounds, where 0 means that no round is the last. The number of a round stays at
-    /// 2^64 - 1, which no run reaches. At the first item no word has begun the round. The place is one of this script.
+    /// Advances past the current item: to the next item that the thread runs, or to the first item
+    /// of the next round. After the last of `rounds` rounds the place does not change; 0 sets no
+    /// last round. The round number stays at 2^64 - 1, which no run reaches. At the first item the
+    /// word is 0. The caller ensures that the place is one of this script.
     pub fn advance(&mut self, script: &Script, call: u64, rounds: u64) -> Moved
         requires { self.old.item < length script.now }
         ensures moved { result ≡ move_after script.now rounds self.old }
@@ -52,14 +54,15 @@ impl Place {
         }
     }
 
-    /// The word that begins the round: of its badges those that a handler takes.
+    /// Sets the round's word: the badges of `word` that a handler takes.
     pub fn hear(&mut self, script: &Script, word: u32)
         ensures { self.new ≡ record self.old { word = heard script.now word } }
     {
         self.word = script.heard(word);
     }
 
-    /// So many ticks less are left of the item, and no less than none; of one that never ends as many as before.
+    /// Lowers the remaining ticks of the item, to 0 at the least. An item that never ends does not
+    /// change.
     pub fn use_up(&mut self, ticks: u64)
         ensures { self.new ≡ record self.old { left = left_after ticks self.old.left } }
     {

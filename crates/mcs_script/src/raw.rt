@@ -3,7 +3,7 @@ ghost use Rattle.mcs_script.specs.Raw.{Says, parts, raw_view, number_up_to, comp
 
 use crate::fault::ItemFault;
 
-/// An item of a script as it is written, with names in place of numbers.
+/// An item of a script as written, with names instead of numbers.
 #[derive(Clone, Copy, Debug, PartialEq, Eq)]
 pub enum RawItem<'a> {
     /// `compute N`: run for `N` ticks, 1 to 2^40.
@@ -12,18 +12,20 @@ pub enum RawItem<'a> {
     Signal(&'a str, u32),
     /// `wait NOTE`: wait on the notification.
     Wait(&'a str),
-    /// `yield`: give the rest of the head refill, or of the time slice, away.
+    /// `yield`: give up the rest of the head refill, or of the time slice.
     Yield,
     /// `on BADGES`: begin a handler of these badges, 1 to 2^32 - 1.
     On(u32),
-    /// `call SERVER BADGE`: call the server, which knows the caller by this badge, 1 to 2^32 - 1.
+    /// `call SERVER BADGE`: call the server, which identifies the caller by this badge, 1 to 2^32 -
+    /// 1.
     Call(&'a str, u32),
     /// `spin`: run without end.
     Spin,
 }
 
-/// The item that a text says, or the first fault in the order of [`ItemFault`]. The text is split at runs of spaces (U+0020 alone, so
-/// a tab belongs to a part); spaces before the first part and after the last are ignored. It takes no memory.
+/// Returns the item of a text, or the first fault in the order of [`ItemFault`]. The text is split
+/// at spaces (only U+0020; a tab belongs to a part). Spaces before the first part and after the
+/// last are ignored. Allocates no memory.
 pub fn read_item(text: &str) -> Result<RawItem<'_>, ItemFault>
     ensures { Says raw_view result (read_as text.now) }
 {
@@ -39,7 +41,8 @@ pub fn read_item(text: &str) -> Result<RawItem<'_>, ItemFault>
     }
 }
 
-/// The item that a text says, as [`read_item`] but with the words of version 3 too: `on`, `call` and `spin`.
+/// Returns the item of a text as [`read_item`] does, also with the words of version 3: `on`, `call`
+/// and `spin`.
 pub fn read_new_item(text: &str) -> Result<RawItem<'_>, ItemFault>
     ensures { Says raw_view result (read_new_as text.now) }
 {
@@ -150,7 +153,7 @@ fn read_yield(rest: &str) -> Result<RawItem<'_>, ItemFault>
     Ok(RawItem::Yield)
 }
 
-/// The first part of a text and what stands behind it.
+/// Returns the first part of a text and the rest after it, or `None` if there is no part.
 fn next_part(text: &str) -> Option<(&str, &str)>
     ensures { MatchOption result (parts text.now ≡ []) (λ found. parts text.now ≡ found.0.now ∷ parts found.1.now) }
 {
@@ -168,7 +171,7 @@ fn next_part(text: &str) -> Option<(&str, &str)>
     }
 }
 
-/// The number, from 1 to `most`, that decimal digits without a leading zero say.
+/// Returns the number of decimal digits without a leading zero, if it is from 1 to `most`.
 fn number_up_to(most: u64, digits: &str) -> Option<u64>
     ensures { result ≡ number_up_to most digits.now }
 {

@@ -8,9 +8,11 @@ use crate::Item;
 use mcs_ticks::Limits;
 use std::marker::Model;
 
-/// The items that a thread goes through in each of its rounds: 1 to 1,024 of them. Of the waits only the first of several items stands
-/// last or directly before a handler, and no entering of a server does; where there is a handler the first item is a wait. Contracts see
-/// the list.
+/// The items that a thread runs in each of its rounds: 1 to 1,024 of them. Contracts see the list.
+///
+/// - A wait is neither last nor directly before a handler, except as the first of several items.
+/// - An `Enter` is neither last nor directly before a handler.
+/// - If there is a handler, the first item is a wait.
 #[derive(Debug, Drop)]
 pub struct Script {
     items: Vec<Item>,
@@ -50,9 +52,8 @@ impl Eq for Script {
 }
 
 impl Script {
-    /// The script of these items. A list is handed back that has not 1 to 1,024 items, or a wait, other than the first of several items,
-    /// that stands last or directly before a handler, or an entering of a server that stands so, or a handler though its first item is no
-    /// wait.
+    /// Returns the script of these items. The list is handed back if a condition of [`Script`]
+    /// fails.
     pub fn new(items: Vec<Item>) -> Result<Self, Vec<Item>>
         ensures accepted { IsOk result ↔ IsScript items.items }
         ensures same { IfOk result (λ script. script ≡ items.items) }
@@ -66,7 +67,8 @@ impl Script {
         }
     }
 
-    /// The number of the first wait, other than the first of several items, that stands last or directly before a handler.
+    /// Returns the number of the first wait that is last or directly before a handler, other than
+    /// the first of several items.
     pub fn bare_wait(items: &[Item]) -> Option<usize>
         ensures { IsFirstBare items.now result }
     {
@@ -79,14 +81,14 @@ impl Script {
         None
     }
 
-    /// Whether the first item is a wait where there is a handler.
+    /// Whether the first item is a wait, or there is no handler.
     pub fn listens(items: &[Item]) -> bool
         ensures { result ≡ listens items.now }
     {
         matches!(items.first(), Some(Item::Wait(_))) || badges_of(items) == 0
     }
 
-    /// How many items there are, 1 to 1,024.
+    /// Returns the number of items, 1 to 1,024.
     pub fn len(&self) -> usize
         ensures count { result ≡ length self.now }
         ensures is_script { IsScript self.now }
@@ -94,14 +96,14 @@ impl Script {
         self.items.len()
     }
 
-    /// The item with this number, from 0, or None past the last.
+    /// Returns the item with this number, from 0, or `None` past the last.
     pub fn get(&self, item: usize) -> Option<Item>
         ensures { result ≡ slice_get self.now item }
     {
         self.items.get(item).copied()
     }
 
-    /// The items.
+    /// Returns the items.
     pub fn as_slice(&self) -> &[Item]
         ensures same { result.now ≡ self.now }
         ensures is_script { IsScript self.now }
@@ -109,15 +111,16 @@ impl Script {
         self.items.as_slice()
     }
 
-    /// Of the badges of a word, those that a handler takes.
+    /// Returns the badges of a word that a handler takes.
     pub(crate) fn heard(&self, word: u32) -> u32
         ensures { result ≡ heard self.now word }
     {
         word & self.badges
     }
 
-    /// The number of the item behind this one that the thread goes through next, where a word with these badges began the round; behind
-    /// a wait that no such item follows it is the wait. None where the round ends.
+    /// Returns the number of the next item that the thread runs after this one, if a word with
+    /// these badges began the round. If there is no such item, a wait is returned again, and any
+    /// other item gives `None`: the round ends.
     pub(crate) fn next(&self, item: usize, word: u32) -> Option<usize>
         requires { item < length self.now }
         ensures { result ≡ next_item self.now word item }
@@ -134,7 +137,6 @@ impl Script {
     }
 }
 
-/// Whether these are a script's items.
 fn is_script(items: &[Item]) -> bool
     ensures { IsTrue result ↔ IsScript items.now }
 {
@@ -145,7 +147,7 @@ fn is_script(items: &[Item]) -> bool
         && Script::listens(items)
 }
 
-/// The number of the first entering of a server that stands last or directly before a handler.
+/// Returns the number of the first `Enter` that is last or directly before a handler.
 fn left_open(items: &[Item]) -> Option<usize>
     ensures { IsFirstOpen items.now result }
 {
@@ -157,8 +159,8 @@ fn left_open(items: &[Item]) -> Option<usize>
     None
 }
 
-/// The number of the first item from this one on that a thread goes through, which begins to go through them in no handler that it
-/// passes over.
+/// Returns the number of the first item from `from` on that a thread runs. The items before the
+/// first handler are not skipped.
 fn first_taken(items: &[Item], from: usize, word: u32) -> Option<usize>
     ensures { result ≡ first_taken word from false (drop from items.now) }
 {
@@ -174,14 +176,13 @@ fn first_taken(items: &[Item], from: usize, word: u32) -> Option<usize>
     None
 }
 
-/// The badges of all handlers.
 fn badges_of(items: &[Item]) -> u32
     ensures { result ≡ badges_of items.now }
 {
     items.iter().fold(0, |badges, item| badges | item.badges())
 }
 
-/// Whether a server is entered with this number, last or directly before a handler.
+/// Whether the item with this number is an `Enter` that is last or directly before a handler.
 fn is_left_open(items: &[Item], k: usize) -> bool
     requires { k < length items.now }
     ensures { result ≡ is_left_open items.now k }
@@ -189,7 +190,7 @@ fn is_left_open(items: &[Item], k: usize) -> bool
     matches!(items[k], Item::Enter(..)) && ends_handler(items, k + 1)
 }
 
-/// Whether a wait with this number stands last or directly before a handler.
+/// Whether the item with this number is a wait that is last or directly before a handler.
 fn is_bare(items: &[Item], k: usize) -> bool
     requires { k < length items.now }
     ensures { result ≡ is_bare items.now k }
@@ -197,7 +198,7 @@ fn is_bare(items: &[Item], k: usize) -> bool
     matches!(items[k], Item::Wait(_)) && ends_handler(items, k + 1)
 }
 
-/// Whether a handler begins with this number, or the script ends before it.
+/// Whether a handler begins at this number, or the script ends before it.
 fn ends_handler(items: &[Item], k: usize) -> bool
     ensures { result ≡ ends_handler (slice_get items.now k) }
 {

@@ -39,7 +39,7 @@ same a b e = grind (arith, nat_tests)
 apart : (a b : ℕ) → b < a → (a == b) ≡ false
 apart a b l = grind (arith, nat_tests)
 
--- none of these servers has a number below the bound
+-- each of these servers has a number from the bound on
 abbrev Avoids : ℕ → List ℕ → Type 0
 Avoids bound servers = (n : ℕ) → n < bound → is_in n servers ≡ false
 
@@ -55,7 +55,8 @@ module _ (ceiling : ℕ → ℕ) where
   steps_from own [] servers = are_none servers
   steps_from own (x ∷ xs) servers = may_stand x servers && goes own x servers && steps_from own xs (inside_after x servers)
 
-  -- steps behind which a script goes on as before them, in servers that avoid the bound and give this priority
+  -- steps after which a script continues as before them, in servers that avoid the bound and give
+  -- this priority
   abbrev pub IsSealed : ℕ → ℕ → List Item → Type 0
   IsSealed bound base xs =
       (own : ℕ) (servers : List ℕ) (ys : List Item) → Avoids bound servers → priority_in ceiling own servers ≡ base → steps_from own ys servers ≡ true

@@ -1,4 +1,5 @@
--- What parts of a turn leave as it was: notifications, threads that are done or not, their items and priorities, and the order of the ready queue.
+-- Parts of a turn that leave these unchanged: notifications, threads that are done or not, their
+-- items and priorities, and the order of the ready queue.
 use Rattle.std.proofs.Common.{◌≡◌, ◌≢◌, ◌⊎◌, inl, inr, ℕ, zero, suc, ◌+◌, ◌<◌, ◌≤◌, Bool, true, false, cond, not, ◌==◌, List, [], ◌∷◌, length, get_or, set, Option, Some, None, refl, sym, ap, subst, ◌∙◌, arith}
 use Rattle.std.specs.Prelude.{filter, nat_lt}
 use Rattle.std.specs.List.{slice_get, AllByRecursion}
@@ -51,7 +52,7 @@ thread-other y x state k h = get_or-set_other k.threads y x state no_state h
 pub thread-own : (y : ℕ) (state : Thread) (k : Core) → y < length k.threads → thread_of (with_thread y state k) y ≡ state
 thread-own y state k l = get_or-set_same k.threads y state no_state l
 
--- waiters of a notification of which no thread waits more often than before
+-- waiters of a notification, on which no thread waits more often than before
 pub waiters-set : (x : ℕ) (notes : List Note) (n m : ℕ) (note : Note) → times_queued x note.waiters ≤ times_queued x (get_or notes n quiet_note).waiters
     → times_queued x (get_or (set notes n note) m quiet_note).waiters ≤ times_queued x (get_or notes m quiet_note).waiters
 waiters-set x [] n m note l = omega arith
@@ -138,7 +139,7 @@ rest-line threads (entry ∷ ready) l = (l.0.1, l.1.1)
 abbrev pub spot : Core → ℕ → Bool × ℕ × ℕ
 spot k x = (is_done (thread_of k x).standing, (thread_of k x).place.item, (thread_of k x).place.priority)
 
--- a core with the same notifications, and each thread where it was
+-- a core with the same notifications, and each thread in its place
 pub record Still (k after : Core) : Type 0 where
   pub notes : after.notes ≡ k.notes
   pub many : length after.threads ≡ length k.threads
@@ -280,7 +281,7 @@ module _ (system : System) (t : ℕ) where
   may_stop-calm y using after.Blocks k s e alive = absurd s
   may_stop-calm y using after.Calls k s e alive = absurd s
 
-  -- orders, releases, and the choice, where a thread with a place is not done
+  -- orders, releases, and the choice, if a thread with a place is not done
   abbrev pub Alive : Core → Type 0
   Alive k = (x : ℕ) → 1 ≤ places x k → is_done (thread_of k x).standing ≡ false
 

@@ -257,7 +257,7 @@ module _ (system : System) (beat : Beat) (some : 1 ≤ beat.period) where
   pub rings-dates : (t : ℕ) → t < 2 ^ 64 → rings t (alarm_before system beat t) ≡ is_date t beat
   rings-dates t soon = rings-kept t (alarm_before system beat t) (omega (arith, soon)) (kept t)
 
--- what is told of the alarms that ring is told of the beats with a date
+-- the rows of the alarms that ring are those of the beats with a date
 module _ (system : System) (t : ℕ) (soon : t < 2 ^ 64) where
   abbrev has_period : Beat → Type 0
   has_period beat = 1 ≤ beat.period

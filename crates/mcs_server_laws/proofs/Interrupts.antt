@@ -1,4 +1,5 @@
--- The rows of a turn that tell of interrupts are those of the alarms that ring, and each stands before that of its post.
+-- The interrupt rows of a turn are those of the alarms that ring, and each comes before that of its
+-- post.
 use Rattle.std.proofs.Common.{◌≡◌, ℕ, zero, suc, ◌+◌, Bool, true, false, cond, ◌==◌, List, [], ◌∷◌, ◌++◌, map, refl, sym, ap, subst, ◌∙◌, append-nil}
 use Rattle.std.specs.Prelude.{filter, bit_and, bit_or, flat_map, Option, Some, None}
 use Rattle.std.specs.List.{range_with_len}
@@ -57,7 +58,7 @@ posted-append (first ∷ []) more h m = (last-posted first first.what more h.0, 
 posted-append (first ∷ next ∷ rows) more h m =
     (next-posted first next first.what rows (rows ++ more) h.0, posted-append (next ∷ rows) more h.1 m)
 
--- what tells of none
+-- rows without interrupts
 module _ (queue : Discipline) (system : System) (c t : ℕ) where
   posts_as-none : (note : ℕ) (post : Posted) (k : Core) → told (turns.posts_as queue system t note post k).rows ≡ []
   posts_as-none note post k = rows.posts_as-none is_interrupt plain queue system c t note post k
@@ -98,7 +99,7 @@ module _ (queue : Discipline) (system : System) (c t : ℕ) where
       filter-append is_interrupt first.rows (each (turns.interrupts queue system t) alarms first.core).rows
       ∙ rw (rows.posts-none is_interrupt plain queue system c t alarm.note alarm.badge k, told-interrupts alarms first.core) refl
 
-  -- a whole turn tells of the alarms that ring
+  -- a whole turn has the rows of the alarms that ring
   pub told-turn : (mails : List Mail) (k : Core) → told (turns.turn_with queue system c t mails k).rows ≡ map row_of (ringing t (alarms_at system c t))
   told-turn mails k =
       let first = turns.tick queue system c t k in
@@ -134,7 +135,7 @@ module _ (queue : Discipline) (system : System) (c t : ℕ) where
   none-posted (row.Interrupt source note badge ∷ whats) e = absurd (cc)
   none-posted (what ∷ whats) e = (tt, none-posted whats e)
 
-  -- what is posted on a notification is told
+  -- a post on a notification has a row
   woke-word : (badge x word : ℕ) (note : Note) → posted badge note ≡ Woke x word → word ≡ badge
   woke-word badge x word note e = by (first_of_greatest note.waiters) refl
     where

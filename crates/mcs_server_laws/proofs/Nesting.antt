@@ -15,7 +15,7 @@ are-none : (servers : List ℕ) → are_none servers ≡ true → servers ≡ []
 are-none [] e = refl
 are-none (last ∷ others) e = absurd (cc)
 
--- an item may stand where it stands
+-- an item may be in its place
 stands-from : (script : List Item) (servers : List ℕ) (i : ℕ) (item : Item) → nests_from script servers ≡ true → slice_get script i ≡ Some item
     → may_stand item (inside_from i script servers) ≡ true
 stands-from [] servers i item h e = absurd (cc)
@@ -25,7 +25,7 @@ stands-from (x ∷ xs) servers zero item h e =
 stands-from (x ∷ xs) servers (suc i) item h e =
     stands-from xs (inside_after x servers) i item (right-true (may_stand x servers) (nests_from xs (inside_after x servers)) h) e
 
--- behind it
+-- after it
 pub after-from : (script : List Item) (servers : List ℕ) (i : ℕ) (item : Item) → slice_get script i ≡ Some item
     → inside_from (suc i) script servers ≡ inside_after item (inside_from i script servers)
 after-from [] servers i item e = absurd (cc)
@@ -38,7 +38,7 @@ past-from [] servers (suc i) e = refl
 past-from (x ∷ xs) servers zero e = absurd (cc)
 past-from (x ∷ xs) servers (suc i) e = past-from xs (inside_after x servers) i e
 
--- of what is behind some items
+-- the servers after some items
 rest-nests : (script : List Item) (servers : List ℕ) (i : ℕ) → nests_from script servers ≡ true → nests_from (drop i script) (inside_from i script servers) ≡ true
 rest-nests script servers zero h = h
 rest-nests [] servers (suc i) h = h
@@ -52,7 +52,7 @@ rest-inside (x ∷ xs) servers (suc i) m =
     let e : suc i + m ≡ suc (i + m) = omega arith in
     ap (λ n. inside_from n (x ∷ xs) servers) e ∙ rest-inside xs (inside_after x servers) i m
 
--- the item that is taken, so many behind the first: where handlers were passed over it is in none
+-- the item that is taken, m items after the first: if handlers were passed over it is in none
 abbrev IsTaken : ℕ → ℕ → List Item → List ℕ → List ℕ → Type 0
 IsTaken next number items servers then = (m : ℕ) × (next ≡ number + m) × (inside_from m items servers ≡ then)
 
@@ -79,13 +79,13 @@ taken (x ∷ xs) servers word number next true h e =
     one-further next number x xs servers [] (taken xs (inside_after x servers) word (number + 1) next true (right-true (may_stand x servers) (nests_from xs (inside_after x servers)) h) e)
 taken (x ∷ xs) servers word number next false h e = let f : number ≡ next = cc in (0, omega (arith, f), refl)
 
--- and where none is taken it is in none
+-- if no item is taken it is in none
 none-taken : (items : List Item) (servers : List ℕ) (word number : ℕ) → nests_from items servers ≡ true → first_taken word number false items ≡ None → servers ≡ []
 none-taken [] servers word number h e = are-none servers h
 none-taken (On badges ∷ xs) servers word number h e = are-none servers (left-true (are_none servers) (nests_from xs servers) h)
 none-taken (x ∷ xs) servers word number h e = absurd (cc)
 
--- none of them is there twice
+-- each of them is there at most once
 abbrev pub AreDistinct : List ℕ → Type 0
 AreDistinct [] = Unit {0}
 AreDistinct (last ∷ others) = (is_in last others ≡ false) × AreDistinct others
@@ -134,7 +134,7 @@ module _ (script : List Item) (nested : nests script ≡ true) (item : Item) whe
   again i next (Enter server priority) e = absurd (cc)
   again i next (Leave server priority) e = absurd (cc)
 
-  -- where it goes next it is in the servers behind the item
+  -- at its next item it is in the servers after the item
   next-inside : (word i next : ℕ) → slice_get script i ≡ Some item → next_item script word i ≡ Some next → inside next script ≡ behind i
   next-inside word i next at e = by (first_taken word (i + 1) false (drop (i + 1) script)) refl e
     where
@@ -145,7 +145,7 @@ module _ (script : List Item) (nested : nests script ≡ true) (item : Item) whe
           ap (λ m. inside m script) (sym same ∙ t.1) ∙ rest-inside script [] (i + 1) t.0 ∙ ap (inside_from t.0 (drop (i + 1) script)) (behind-is i at) ∙ t.2
       by None f g = again i next item (subst (λ (o : Option Item). or_again i o None ≡ Some next) at g)
 
-  -- where its round ends it is in none
+  -- when its round ends it is in none
   end-inside : (word i : ℕ) → slice_get script i ≡ Some item → next_item script word i ≡ None → behind i ≡ []
   end-inside word i at e = by (first_taken word (i + 1) false (drop (i + 1) script)) refl e
     where
@@ -153,7 +153,8 @@ module _ (script : List Item) (nested : nests script ≡ true) (item : Item) whe
       by (Some n) f g = absurd (cc)
       by None f g = none-taken (drop (i + 1) script) (behind i) word (i + 1) (rest i at) f
 
-  -- the move behind it: after the last round it is in none, and else in the servers behind the item
+  -- the move after it: after the last round it is in none, and otherwise in the servers after the
+  -- item
   abbrev pub IsMoved : ℕ → Place → Moved → Type 0
   IsMoved call place AllDone = behind place.item ≡ []
   IsMoved call place Next = inside (place_after call script Next place).item script ≡ behind place.item
@@ -170,7 +171,7 @@ module _ (script : List Item) (nested : nests script ≡ true) (item : Item) whe
       by (Some next) e = ap (λ (o : Option ℕ). inside (unwrap_or o 0) script) e ∙ next-inside place.word place.item next at e
       by None e = ends (not (rounds == 0) && nat_le rounds place.round) (end-inside place.word place.item at e)
 
--- behind a wait, and behind the entering of a server, it goes on
+-- after a wait, and after entering a server, it continues
 pub wait-goes : (script : List Item) (rounds note : ℕ) (place : Place) → slice_get script place.item ≡ Some (Wait note) → move_after script rounds place ≡ Next
 wait-goes script rounds note place at = by (first_taken place.word (place.item + 1) false (drop (place.item + 1) script)) refl
   where

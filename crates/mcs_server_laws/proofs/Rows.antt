@@ -1,4 +1,4 @@
--- Which parts of a turn tell of interrupts and of calls that wait: all other rows are plain.
+-- Which parts of a turn emit rows of interrupts and of calls that wait: all other rows are plain.
 use Rattle.std.proofs.Common.{◌≡◌, ℕ, Bool, true, false, cond, ◌==◌, List, [], ◌∷◌, refl, ap, ◌∙◌}
 use Rattle.std.specs.Prelude.{filter, nat_lt, Option, Some, None}
 use Rattle.std.proofs.lemmas.List.Elements.{filter-append}
@@ -61,7 +61,7 @@ module _ (p : What → Bool) (plain : (what : What) → IsPlain what → p what 
   none-each part h [] k = refl
   none-each part h (x ∷ xs) k = none-then (part x k) (each part xs) (h x k) (none-each part h xs (part x k).core)
 
-  -- what tells of plain rows alone
+  -- plain rows alone
   module _ (queue : Discipline) (system : System) (c t : ℕ) where
     moves-none : (x : ℕ) (m : Moved) (k : Core) → told (turns.moves system t x m k).rows ≡ []
     moves-none x Next k = refl

@@ -41,7 +41,7 @@ module _ (f : ℕ → List ℕ) (home : ℕ) (others : (c : ℕ) → c ≢ home 
           let e : a ≡ home = omega (arith, reached, l) in
           ap (λ ks. f a ++ ks) (none-past n (a + 1) (omega (arith, reached))) ∙ append-nil (f a) ∙ ap f e
 
--- where the test holds
+-- the test holds
 here : (ts : List ℕ) (p : ℕ → Bool) → flat_map (λ t. cond (p t) (t ∷ []) []) ts ≡ filter p ts
 here [] p = refl
 here (t ∷ ts) p = by (p t) (here ts p)
@@ -68,7 +68,7 @@ module _ (system : System) (source : ℕ) where
   abbrev at : ℕ → Beat → ℕ
   at t beat = t
 
-  -- what a turn tells of the source
+  -- the rows of a turn for the source
   moments-told : (c t : ℕ) (whats : List What) → moments_told system source (stamped c t whats) ≡ map (λ what. t) (filter (is_interrupt_of source) whats)
   moments-told c t [] = refl
   moments-told c t (what ∷ whats) = by (is_interrupt_of source what) (moments-told c t whats)

@@ -1,4 +1,4 @@
--- Values that were worked by hand from the rules, at the edges where a law that said a little more, or less, would fail.
+-- Values worked by hand from the rules, at the edges at which a slightly different law would fail.
 use Rattle.std.specs.Prelude.{◌≡◌, ℕ, Bool, true, false, List, [], ◌∷◌, ◌++◌, map, Option, Some, None, option_map, refl, zero, suc, ◌<◌}
 use Rattle.std.specs.List.{slice_get}
 use Rattle.std.proofs.Common.{arith}
@@ -63,7 +63,7 @@ one_date = refl
 up_to_the_horizon : (dates_to interrupted 0 10 ≡ 1 ∷ 4 ∷ []) × (dates_to interrupted 0 11 ≡ 1 ∷ 4 ∷ 11 ∷ [])
 up_to_the_horizon = (refl, refl)
 
--- the schedule tells of each, also where the thread does not wait
+-- the schedule has a row for each, also if the thread does not wait
 told_of_each : (moments_told interrupted 0 (schedule interrupted 12) ≡ 1 ∷ 4 ∷ 11 ∷ []) × (moments_told interrupted 1 (schedule interrupted 12) ≡ 4 ∷ [])
 told_of_each = (refl, refl)
 
@@ -89,7 +89,8 @@ calls = Wait 5 ∷ On 1 ∷ Enter 0 30 ∷ Enter 1 40 ∷ Compute 2 ∷ Leave 1 
 these_nest : nests calls ≡ true
 these_nest = refl
 
--- it is in a server from the item behind the entering up to the leaving, and the inner one comes first
+-- it is in a server from the item after the entering up to the leaving, and the inner one comes
+-- first
 in_them : map (λ item. inside item calls) (2 ∷ 3 ∷ 4 ∷ 5 ∷ 6 ∷ 7 ∷ 8 ∷ 10 ∷ [])
     ≡ [] ∷ (0 ∷ []) ∷ (1 ∷ 0 ∷ []) ∷ (1 ∷ 0 ∷ []) ∷ (0 ∷ []) ∷ (0 ∷ []) ∷ [] ∷ (1 ∷ []) ∷ []
 in_them = refl
@@ -137,7 +138,7 @@ kept_while_throttled = refl
 handed_on_at_21 : found served 22 ≡ (0, false, true)
 handed_on_at_21 = refl
 
--- Where a script leaves a server that it did not enter, two threads are in it.
+-- If a script leaves a server that it did not enter, two threads are in it.
 abbrev unpaired : System
 unpaired =
     one_core 1 (context 20 100 ∷ context 20 100 ∷ []) (note 1 ∷ [])
@@ -176,7 +177,8 @@ runs_with system t =
     let core = core_at system (world system t) 0 in
     (option_map (λ (chosen : Chosen). (chosen.thread, (thread_of core chosen.thread).place.priority)) core.running, times_queued 0 core.ready)
 
--- at the server's priority of 40 only the third thread runs while thread 0 is ready in it, and then thread 0 goes on
+-- at the server's priority of 40 only the third thread runs while thread 0 is ready in it, and then
+-- thread 0 continues
 only_above_the_ceiling : (runs_with (above_it 40) 4 ≡ (Some (2, 50), 1)) × (runs_with (above_it 40) 6 ≡ (Some (0, 40), 0))
 only_above_the_ceiling = (refl, refl)
 

@@ -1,4 +1,4 @@
--- Who has a server: nobody, or one thread.
+-- The holder of a server: no thread, or one.
 use Rattle.std.specs.Prelude.{◌≡◌, ℕ, ◌<◌, Bool, true, false, ◌==◌, ◌&&◌, not, length, Option, Some, None}
 use Rattle.std.specs.List.{slice_get}
 use Rattle.mcs_script.specs.declared.item.Item.TheVariants.{Enter}
@@ -14,7 +14,7 @@ abbrev pub is_done : Standing → Bool
 is_done Done = true
 is_done _ = false
 
--- of a server that this thread has, or none: whether a thread has it, and its word
+-- for a server with this holder, or none: whether a thread has it, and its word
 abbrev pub has : Option ℕ → ℕ → Bool
 has None thread = false
 has (Some holder) thread = holder == thread
@@ -24,12 +24,14 @@ word_of None = 1
 word_of (Some holder) = 0
 
 module _ (system : System) where
-  -- whether a thread is in a server: it is not done, and stands behind the item that enters the server, up to the one that leaves it
+  -- whether a thread is in a server: it is not done, and its place is after the item that enters
+  -- the server, up to the one that leaves it
   abbrev pub is_inside : ℕ → ℕ → Thread → Bool
   is_inside server thread state =
       not (is_done state.standing) && is_in server (inside state.place.item (thread_part system thread).script)
 
-  -- the server is free, with the word 1, and no thread is in it; or this thread has it, the word is 0, and no other thread is in it
+  -- the server is free, with the word 1, and no thread is in it; or this thread has it, the word is
+  -- 0, and no other thread is in it
   pub record IsHeldBy (server : ℕ) (holder : Option ℕ) (core : Core) : Type 0 where
     pub word : (note_of core server).word ≡ word_of holder
     pub inside : (thread : ℕ) → is_inside server thread (thread_of core thread) ≡ has holder thread
@@ -43,7 +45,7 @@ module _ (system : System) where
       (server t : ℕ) → server < length system.notes → is_server system server ≡ true →
       (holder : Option ℕ) × IsHeldBy server holder (home_of server t)
 
-  -- and no thread comes to enter a server in which it is
+  -- no thread enters a server that it is in
   abbrev pub NoneEntersTwice : Type 0
   NoneEntersTwice =
       (thread item server priority : ℕ) → slice_get (thread_part system thread).script item ≡ Some (Enter server priority) →

@@ -1,4 +1,4 @@
--- When sources interrupt: the rows that tell of it, and the dates of the file.
+-- Interrupts of sources: their rows, and their dates by the file.
 use Rattle.std.specs.Prelude.{◌≡◌, ℕ, suc, ◌-◌, ◌/◌, ◌%◌, ◌<◌, ◌^◌, Bool, true, false, ◌==◌, ◌&&◌, ◌||◌, nat_le, nat_lt, bit_and, List, [], ◌∷◌, map, filter}
 use Rattle.std.specs.List.{list_any, range_with_len}
 use Rattle.mcs_ticks.specs.declared.row.Row.{Row}
@@ -9,13 +9,14 @@ use Rattle.mcs_system.specs.System.{System, source_part}
 use Rattle.mcs_core.specs.Alarms.{is_at_home}
 use Rattle.mcs_core.specs.Clock.{turn_of, schedule}
 
--- whether t is a date of the beat: its first one, or some periods later, and with a count no more than that many
+-- whether t is a date of the beat: the first one or some periods later, limited by the count if
+-- there is one
 abbrev pub is_date : ℕ → Beat → Bool
 is_date t beat =
     nat_le beat.first t && ((t - beat.first) % beat.period == 0)
     && ((beat.count == 0) || nat_lt ((t - beat.first) / beat.period) beat.count)
 
--- whether a row tells of an interrupt, and whether of one of this source
+-- whether a row is an interrupt, and whether it is one of this source
 abbrev pub is_interrupt : What → Bool
 is_interrupt (row.Interrupt source note badge) = true
 is_interrupt _ = false
@@ -25,7 +26,7 @@ is_interrupt_of source (row.Interrupt other note badge) = other == source
 is_interrupt_of source _ = false
 
 module _ (system : System) where
-  -- what the row of a beat tells
+  -- the row of a beat
   abbrev pub interrupt_by : Beat → What
   interrupt_by beat =
       row.Interrupt beat.source (source_part system beat.source).note (source_part system beat.source).badge
@@ -34,7 +35,7 @@ module _ (system : System) where
   abbrev pub due_at : ℕ → ℕ → List Beat
   due_at c t = filter (is_date t) (filter (is_at_home system c) system.beats)
 
-  -- the turn of core c at t tells of these interrupts, and of no others
+  -- the turn of core c at t emits these interrupts, and no others
   abbrev pub TurnsTellDates : Type 0
   TurnsTellDates = (c t : ℕ) → t < 2 ^ 64 → filter is_interrupt (turn_of system c t).rows ≡ map interrupt_by (due_at c t)
 
@@ -45,23 +46,23 @@ module _ (system : System) where
   abbrev pub dates_to : ℕ → ℕ → List ℕ
   dates_to source horizon = filter (is_date_of source) (range_with_len 0 (suc horizon))
 
-  -- the moments of the interrupts of a source that rows tell
+  -- the moments of a source's interrupts in rows
   abbrev pub moments_told : ℕ → List Row → List ℕ
   moments_told source rows = map (λ (told : Row). told.moment) (filter (λ (told : Row). is_interrupt_of source told.what) rows)
 
-  -- these are its dates
+  -- these moments are its dates
   abbrev pub SchedulesTellDates : Type 0
   SchedulesTellDates =
       (source horizon : ℕ) → horizon < 2 ^ 64 → moments_told source (schedule system horizon) ≡ dates_to source horizon
 
--- the row tells what a post of this badge on this notification did: it woke a thread with this word, or the notification holds a word with all
--- its bits
+-- the row of a post of this badge on this notification: it woke a thread with this word, or the
+-- notification holds a word with all its bits
 abbrev pub TellsPost : ℕ → ℕ → What → Type 0
 TellsPost note badge (row.Wake thread at word) = (at ≡ note) × (word ≡ badge)
 TellsPost note badge (row.Hold at word) = (at ≡ note) × (bit_and word badge ≡ badge)
 TellsPost note badge _ = ⊥
 
--- an interrupt has such a row directly behind it, of its moment and core
+-- an interrupt is followed by such a row, of its moment and core
 abbrev pub IsPosted : Row → What → List Row → Type 0
 IsPosted told (row.Interrupt source note badge) [] = ⊥
 IsPosted told (row.Interrupt source note badge) (next ∷ rows) =

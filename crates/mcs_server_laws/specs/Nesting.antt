@@ -1,4 +1,5 @@
--- In which servers a script is at each of its items, and which scripts enter and leave servers in pairs.
+-- The servers that a script is in at each of its items, and scripts that enter and leave servers in
+-- pairs.
 use Rattle.std.specs.Prelude.{◌≡◌, ℕ, zero, suc, Bool, true, false, ◌==◌, ◌&&◌, not, List, [], ◌∷◌, All}
 use Rattle.std.specs.List.{list_any}
 use Rattle.mcs_script.specs.declared.item.Item.{Item}
@@ -6,7 +7,7 @@ use Rattle.mcs_script.specs.declared.item.Item.TheVariants.{On, Enter, Leave}
 use Rattle.mcs_system.specs.declared.part.ThreadPart.{ThreadPart}
 use Rattle.mcs_system.specs.System.{System}
 
--- servers that are entered and not yet left, the last one first
+-- servers that were entered and not yet left, the last one first
 abbrev pub is_in : ℕ → List ℕ → Bool
 is_in server servers = list_any (λ entered. entered == server) servers
 
@@ -22,7 +23,7 @@ abbrev pub without_last : List ℕ → List ℕ
 without_last [] = []
 without_last (last ∷ others) = others
 
--- behind an item
+-- after an item
 abbrev pub inside_after : Item → List ℕ → List ℕ
 inside_after (Enter server priority) servers = server ∷ servers
 inside_after (Leave server priority) servers = without_last servers
@@ -37,14 +38,15 @@ inside_from (suc n) (item ∷ items) servers = inside_from n items (inside_after
 abbrev pub inside : ℕ → List Item → List ℕ
 inside item script = inside_from item script []
 
--- no server is entered in which the script is, none is left but the last one, and a handler begins where it is in none
+-- no server is entered that the script is in, only the last one is left, and a handler begins in no
+-- server
 abbrev pub may_stand : Item → List ℕ → Bool
 may_stand (Enter server priority) servers = not (is_in server servers)
 may_stand (Leave server priority) servers = last_is server servers
 may_stand (On badges) servers = are_none servers
 may_stand _ servers = true
 
--- and at the end it is in none
+-- and the script ends in no server
 abbrev pub nests_from : List Item → List ℕ → Bool
 nests_from [] servers = are_none servers
 nests_from (item ∷ items) servers = may_stand item servers && nests_from items (inside_after item servers)

@@ -1,4 +1,5 @@
--- Where each core by itself is idle until a moment, the whole world is: no core makes a signal that another one would take.
+-- If each core alone is idle until a moment, the whole world is: no core makes a signal that
+-- another one would take.
 use Rattle.std.proofs.Common.{◌≡◌, ℕ, zero, suc, ◌+◌, ◌-◌, ◌<◌, ◌≤◌, Bool, true, false, List, [], ◌++◌, map, max, refl, sym, ap, subst, ◌∙◌, add-zero, arith}
 use Rattle.std.specs.Prelude.{filter, flat_map, nat_lt, slice_index}
 use Rattle.std.specs.List.{range_with_len}

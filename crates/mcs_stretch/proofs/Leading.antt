@@ -28,7 +28,7 @@ put-other f c v b other = by (b == c) refl
     by false e = refl
 
 module _ (system : System) (horizon : ℕ) (R : ℕ → ℕ → Type 0) where
-  -- core c may take its turn, where the cores that may signal it are those of the relation
+  -- core c may take its turn, if the cores that may signal it are those of the relation
   pub record MayBy (clocks : List ℕ) (c : ℕ) : Type 0 where
     pub known : c < system.cores
     pub in_time : slice_index clocks c ≤ horizon

@@ -73,7 +73,7 @@ rows_at-other t u (row ∷ rows) n h = by (row.moment == t) refl (rows_at-other 
         absurd (omega arith)
     by false e i = i
 
--- parts of which each has the rows of one moment
+-- parts that each have the rows of one moment
 module _ (f : ℕ → List Row) (at : (t : ℕ) → AreAt t (f t)) where
   pub from_parts : (n a b : ℕ) → b ≤ a → AreFrom b (flat_map f (range_with_len a n))
   from_parts zero a b l = tt
@@ -150,7 +150,7 @@ module _ (system : System) where
       both [] ys h k = k
       both (x ∷ xs) ys h k = (h.0, both xs ys h.1 k)
 
-  -- they are the core's, in order, before its clock, and none is before the first moment
+  -- they are the core's, in order, before its clock, and at the first moment or later
   pub list-between : (c a b : ℕ) → a ≤ b → IsListOf c (rows_between system c a b) b
   list-between c a b l =
       record {

@@ -25,7 +25,7 @@ module _ (system : System) where
         fits = fits;
       }
 
-  -- nothing is made before moment 0
+  -- no signal is made before time 0
   pub inbox-opening : (c from : ℕ) (front : List ℕ) → ((b : ℕ) → b < system.cores → slice_index front b ≡ 0) → inbox system c from front ≡ []
   inbox-opening c from front zeros =
       none_in (inbox system c from front) (λ mail k.

@@ -61,7 +61,7 @@ abbrev stands_so : Standing → ℕ → ℕ → ℕ → Thread
 stands_so standing left since priority =
     record { standing = standing; place = record { round = 1; item = 0; left = left; word = 0; priority = priority }; since = since }
 
--- Before moment 3 the first thread has run for 2 ticks, and the other two stand in order of entering; their core's state shows them by
+-- Before moment 3 the first thread has run for 2 ticks, and the other two are in order of entering; their core's state shows them by
 -- priority, the other way round.
 abbrev first : Core
 first =

@@ -21,7 +21,7 @@ two delay =
 no_signals : (b c : ℕ) → Signals (two 1) b c → ⊥
 no_signals b c s = omega (arith, s.known)
 
--- core 0 goes to the end by itself: that is safe by the scripts
+-- core 0 runs to the end alone: this is safe by the scripts
 goes_on : IsSafeByScripts (two 1) 1 (0 ∷ 0 ∷ []) (0 ∷ 0 ∷ [])
 goes_on = (
   record { known = omega arith; in_time = omega arith; safe = λ b l other s. absurd (no_signals b 0 s) },
@@ -51,7 +51,7 @@ bell =
       chains = [];
     }
 
--- at moment 0 no signal is made, and one that is made later arrives at 2 or later
+-- at time 0 no signal is made, and one that is made later arrives at 2 or later
 none_at_0 : (turn_of bell 1 0).mails ≡ []
 none_at_0 = refl
 

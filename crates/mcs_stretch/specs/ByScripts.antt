@@ -1,11 +1,11 @@
--- Which cores may take their turns before the others have come as far, where the scripts say which cores signal which.
+-- Which cores may take their turns before the others have come as far, by the scripts.
 use Rattle.std.specs.Prelude.{ℕ, suc, ◌+◌, ◌<◌, ◌≤◌, ◌≢◌, List, [], ◌∷◌, slice_index, slice_set}
 use Rattle.mcs_system.specs.System.{System, delay_between}
 use Rattle.mcs_laws.specs.Links.{Signals}
 use Rattle.mcs_stretch.specs.Safe.{IsSafe}
 
--- core c, at its clock, is at most at the horizon, and no signal that an earlier core still makes can reach it there: that is asked of the
--- cores alone whose threads signal it by their scripts
+-- core c, at its clock, is at most at the horizon, and no signal that an earlier core still makes
+-- can reach it there; only cores whose threads signal it by their scripts count
 pub record MayStepByScripts (system : System) (horizon : ℕ) (clocks : List ℕ) (c : ℕ) : Type 0 where
   pub known : c < system.cores
   pub in_time : slice_index clocks c ≤ horizon
@@ -23,12 +23,13 @@ abbrev pub clocks_after : List ℕ → List ℕ → List ℕ
 clocks_after clocks [] = clocks
 clocks_after clocks (c ∷ cs) = clocks_after (slice_set clocks c (suc (slice_index clocks c))) cs
 
--- no signal of a core that signals core c by its scripts, made from its clock on, arrives before `past`
+-- no signal of a core that signals core c by its scripts, made from its clock on, arrives before
+-- `past`
 abbrev pub IsFarByScripts : System → List ℕ → ℕ → ℕ → Type 0
 IsFarByScripts system clocks c past =
     (b : ℕ) → b < system.cores → b ≢ c → Signals system b c → past ≤ slice_index clocks b + delay_between system b c
 
--- a safe order is a case of it
+-- a safe order is safe by the scripts
 abbrev pub SafeOrdersAreByScripts : Type 0
 SafeOrdersAreByScripts =
     (system : System) (horizon : ℕ) (clocks cs : List ℕ) → IsSafe system horizon clocks cs

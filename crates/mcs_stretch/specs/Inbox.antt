@@ -1,4 +1,5 @@
--- The inbox of a core: the signals for it that the cores have made by their clocks, in order of delivery.
+-- The inbox of a core: the signals for it that the cores have made by their clocks, in order of
+-- delivery.
 use Rattle.std.specs.Prelude.{◌≡◌, ℕ, ◌<◌, ◌≤◌, ◌-◌, ◌+◌, max, Bool, ◌&&◌, ◌==◌, nat_lt, nat_le, if◌then◌else◌, List, [], filter, flat_map, fold, slice_index}
 use Rattle.std.specs.List.{range_with_len}
 use Rattle.mcs_mail.specs.declared.mail.Mail.{Mail}
@@ -7,19 +8,20 @@ use Rattle.mcs_system.specs.System.{System, note_part, delay_between}
 use Rattle.mcs_core.specs.Clock.{turn_of, arrives_at}
 
 module _ (system : System) where
-  -- the core at which the signal's notification is at home
+  -- the home core of the signal's notification
   abbrev pub home_of : Mail → ℕ
   home_of mail = (note_part system mail.note).core
 
   abbrev pub is_home : ℕ → Mail → Bool
   is_home c mail = home_of mail == c
 
-  -- of the signals that core b makes at m, where that is before its moment in `front`, those that arrive at t on core c
+  -- the signals that core b makes at m, if that is before its moment in `front`, and that arrive at
+  -- t on core c
   abbrev pub known_of : ℕ → ℕ → List ℕ → ℕ → ℕ → List Mail
   known_of c t front m b =
       if nat_lt m (slice_index front b) then filter (arrives_at system t c) (turn_of system b m).mails else []
 
-  -- of the signals that each core makes at m, by maker, and of those that each makes at any moment, by the moment
+  -- such signals of all cores made at m, by maker, and those made at any moment, by that moment
   abbrev pub known_made : ℕ → ℕ → List ℕ → ℕ → List Mail
   known_made c t front m = flat_map (known_of c t front m) (range_with_len 0 system.cores)
 
@@ -39,7 +41,8 @@ module _ (system : System) where
   abbrev pub signals_between : ℕ → ℕ → ℕ → List Mail
   signals_between b low high = flat_map (λ m. (turn_of system b m).mails) (range_with_len low (high - low))
 
-  -- the signals for core c that each core makes from its moment in `front` to before that in `later`, and that arrive at `from` or later
+  -- the signals for core c that each core makes from its moment in `front` to before that in
+  -- `later`, and that arrive at `from` or later
   abbrev pub is_for : ℕ → ℕ → Mail → Bool
   is_for c from mail = ((note_part system mail.note).core == c) && nat_le from mail.arrives
 
@@ -62,7 +65,7 @@ module _ (system : System) where
     pub home : (note_part system mail.note).core ≡ c
     pub arrives : from ≤ mail.arrives
 
-  -- these are those signals, each once, in whichever order
+  -- these are those signals, each once, in any order
   pub record AreNews (c from : ℕ) (front later : List ℕ) (mails : List Mail) : Type 0 where
     pub apart : ArePairwise Differ mails
     pub are : (mail : Mail) → IsIn mail mails → IsMade (slice_index front) (slice_index later) mail × IsFor c from mail
@@ -72,14 +75,15 @@ module _ (system : System) where
   abbrev pub Rises : List ℕ → List ℕ → Type 0
   Rises front later = (b : ℕ) → b < system.cores → slice_index front b ≤ slice_index later b
 
-  -- the inbox by later clocks is the inbox by earlier ones with the signals that were made between them, in whichever order they are put in
+  -- the inbox by earlier clocks, with the signals made since put in any order, is the inbox by the
+  -- later clocks
   abbrev pub InboxesJoin : Type 0
   InboxesJoin =
       (c from : ℕ) (front later : List ℕ) (mails : List Mail) → Rises front later → AreNews c from front later mails →
       put_all mails (inbox c from front) ≡ inbox c from later
 
-  -- the list `news` has the new signals. So has a box that collects: at first there are none, and those of later clocks join those of
-  -- earlier ones.
+  -- the list `news` has the new signals, and so has a box that collects: it starts empty, and new
+  -- signals join the earlier ones
   abbrev pub NewsJoin : Type 0
   NewsJoin =
       (c from : ℕ) (front : List ℕ) →

@@ -20,7 +20,8 @@ module _ (system : System) where
   abbrev pub rows_between : ℕ → ℕ → ℕ → List Row
   rows_between c first past = flat_map (rows_of system c) (moments first past)
 
-  -- no signal for core c that a core has still to make, from its moment in `front` on, arrives before `past`
+  -- no signal for core c that a core has yet to make, from its moment in `front` on, arrives before
+  -- `past`
   abbrev pub NothingArrivesBefore : ℕ → ℕ → List ℕ → Type 0
   NothingArrivesBefore c past front =
       (b m : ℕ) (mail : Mail) → b < system.cores → slice_index front b ≤ m → IsIn mail (turn_of system b m).mails →
@@ -34,7 +35,7 @@ module _ (system : System) where
     pub whole : state.failed ≡ false
     pub fits : Fits system state
 
-  -- what a piece holds before the stretch, and what it holds after it
+  -- the contents of a piece before the stretch (`Before`) and after it (`After`)
   pub record Before (c first : ℕ) (front : List ℕ) (state : Core) (mail : List Mail) : Type 0 where
     pub state_is : state ≡ core_shown system (world system first) c
     pub mail_is : mail ≡ inbox system c first front
@@ -49,7 +50,7 @@ module _ (system : System) where
   abbrev pub IsAfter : ℕ → ℕ → ℕ → List ℕ → Ran → Type 0
   IsAfter c first past front done = After c first past front done.core done.rows done.mails done.box
 
-  -- the turns of a core alone, from what is before its stretch, make what is after it
+  -- the turns of a core alone lead from the contents before its stretch to those after it
   abbrev pub StretchesAreTurns : Type 0
   StretchesAreTurns =
       (c first past : ℕ) (front : List ℕ) (state : Core) (mail : List Mail) → c < system.cores → first ≤ past

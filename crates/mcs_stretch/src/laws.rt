@@ -8,23 +8,25 @@ ghost use Rattle.mcs_system.specs.WellFormed.{IsWellFormed};
 ghost use Rattle.mcs_stretch.specs.laws.Orders.{OrdersGiveTheSchedule};
 ghost use Rattle.mcs_stretch.specs.laws.BySignals.{ScriptOrdersAreBySignals, SignalOrdersGiveTheSchedule};
 
-/// A law of the clock: in a stretch a core alone, with the inbox that it has at the beginning, takes the turns of the clock.
+/// A law of the clock: in a stretch a core alone, with the inbox that it has at the start, takes
+/// the turns of the clock.
 pub fn stretches_are_turns()
     ensures { (system : System) → TakesTime system → StretchesAreTurns system }
 {}
 
-/// A law of the clock: an inbox with the signals that were made since is the inbox by the later clocks.
+/// A law of the clock: an inbox with the signals that were made since is the inbox by the later
+/// clocks.
 pub fn inboxes_join()
     ensures { (system : System) → TakesTime system → InboxesJoin system }
 {}
 
-/// A law of the clock: a box in which the signals are put that are made meanwhile has those signals, each once.
+/// A law of the clock: a box that collects the signals made meanwhile has each of them once.
 pub fn news_join()
     ensures { (system : System) → NewsJoin system }
 {}
 
-/// A law of the clock: where each core, by its own inbox, only counts ticks until a moment, all cores do, and each clock that is before that
-/// moment may be set to it.
+/// A law of the clock: if each core, by its own inbox, only counts ticks until a moment, all cores
+/// do. Each earlier clock may then be set to that moment.
 pub fn idle_time_passes()
     ensures { (system : System) → TakesTime system → IdleTimePasses system }
 {}
@@ -34,8 +36,8 @@ pub fn rows_merge()
     ensures { (system : System) → TakesTime system → RowsMerge system }
 {}
 
-/// A law of the clock: the rows of each core alone, up to a clock of its own, merge before a moment that no clock is before into the rows of
-/// the schedule before that moment.
+/// A law of the clock: the rows of each core up to its own clock merge, before a moment that no
+/// clock is before, into the rows of the schedule before that moment.
 pub fn rows_merge_so_far()
     ensures { (system : System) → TakesTime system → RowsMergeSoFar system }
 {}
@@ -45,14 +47,16 @@ pub fn safe_orders_are_by_scripts()
     ensures { SafeOrdersAreByScripts }
 {}
 
-/// A law of the clock: cores that take their turns one by one, each with its own state and box, in any order that is safe by the scripts,
-/// are as the clock has them, and their rows up to the horizon merge into the schedule.
+/// A law of the clock, for cores that take their turns one by one, each with its own state and box,
+/// in any order that is safe by the scripts. Each core is as the clock has it, and the rows up to
+/// the horizon merge into the schedule.
 pub fn orders_give_the_schedule()
     ensures { (system : System) → IsWellFormed system → OrdersGiveTheSchedule system }
 {}
 
-/// A law of the clock: an order that is safe by the scripts is safe by the signals that the cores make, and in any order of the second kind,
-/// too, cores are as the clock has them, and their rows up to the horizon merge into the schedule.
+/// A law of the clock: an order that is safe by the scripts is safe by the signals that the cores
+/// make. In any order that is safe by the signals, too, the cores are as the clock has them, and
+/// the rows up to the horizon merge into the schedule.
 pub fn signal_orders_give_the_schedule()
     ensures by_scripts { (system : System) → IsWellFormed system → ScriptOrdersAreBySignals system }
     ensures schedule { (system : System) → IsWellFormed system → SignalOrdersGiveTheSchedule system }

@@ -1,5 +1,6 @@
-//! Stretches of one core, in which the turns that it takes alone are those of the clock: inboxes, orders of turns that are safe, and idle time.
-//! Each law is the contract of a function whose body is empty: the function may be called for what its contract says.
+//! Laws of stretches, in which a core alone takes the turns of the global clock: inboxes, safe
+//! orders of turns, and idle time. Each law is the contract of a function with an empty body; a
+//! call of the function gives what its contract says.
 #![tactic(auto)]
 
 mod laws;

@@ -3,7 +3,7 @@ use Rattle.std.proofs.Common.{◌≡◌, List, [], ◌∷◌, refl}
 use Rattle.mcs_system.specs.declared.part.Link.{Link}
 use Rattle.mcs_system.specs.System.{System, delay_between}
 
--- four cores whose signals are under way for 5 ticks, but where a link says otherwise
+-- four cores with a delay of 5 ticks, except between linked cores
 linked : List Link → System
 linked links = record {
   cores = 4;

@@ -1,4 +1,4 @@
--- Whether two systems are the same: a test of each part, which answers true exactly where the parts are equal.
+-- Tests of equality for each part of a system, true if and only if the parts are equal.
 use Rattle.std.specs.Prelude.{Bool, true, false, ◌&&◌, ◌==◌, nat_eq}
 use Rattle.std.specs.Cmp.Lexicographic.{pointwise}
 use Rattle.mcs_control.specs.declared.config.Config.{Config}

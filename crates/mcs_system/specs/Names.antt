@@ -1,4 +1,4 @@
--- What a name may be.
+-- The valid names.
 use Rattle.std.specs.Prelude.{ℕ, Bool, ◌||◌, ◌&&◌, ◌==◌, nat_le, List, length}
 use Rattle.std.specs.List.{list_all}
 

@@ -1,4 +1,4 @@
--- A system: what a file describes, each thing numbered by its place in its list.
+-- A system: the contents of a file. Each thing is numbered by its place in its list.
 use Rattle.std.specs.Prelude.{ℕ, ◌≡◌, ◌≢◌, ◌<◌, ◌≤◌, ◌==◌, ◌&&◌, ◌+◌, Bool, nat_le, if◌then◌else◌, List, [], ◌∷◌, length, get_or}
 use Rattle.mcs_control.specs.declared.config.Mode.TheVariants.{Sporadic}
 use Rattle.mcs_system.specs.declared.part.ContextPart.{ContextPart}
@@ -11,7 +11,7 @@ use Rattle.mcs_system.specs.declared.part.SystemParts.{SystemParts}
 abbrev pub System : Type 0
 System = SystemParts
 
--- what stands past the end of each list; it is never reached
+-- the values past the end of each list, which are never reached
 abbrev pub no_context : ContextPart
 no_context = record { name = []; core = 0; config = record { budget = 0; period = 0; extra = 0 }; mode = Sporadic }
 
@@ -40,7 +40,7 @@ source_part system source = get_or system.sources source no_source
 abbrev pub is_server : System → ℕ → Bool
 is_server system note = nat_le (length system.notes) (note + system.servers)
 
--- a thread's core is its context's
+-- the core of a thread is that of its context
 abbrev pub core_of : System → ThreadPart → ℕ
 core_of system thread = (context_part system thread.context).core
 
@@ -49,21 +49,21 @@ abbrev pub start_of : List ThreadPart → ℕ → ℕ
 start_of [] context = 0
 start_of (thread ∷ threads) context = if thread.context == context then thread.start else start_of threads context
 
--- the delay of the link from this maker to this home, or this delay where they have no link
+-- the delay of the link from this maker to this home, or `delay` if they have no link
 abbrev pub delay_by_link : List Link → ℕ → ℕ → ℕ → ℕ
 delay_by_link [] maker home delay = delay
 delay_by_link (link ∷ links) maker home delay =
     if link.maker == maker && link.home == home then link.delay else delay_by_link links maker home delay
 
--- how long a signal of this maker is under way to this core
+-- the delay of a signal from this maker to this core
 abbrev pub delay_between : System → ℕ → ℕ → ℕ
 delay_between system maker home = delay_by_link system.links maker home system.delay
 
--- each signal is under way for at least one tick
+-- each signal takes at least one tick
 abbrev pub TakesTime : System → Type 0
 TakesTime system = (maker home : ℕ) → 1 ≤ delay_between system maker home
 
--- two cores, and how long a signal of the one is under way to the other
+-- two different cores with this delay from one to the other
 pub record HasDelay (system : System) (delay : ℕ) : Type 0 where
   pub maker : ℕ
   pub home : ℕ
@@ -72,7 +72,7 @@ pub record HasDelay (system : System) (delay : ℕ) : Type 0 where
   pub differ : maker ≢ home
   pub is : delay_between system maker home ≡ delay
 
--- the least delay of two different cores
+-- the minimum delay between two different cores
 pub record IsLeastDelay (system : System) (least : ℕ) : Type 0 where
   pub below : (maker home : ℕ) → maker < system.cores → home < system.cores → maker ≢ home →
       least ≤ delay_between system maker home

@@ -5,10 +5,11 @@ ghost use Rattle.mcs_system.specs.stored.Delays.{AreDelays, IsLeastAmong, To};
 use crate::{Link, System};
 use mcs_ticks::{CoreId, Limits};
 
-/// Pairs of cores, a core with itself among them.
+/// Number of pairs of cores, including a core with itself.
 const PAIRS: usize = Limits::CORES * Limits::CORES;
 
-/// Of several links of one pair the first counts, so it is written last.
+/// Returns the delays from `maker` to each core. If a pair has several links, the first counts; it
+/// is therefore written last.
 fn row_from(links: &[Link], delay: u64, maker: CoreId) -> [u64; Limits::CORES]
     requires { All (λ link. link.home < 64) links.now }
     ensures { (home : ℕ) → home < 64 → slice_index result home ≡ delay_by_link links.now maker home delay }
@@ -37,7 +38,7 @@ fn row_to(links: &[Link], delay: u64, home: CoreId) -> [u64; Limits::CORES]
     delays
 }
 
-/// The delays from each core to each core, by pairs: that of the pair (maker, home) stands at maker * 64 + home.
+/// Returns the delays between all cores: the pair (maker, home) is at index maker * 64 + home.
 fn table_of(links: &[Link], delay: u64) -> [u64; PAIRS]
     requires { All (λ link. (link.maker < 64) × (link.home < 64)) links.now }
     ensures { AreDelays links.now delay result }
@@ -51,8 +52,8 @@ fn table_of(links: &[Link], delay: u64) -> [u64; PAIRS]
 }
 
 impl System {
-    /// The ticks for which a signal of this core is under way to each core: the entry of a core is the delay to it. It walks the
-    /// links once, so who asks often keeps the row.
+    /// Returns the delays, in ticks, of signals from this core to each core, by core. Each call
+    /// passes once over the links.
     pub fn delays_from(&self, maker: CoreId) -> [u64; Limits::CORES]
         ensures { (home : ℕ) → home < 64 → slice_index result home ≡ delay_between self.now maker home }
     {
@@ -60,8 +61,8 @@ impl System {
         row_from(parts.links.as_slice(), parts.delay, maker)
     }
 
-    /// The ticks for which a signal of each core is under way to this one: the entry of a core is the delay from it. It walks the
-    /// links once, so who asks often keeps the row.
+    /// Returns the delays, in ticks, of signals from each core to this one, by core. Each call
+    /// passes once over the links.
     pub fn delays_to(&self, home: CoreId) -> [u64; Limits::CORES]
         ensures { (maker : ℕ) → maker < 64 → slice_index result maker ≡ delay_between self.now maker home }
     {
@@ -69,7 +70,7 @@ impl System {
         row_to(parts.links.as_slice(), parts.delay, home)
     }
 
-    /// The least of the delays from this core to others, or the greatest delay where that is less.
+    /// Returns the minimum delay from this core to the others, capped at 2^20.
     fn least_from(&self, delays: &[u64; PAIRS], maker: usize) -> u64
         requires known { maker < self.now.cores }
         requires delays { AreDelays self.now.links self.now.delay delays.now }
@@ -85,8 +86,8 @@ impl System {
         least
     }
 
-    /// The least delay of two different cores, in ticks, and 2^20, the greatest delay that there may be, where there is one core. It
-    /// walks the links once, and then the pairs of cores.
+    /// Returns the minimum delay between two different cores, in ticks; 2^20, the maximum delay, if
+    /// there is one core. Each call passes once over the links and once over the pairs of cores.
     pub fn least_delay(&self) -> u64
         ensures least { IsLeastDelay self.now result }
         ensures range { (1 ≤ result) × (result ≤ 2 ^ 20) }

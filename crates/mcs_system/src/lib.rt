@@ -1,4 +1,4 @@
-//! Systems: what a file describes, and when it is well formed.
+//! Systems: the contents of a file, and when they are well formed.
 #![tactic(auto)]
 
 mod delays;

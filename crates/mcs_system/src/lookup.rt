@@ -5,7 +5,7 @@ use crate::{ContextPart, NotePart, SourcePart, System, SystemParts, ThreadPart};
 use mcs_ticks::{ContextId, CoreId, NoteId, SourceId, ThreadId};
 
 impl SystemParts {
-    /// The context with this number.
+    /// Returns the context with this number.
     pub fn context(&self, context: ContextId) -> &ContextPart
         requires { context < length self.now.contexts }
         ensures { result.now ≡ context_part self.now context }
@@ -13,7 +13,7 @@ impl SystemParts {
         &self.contexts.as_slice()[context.0]
     }
 
-    /// The notification with this number.
+    /// Returns the notification with this number.
     pub fn note(&self, note: NoteId) -> &NotePart
         requires { note < length self.now.notes }
         ensures { result.now ≡ note_part self.now note }
@@ -21,7 +21,7 @@ impl SystemParts {
         &self.notes.as_slice()[note.0]
     }
 
-    /// The thread with this number.
+    /// Returns the thread with this number.
     pub fn thread(&self, thread: ThreadId) -> &ThreadPart
         requires { thread < length self.now.threads }
         ensures { result.now ≡ thread_part self.now thread }
@@ -29,7 +29,7 @@ impl SystemParts {
         &self.threads.as_slice()[thread.0]
     }
 
-    /// The source with this number.
+    /// Returns the source with this number.
     pub fn source(&self, source: SourceId) -> &SourcePart
         requires { source < length self.now.sources }
         ensures { result.now ≡ source_part self.now source }
@@ -37,7 +37,7 @@ impl SystemParts {
         &self.sources.as_slice()[source.0]
     }
 
-    /// The core of a note, and core 0 where there is no such note.
+    /// Returns the core of a notification or server, or core 0 if it does not exist.
     pub fn core_of_note(&self, note: NoteId) -> CoreId
         ensures { result ≡ (note_part self.now note).core }
     {
@@ -47,7 +47,7 @@ impl SystemParts {
         }
     }
 
-    /// The core of a context, and core 0 where there is no such context.
+    /// Returns the core of a context, or core 0 if it does not exist.
     pub fn core_of_context(&self, context: ContextId) -> CoreId
         ensures { result ≡ (context_part self.now context).core }
     {
@@ -57,7 +57,8 @@ impl SystemParts {
         }
     }
 
-    /// The core of a thread, which is its context's, and core 0 where there is no such context.
+    /// Returns the core of a thread, which is that of its context, or core 0 if the context does
+    /// not exist.
     pub fn core_of_thread(&self, thread: &ThreadPart) -> CoreId
         ensures { result ≡ core_of self.now thread.now }
     {
@@ -66,7 +67,8 @@ impl SystemParts {
 }
 
 impl System {
-    /// The core at which a notification is at home, and core 0 where there is no such notification. It is a core of the system.
+    /// Returns the home core of a notification, or core 0 if it does not exist. The result is a
+    /// core of the system.
     pub fn home_of(&self, note: NoteId) -> CoreId
         ensures home { result ≡ (note_part self.now note).core }
         ensures known { result < self.now.cores }

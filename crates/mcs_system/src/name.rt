@@ -5,7 +5,8 @@ ghost use Rattle.mcs_system.specs.Names.{is_name, is_name_byte};
 use mcs_ticks::Limits;
 use std::marker::Model;
 
-/// The name of a context, a notification or a thread. Contracts see its bytes.
+/// The name of a context, a notification, a server, a thread, a source or a chain. Contracts see
+/// its bytes.
 #[derive(Debug, Drop)]
 pub struct Name {
     text: String,
@@ -18,21 +19,21 @@ impl Model for Name {
 }
 
 impl Name {
-    /// The name with this text.
+    /// Returns the name with this text.
     pub fn new(text: String) -> Self
         ensures { result ≡ string_bytes text }
     {
         Name { text }
     }
 
-    /// Its text.
+    /// Returns its text.
     pub fn as_str(&self) -> &str
         ensures { result.now ≡ self.now }
     {
         self.text.as_str()
     }
 
-    /// Whether a text may be a name: 1 to 32 characters of `A-Z a-z 0-9 _ -` (profile M).
+    /// Whether a text is a valid name: 1 to 32 characters of `A-Z a-z 0-9 _ -` (profile M).
     pub fn accepts(text: &str) -> bool
         ensures { result ≡ is_name text.now }
     {

@@ -9,16 +9,17 @@ pub struct ContextPart {
     pub name: Name,
     pub core: CoreId,
     pub config: Config,
-    /// When it is unblocked. An order does not change it; a round robin context has the mode `Sporadic`.
+    /// When it is unblocked. An order does not change the mode. A round-robin context has mode
+    /// `Sporadic`.
     pub mode: Mode,
 }
 
-/// A notification of a system, or a server, at home on a core.
+/// A notification or a server of a system, with its home core.
 #[derive(Debug, PartialEq, Eq, Drop)]
 pub struct NotePart {
     pub name: Name,
     pub core: CoreId,
-    /// The word that it holds at first. A server holds 1 where it is free.
+    /// The initial word. A server that is free holds 1.
     pub word: u32,
 }
 
@@ -31,7 +32,7 @@ pub struct SourcePart {
     pub badge: u32,
 }
 
-/// Dates of a source: the first one, and each a period after the one before.
+/// Dates of a source: a first date, and further ones at intervals of a period.
 #[derive(Clone, Copy, Debug, PartialEq, Eq)]
 pub struct Beat {
     pub source: SourceId,
@@ -39,88 +40,91 @@ pub struct Beat {
     pub first: Tick,
     /// 1 to 2^40.
     pub period: u64,
-    /// How many dates there are; 0 means without end.
+    /// The number of dates; 0 sets no limit.
     pub count: u64,
 }
 
 impl Beat {
-    /// Beats of a system: 0 to this.
+    /// Maximum beats of a system; minimum 0.
     pub const MOST: usize = 4_096;
 }
 
-/// A way from the interrupts of a source to the ends of a thread's rounds. It changes no schedule.
+/// An end-to-end chain from the interrupts of a source to the ends of a thread's rounds. It does
+/// not affect the schedule.
 #[derive(Debug, PartialEq, Eq, Drop)]
 pub struct ChainPart {
     pub name: Name,
     pub source: SourceId,
     pub thread: ThreadId,
-    /// The badges of the rounds that answer; 0 means any.
+    /// The badges of the rounds that answer an interrupt; 0 means any.
     pub badges: u32,
-    /// The ticks within which each interrupt is to have its answer, at most 2^40; 0 means none.
+    /// The end-to-end deadline in ticks: the time within which each interrupt must be answered, at
+    /// most 2^40; 0 sets no deadline.
     pub deadline: u64,
 }
 
 impl ChainPart {
-    /// Chains of a system: 0 to this.
+    /// Maximum chains of a system; minimum 0.
     pub const MOST: usize = 4_096;
 }
 
-/// A thread of a system. Its core is its context's.
+/// A thread of a system. Its core is that of its context.
 #[derive(Debug, Drop)]
 pub struct ThreadPart {
     pub name: Name,
     /// The context to which it is bound.
     pub context: ContextId,
-    /// 0 to 255; the greatest runs first.
+    /// 0 to 255; a greater number is a higher priority.
     pub priority: u8,
-    /// The moment at which it may first run, at most 2^40.
+    /// The time at which it may first run, at most 2^40.
     pub start: Tick,
-    /// How often its script is run, at most 2^40; 0 means until the horizon.
+    /// How many rounds (jobs) it runs, at most 2^40; 0 means until the horizon.
     pub rounds: u64,
-    /// The ticks within which each response is to come, at most 2^40; 0 means none.
+    /// The deadline of each response in ticks, at most 2^40; 0 sets no deadline.
     pub deadline: u64,
-    /// What it does in a round.
+    /// The script of a round.
     pub script: Script,
 }
 
-/// A delay of its own for the signals of one core to another one.
+/// A separate delay for the signals from one core to another.
 #[derive(Clone, Copy, Debug, PartialEq, Eq)]
 pub struct Link {
     /// The core that makes the signals.
     pub maker: CoreId,
-    /// The core at which their notifications are at home. It is not the maker.
+    /// The home core of their notifications. It differs from `maker`.
     pub home: CoreId,
-    /// The ticks for which such a signal is under way, 1 to 2^20.
+    /// The delay of such a signal in ticks, 1 to 2^20.
     pub delay: u64,
 }
 
 impl Link {
-    /// Links of a system: 0 to this.
+    /// Maximum links of a system; minimum 0.
     pub const MOST: usize = 4_096;
 }
 
-/// All that a file says of a system, each thing numbered by its place in its list.
+/// The contents of a file. Each thing is numbered by its place in its list.
 #[derive(Debug, Drop)]
 pub struct SystemParts {
-    /// How many cores there are, 1 to 64.
+    /// The number of cores, 1 to 64.
     pub cores: usize,
-    /// The ticks for which a signal to another core is under way where no link says otherwise, 1 to 2^20.
+    /// The delay of a cross-core signal without a link, in ticks, 1 to 2^20.
     pub delay: u64,
-    /// The ticks that a call of the kernel costs, such as `signal` or `wait`, 1 to 2^16.
+    /// The cost of a kernel call such as `signal` or `wait`, in ticks, 1 to 2^16.
     pub call: u64,
-    /// The least ticks that the head of a refill list has after a charge, 1 to 2^20.
+    /// The fewest ticks of the head of a refill list after a charge, 1 to 2^20.
     pub min_budget: u64,
     pub contexts: Sequence<ContextPart>,
-    /// The notifications, and then the servers.
+    /// The notifications, followed by the servers.
     pub notes: Sequence<NotePart>,
-    /// How many of the notes, the last ones, are servers.
+    /// How many of the notes are servers; these are the last ones.
     pub servers: usize,
     pub threads: Sequence<ThreadPart>,
     pub orders: Sequence<Order>,
-    /// The pairs of cores that have a delay of their own, no pair twice, at most 4,096.
+    /// The pairs of cores with a separate delay, at most 4,096; no pair occurs twice.
     pub links: Sequence<Link>,
     pub sources: Sequence<SourcePart>,
-    /// The dates of the sources, in the order of the sources; of one source those that come first in a period stand first.
+    /// The dates of the sources, in the order of the sources; the beats of one source are in the
+    /// order of their dates within a period.
     pub beats: Sequence<Beat>,
     pub chains: Sequence<ChainPart>,
 }

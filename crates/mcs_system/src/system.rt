@@ -7,7 +7,8 @@ ghost use Rattle.mcs_system.specs.laws.Equality.{same_system_equivalence};
 use crate::SystemParts;
 use std::marker::Model;
 
-/// A system that is well formed. Contracts see its parts: numbers and lists, names as their bytes.
+/// A system that is well formed. Contracts see its parts: numbers and lists, with names as their
+/// bytes.
 #[derive(Debug, Drop)]
 pub struct System {
     parts: SystemParts,
@@ -26,7 +27,7 @@ impl Model for System {
 }
 
 impl System {
-    /// The system with these parts, which are well formed. It takes no memory.
+    /// Returns the system with these parts, which must be well formed. Allocates no memory.
     pub fn new(parts: SystemParts) -> Self
         requires { IsWellFormed parts }
         ensures { result ≡ parts }
@@ -34,7 +35,7 @@ impl System {
         System { parts }
     }
 
-    /// Its parts, which are well formed.
+    /// Returns its parts, which are well formed.
     pub fn parts(&self) -> &SystemParts
         ensures same { result.now ≡ self.now }
         ensures well_formed { IsWellFormed self.now }
@@ -48,7 +49,7 @@ impl PartialEq for System {
 
     ghost laws = { partial_equiv_from_equiv same_system_equivalence };
 
-    /// Whether both have the same parts: it compares all that contracts see.
+    /// Whether both have the same parts; all that contracts see is compared.
     fn eq(&self, other: &Self) -> bool
         ensures value { result ≡ same_system self.now other.now }
         ensures exact { IsTrue result ↔ self.now ≡ other.now }

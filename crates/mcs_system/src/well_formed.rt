@@ -11,7 +11,6 @@ use mcs_control::{Config, Order};
 use mcs_script::{Item, Script};
 use mcs_ticks::{ContextId, CoreId, Limits, NoteId};
 
-/// A thing with a name.
 trait Named {
     ghost name: { Self → List ℕ };
 
@@ -73,7 +72,8 @@ fn shares_name<T: Named>(thing: &T, earlier: &[T]) -> bool
     earlier.iter().any(|other| other.name() == thing.name())
 }
 
-/// Each name is compared with all earlier ones: it takes no memory, and is done once for a system.
+/// Compares each name with all earlier ones. This allocates no memory, and is done once for a
+/// system.
 fn have_distinct_names<T: Named>(things: &[T]) -> bool
     ensures { IsTrue result ↔ AllPairs (λ a b. T.name a ≢ T.name b) things.now }
 {
@@ -85,14 +85,14 @@ fn have_distinct_names<T: Named>(things: &[T]) -> bool
     true
 }
 
-/// The limits of all things with names are the same.
+/// Checks names and their number; the limit is the same for all kinds.
 fn are_named<T: Named>(things: &[T]) -> bool
     ensures { IsTrue result ↔ AreNamed T.name things.now }
 {
     things.len() <= Limits::THREADS && have_names(things) && have_distinct_names(things)
 }
 
-/// Marks the contexts that a thread has. The marks stand on the stack, so this takes no memory either.
+/// Marks the contexts that have a thread. The marks are on the stack, so no memory is allocated.
 fn have_contexts_of_their_own(threads: &[ThreadPart]) -> bool
     requires { All (λ thread. thread.context < 4096) threads.now }
     ensures { IsTrue result ↔ AllPairs (λ a b. a.context ≢ b.context) threads.now }
@@ -108,7 +108,7 @@ fn have_contexts_of_their_own(threads: &[ThreadPart]) -> bool
     true
 }
 
-/// Marks the pairs of cores that have a link, on the stack too.
+/// Marks the pairs of cores that have a link, on the stack.
 fn have_cores_of_their_own(links: &[Link]) -> bool
     requires { All (λ link. (link.maker < 64) × (link.home < 64)) links.now }
     ensures { IsTrue result ↔ AllPairs DifferInCores links.now }
@@ -142,7 +142,7 @@ fn stands_behind(beat: Beat, earlier: &[Beat]) -> bool
     earlier.iter().all(|other| do_precede(*other, beat))
 }
 
-/// Each beat is compared with all earlier ones, as names are.
+/// Compares each beat with all earlier ones.
 fn are_in_order(beats: &[Beat]) -> bool
     requires { All (λ beat. (beat.first ≤ 2 ^ 41) × (beat.period ≤ 2 ^ 40)) beats.now }
     ensures { IsTrue result ↔ AreInOrder beats.now }
@@ -173,11 +173,21 @@ fn has_numbers(thread: &ThreadPart) -> bool
 }
 
 impl SystemParts {
-    /// Whether the system is well formed: counts and numbers lie in their ranges (profile M), names are 1 to 32 characters of
-    /// `A-Z a-z 0-9 _ -` and distinct in each kind, each configuration passes its check with the system's least budget, a round robin context has the mode `Sporadic`, no two
-    /// threads have one context, a thread waits on notifications of its own core alone and enters servers of it alone, an order keeps the context's kind, no
-    /// two links go from the same core to the same other core, servers are free at first, and the dates of a source in one period rise. It takes no memory, so names and dates are compared in pairs, in time with the
-    /// square of their number; the rest is linear.
+    /// Whether the system is well formed (profile M):
+    ///
+    /// - counts and numbers are in range, and refer to things that exist;
+    /// - names are 1 to 32 characters of `A-Z a-z 0-9 _ -`, and distinct within each kind;
+    /// - each configuration passes its check with the system's `min_budget`, and a round-robin
+    ///   context has mode `Sporadic`;
+    /// - no two threads have the same context;
+    /// - a thread waits only on notifications, and enters only servers, of its core;
+    /// - an order keeps the kind of its context;
+    /// - a link goes from one core to another, and no pair has two;
+    /// - signals and sources post on notifications, not on servers; each server is free at first;
+    /// - the dates of a source within a period rise.
+    ///
+    /// Allocates no memory. Names and beats are compared in pairs, in time quadratic in their
+    /// number; the rest is linear.
     pub fn is_well_formed(&self) -> bool
         ensures { IsTrue result ↔ IsWellFormed self.now }
     {
@@ -244,7 +254,7 @@ impl SystemParts {
         }
     }
 
-    /// Whether a note, of those that there are, is a server.
+    /// Whether a note is a server. The caller ensures that the note exists.
     pub fn is_server(&self, note: NoteId) -> bool
         requires { note < length self.now.notes }
         ensures { result ≡ is_server self.now note }
@@ -289,7 +299,7 @@ impl SystemParts {
             .all(|item| self.is_item(core, *item))
     }
 
-    /// The context with this number, if there is one: its core and its configuration.
+    /// Returns the core and the configuration of the context with this number, if it exists.
     fn accepted_at(&self, context: ContextId) -> Option<(CoreId, Config)>
         ensures there { IsSome result ↔ (context < length self.now.contexts) }
         ensures value { IfSome result

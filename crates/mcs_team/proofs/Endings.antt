@@ -5,12 +5,12 @@ use Rattle.mcs_system.specs.System.{System}
 use Rattle.mcs_window.specs.Desk.{Table, amount_kept, taken_of, turns_left, AllAreHere, IsFinished, IsLater}
 use Rattle.mcs_team.proofs.Rounds.{sum-none}
 
--- where nothing is kept there is never enough
+-- a desk that keeps no rows never has enough of them
 pub ends : {enough : ℕ} (desk : Table) → IsFinished desk ⊎ (enough ≤ amount_kept (λ _. 0) desk) → 0 < enough → IsFinished desk
 ends desk (inl finished) some = finished
 ends desk (inr much) some = absurd (let none = sum-none (λ _. 0) desk.system.cores 0 0 (λ c l. refl) in omega arith)
 
--- a desk of this run, on which nothing is lent or lost, and from which nothing was taken that its cores told
+-- a desk of this run on which no piece is lent or lost, and from which no rows were taken
 pub record IsCounting (system : System) (horizon : ℕ) (desk : Table) : Type 0 where
   pub run : (desk.system ≡ system) × (desk.horizon ≡ horizon)
   pub sound : desk.lost ≡ false
@@ -26,7 +26,7 @@ counting-on system horizon desk after is later =
       first = λ c l. ap (λ (xs : List ℕ). slice_index xs c) later.taken_are ∙ is.first c (subst (λ (s : System). c < s.cores) later.system_is l);
     }
 
--- until it has ended it goes on
+-- the run continues until it has ended
 pub goes-on : (desk after : Table) → ¬ IsFinished after → IsFinished after ⊎ (turns_left after < turns_left desk) → turns_left after < turns_left desk
 goes-on desk after not (inl over) = absurd (not over)
 goes-on desk after not (inr less) = less

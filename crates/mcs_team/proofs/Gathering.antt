@@ -1,4 +1,4 @@
--- What each core told, taken from a desk one core after another.
+-- The rows of each core, taken from a desk one core after another.
 use Rattle.std.proofs.Common.{◌≡◌, ◌≢◌, ℕ, ◌+◌, ◌<◌, ◌≤◌, Bool, true, false, List, length, refl, sym, ap, ◌∙◌, subst, arith}
 use Rattle.std.specs.Prelude.{◌==◌, slice_index, slice_set}
 use Rattle.std.proofs.lemmas.Bool.Decides.{nat_tests}
@@ -7,7 +7,7 @@ use Rattle.mcs_system.specs.System.{System}
 use Rattle.mcs_window.specs.Desk.{Table, clock_of, taken_of, taken_at, AllAreHere}
 use Rattle.mcs_team.specs.Flow.{AreAtClocks, AreTakenTo, IsClear}
 
--- what the cores below this number told was taken
+-- the rows of the cores below this number were taken
 pub record AreGathered (start : Table) (many : ℕ) (table : Table) (pasts : List ℕ) : Type 0 where
   pub rest_is : table ≡ record start { taken = table.taken }
   pub long : length table.taken ≡ length start.taken
@@ -73,7 +73,7 @@ module _ (start : Table) (n : ℕ) (table : Table) (pasts : List ℕ) (is : AreG
         done-by c k true g = let i = same c g in rw i (past-now ∙ clock-is)
         done-by c k false g = let i = other c g in past-other c i ∙ is.done c (omega arith)
 
-  -- of all cores
+  -- for all cores
   module _ (e : n ≡ start.system.cores) where
     pub gathers-all : AreAtClocks pasts start
     gathers-all c l = is.done c (omega arith)

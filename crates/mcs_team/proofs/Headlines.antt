@@ -1,4 +1,4 @@
--- What is known of the whole schedule and its reports.
+-- Facts of the whole schedule and its reports.
 use Rattle.std.proofs.Common.{◌≡◌, ℕ, List, suc, ap, ◌∙◌, sym, subst}
 use Rattle.std.specs.Prelude.{fold, sum}
 use Rattle.mcs_system.specs.System.{System}

@@ -23,14 +23,14 @@ from-kept t row l = by (nat_le t row.moment) refl
     by true e = refl
     by false e = absurd (let g : row.moment < t = grind (arith, nat_tests) in omega arith)
 
--- while the rows are told
+-- while the rows are recorded
 module _ {S : Type 0} (holds : S → List Row → Type 0) (from : ℕ) (rows : List Row) (i : ℕ) (row : Row) (l : i < length rows) (is : row ≡ get_or rows i row) where
   parts : rows_from from (take (i + 1) rows) ≡ rows_from from (take i rows) ++ rows_from from (row ∷ [])
   parts =
       ap (rows_from from) (take_more rows i row l ∙ ap (λ x. take i rows ++ x ∷ []) (sym is))
       ∙ filter-append (λ row. nat_le from row.moment) (take i rows) (row ∷ [])
 
-  -- a row is told, ..
+  -- a row is recorded, ..
   pub tells-more : (takes : S → Row → Bool → S → Type 0) → ((before after : S) (held : List Row) (row : Row) → holds before held → takes before row true after → holds after (held ++ row ∷ [])) →
       (s u : S) → from ≤ row.moment → holds s (rows_from from (take i rows)) → takes s row true u → holds u (rows_from from (take (i + 1) rows))
   tells-more takes more s u late held taken =
@@ -41,7 +41,7 @@ module _ {S : Type 0} (holds : S → List Row → Type 0) (from : ℕ) (rows : L
   tells-same s early held =
       subst (holds s) (sym (parts ∙ ap (λ xs. rows_from from (take i rows) ++ xs) (from-none from row [] early) ∙ append-nil (rows_from from (take i rows)))) held
 
--- of all rows of a core those from a moment on
+-- of all rows of a core, those from a time on
 pub rest-of : (system : System) (c from past : ℕ) → from ≤ past → rows_from from (rows_between system c 0 past) ≡ rows_between system c from past
 rest-of system c from past l =
     ap (rows_from from) (sym (rows-join system c 0 from past (omega arith) l))
@@ -92,7 +92,7 @@ adds-more start first end n desk pasts is l next news e f =
         let i : c ≢ n = grind (arith, nat_tests) in
         ap (λ xs. slice_index xs c) f ∙ get_or-set_other pasts n c end 0 i ∙ is.done c (omega arith)
 
--- when the rest of each core was added all of it was given
+-- when the rest of each core was added, all of it was given
 pub rest-given : {O : Type 0} (takes : O → Row → Bool → O → Type 0) (system : System) (horizon from reached now end : ℕ) (pasts : List ℕ) (before out : O) → reached ≡ from → now ≡ fold min end pasts →
     end ≡ horizon + 1 → (length pasts ≡ system.cores) × ((c : ℕ) → c < system.cores → slice_index pasts c ≡ horizon + 1) → IsGivenBetween takes system reached now before out →
     IsGivenBetween takes system from (horizon + 1) before out

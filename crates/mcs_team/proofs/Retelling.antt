@@ -23,7 +23,7 @@ module _ (desk : Table) (front : List ℕ) (at : AreAtClocks front desk) where
   pub retold-taken : (moments : List ℕ) → length moments ≡ desk.system.cores → AreAtClocks moments desk → AreTakenTo moments (record desk { taken = front })
   retold-taken moments many same = record { many_are = many; each = λ c l. at c l ∙ sym (same c l) }
 
--- one of a run, on which nothing is lent or lost
+-- a desk of a run on which no piece is lent or lost
 pub retold-clear : (system : System) (horizon : ℕ) (desk told : Table) (pasts : List ℕ) (end : ℕ) → IsWellFormed system → desk.system ≡ system → desk.horizon ≡ horizon → desk.lost ≡ false → AllAreHere desk →
     told ≡ record desk { taken = told.taken } → length told.taken ≡ 64 → AreTakenTo pasts told → end ≡ horizon + 1 → IsClear system horizon told pasts end
 retold-clear system horizon desk told pasts end well system_is horizon_is sound here is long taken last =

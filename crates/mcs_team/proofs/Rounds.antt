@@ -17,7 +17,7 @@ use Rattle.mcs_ticks.specs.declared.sink.FlowFault.TheVariants as fault
 use Rattle.mcs_team.specs.Flow.{AreAtClocks, FailsFrom, IsClear, IsGivenBetween, Waits}
 use Rattle.mcs_team.proofs.Giving.{given-append}
 
--- turns that are left, and one more where not all was given
+-- turns that are left, and one more if rows are left to give
 abbrev pub rounds_left : Table → ℕ → ℕ → ℕ
 rounds_left desk reached end = turns_left desk + cond (reached == end) 0 1
 
@@ -85,7 +85,8 @@ module _ (system : System) (horizon : ℕ) (desk : Table) (pasts : List ℕ) (en
             on-way (inl fin) = absurd (let z = all-ended fin in let g = last_is in let h : now ≢ last = grind (arith, nat_tests) in h (omega arith))
             on-way (inr less) = let q = turns-same in omega arith
 
--- between two rounds: since the first one an output was given what the cores told before a moment, and the rest waits
+-- between two rounds: since the first one an output was given what the cores told before a moment,
+-- and the rest waits
 pub record IsRound {O P : Type 0} (takes : O → Row → Bool → O → Type 0) (holds : O → P → List Row → Type 0) (system : System) (horizon first : ℕ) (before : O)
     (desk : Table) (pasts : List ℕ) (parts : List (List P)) (reached end : ℕ) (out : O) : Type 0 where
   pub clear : IsClear system horizon desk pasts end

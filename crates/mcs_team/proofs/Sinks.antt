@@ -1,4 +1,4 @@
--- What a sink that keeps its rows was given, and one that counts those which another one takes.
+-- The rows given to a sink that keeps them, and to one that counts those which another one takes.
 use Rattle.std.proofs.Common.{◌≡◌, ℕ, Bool, true, List, [], ◌∷◌, ◌++◌, inl, inr, refl, sym, ap, ◌∙◌, subst, append-nil}
 use Rattle.std.specs.Prelude.{fold}
 use Rattle.std.proofs.lemmas.List.{append_assoc}
@@ -12,7 +12,7 @@ use Rattle.mcs_ticks.specs.declared.sink.FlowFault.{FlowFault}
 use Rattle.mcs_ticks.specs.declared.sink.FlowFault.TheVariants as fault
 use Rattle.mcs_team.specs.declared.whole.Kept.{Kept}
 
--- each row stands behind those that it had
+-- each row is appended to those that it had
 abbrev Keeps : Kept → Row → Bool → Kept → Type 0
 Keeps before row taken after = taken ≡ true → after.rows.items ≡ before.rows.items ++ row ∷ []
 
@@ -21,7 +21,7 @@ keeps s t [] g = ap (λ (k : Kept). k.rows.items) (sym g) ∙ sym (append-nil s.
 keeps s t (row ∷ rows) g =
     keeps g.0 t rows g.2 ∙ ap (λ xs. xs ++ rows) (g.1 refl) ∙ append_assoc s.rows.items (row ∷ []) rows
 
--- where a sink is at the end
+-- the state of a sink at the end
 pub at-sink : {W : Type 0} (P : W → Type 0) (a b : W) → b ≡ a → P a → P b
 at-sink P a b e p = subst P (sym e) p
 
@@ -30,7 +30,7 @@ abbrev pub IsOver : {S : Type 0} → Counted S → Counted S → Type 0
 IsOver first last = (last.sink.ghost_name ≡ first.sink.ghost_name) × (last.tally.ghost_name ≡ first.tally.ghost_name)
 
 module _ {S : Type 0} (takes : S → Row → Bool → S → Type 0) where
-  -- each row goes to the other sink, and is counted where that takes it
+  -- each row goes to the other sink, and is counted if that takes it
   abbrev Counts : Counted S → Row → Bool → Counted S → Type 0
   Counts before row taken after =
       (after.sink.ghost_name ≡ before.sink.ghost_name)

@@ -9,7 +9,7 @@ use Rattle.mcs_team.specs.declared.run.Stop.{Stop}
 use Rattle.mcs_team.specs.declared.run.Stop.TheVariants.{Fault, Odd}
 use Rattle.mcs_team.proofs.Rounds.{given-none, given-further, fails-further, stops-at}
 
--- what waits is of moments up to one past the horizon
+-- rows that wait are at most one tick later than the horizon
 pub waits-in-time : {O P : Type 0} (holds : O → P → List Row → Type 0) (system : System) (horizon t : ℕ) (pasts : List ℕ) (parts : List (List P)) (out : O) →
     Waits holds system horizon t pasts parts out → 1 ≤ system.cores → t ≤ horizon + 1
 waits-in-time holds system horizon t pasts parts out is some = let a = is.passed 0 (omega arith) in let b = is.early 0 (omega arith) in omega arith
@@ -20,7 +20,7 @@ module _ {O : Type 0} (takes : O → Row → Bool → O → Type 0) (system : Sy
   stop-further t u before out after (Fault why) g h = fails-further takes system horizon t u before out after why g h
   stop-further t u before out after (Odd m) g h = (h.0, given-further takes system t u m before out after g h.1)
 
-  -- where nothing more was given
+  -- no further row was given
   pub stops-here : TakesTime system → (t : ℕ) (out : O) (stop : Stop) → t ≤ horizon + 1 → (stop ≡ Fault fault.NoMemory) ⊎ (stop ≡ Odd t) → IsStop takes system horizon t out out stop
   stops-here takes_time t out stop l (inl e) = subst (IsStop takes system horizon t out out) (sym e) (stops-at takes system horizon takes_time t out l)
   stops-here takes_time t out stop l (inr e) = subst (IsStop takes system horizon t out out) (sym e) (l, given-none takes system t out)

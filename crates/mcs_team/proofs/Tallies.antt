@@ -1,4 +1,4 @@
--- The tallies of all cores, each of the rows of its own core.
+-- The tallies of all cores. Each has counted the rows of one core.
 use Rattle.std.proofs.Common.{◌≡◌, ℕ, ◌+◌, ◌<◌, List, length, map, replicate, sym, ap, ◌∙◌, arith}
 use Rattle.std.specs.Prelude.{slice_index_or}
 use Rattle.std.proofs.lemmas.List.{get_or-map, get_or-replicate}
@@ -30,7 +30,8 @@ its-own : (system : System) (c horizon : ℕ) (rows : List Row) (tally : CoreTal
 its-own system c horizon rows tally s k h holds =
     holds ∙ ap (λ x. core_tally_of x tally.core tally.horizon rows) s ∙ ap (λ n. core_tally_of system n tally.horizon rows) k ∙ ap (λ n. core_tally_of system c n rows) h
 
--- the tallies of a desk on which all turns were taken and nothing that was told was taken, each at the place of its core
+-- the tallies of a desk on which all turns were taken and no rows were taken, each at the index of
+-- its core
 pub tallies-whole : {S : Type 0} (told : List S) (tally_of : S → CoreTally) (desk : Table) (system : System) (horizon : ℕ) →
     desk.system ≡ system → desk.horizon ≡ horizon → IsFinished desk → ((c : ℕ) → c < desk.system.cores → taken_of desk c ≡ 0) →
     length told ≡ desk.system.cores →

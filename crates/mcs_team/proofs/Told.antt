@@ -1,4 +1,4 @@
--- What a collector holds, as its core tells more.
+-- The rows that a collector holds, as its core records more.
 use Rattle.std.proofs.Common.{◌≡◌, ℕ, ◌≤◌, List, [], ◌++◌, sym, ap, ◌∙◌, subst, append-nil, arith}
 use Rattle.mcs_ticks.specs.declared.row.Row.{Row}
 use Rattle.mcs_system.specs.System.{System}

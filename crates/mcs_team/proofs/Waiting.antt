@@ -1,4 +1,4 @@
--- What cores told and what waits of it for an output: where more is added, and where all before a moment is given out.
+-- The rows that wait for an output: more are added, and all before a time are written.
 use Rattle.std.proofs.Common.{◌≡◌, ◌≢◌, ℕ, zero, suc, ◌+◌, ◌<◌, ◌≤◌, Bool, true, false, List, [], ◌∷◌, ◌++◌, length, map, min, get_or, refl, sym, ap, ◌∙◌, subst, arith}
 use Rattle.std.specs.Prelude.{◌==◌, All, fold, slice_index, slice_set, nat_le}
 use Rattle.std.specs.List.{range_with_len}
@@ -95,7 +95,7 @@ module _ (system : System) where
               get_or-set_other (rows_until system pasts) c i (rows_between system c 0 past) [] g ∙ list-at pasts i [] k
               ∙ ap (rows_between system i 0) (sym (get_or-set_other pasts c i past 0 g))
 
-  -- also where all before an earlier moment was given
+  -- the same, if all before an earlier time was given
   with-from : (t : ℕ) (pasts : List ℕ) (c past : ℕ) → length pasts ≡ system.cores → c < system.cores → t ≤ slice_index pasts c → slice_index pasts c ≤ past →
       with_rows c (rows_between system c (slice_index pasts c) past) (all_from t (rows_until system pasts)) ≡ all_from t (rows_until system (slice_set pasts c past))
   with-from t pasts c past long l le in_order =
@@ -124,7 +124,7 @@ module _ (system : System) where
       subst DoNotFall (sym (get_or-map (rows_from t) (rows_until system pasts) c d d k))
       (from-in-order t _ (subst DoNotFall (sym (list-at pasts c d (omega arith))) (order-between system c 0 (slice_index pasts c))))
 
-  -- all rows before a moment that no core has still to pass, where those before an earlier one were given
+  -- all rows before a time that all cores have passed, if those before an earlier one were given
   module _ (takes_time : TakesTime system) (t : ℕ) (pasts : List ℕ) (long : length pasts ≡ system.cores) (some : 1 ≤ system.cores)
       (passed : (c : ℕ) → c < system.cores → t ≤ slice_index pasts c) where
     in-order : IsInOrder (record { left = rows_until system pasts; clocks = pasts })
@@ -179,7 +179,7 @@ module _ {O P : Type 0} (holds : O → P → List Row → Type 0) (system : Syst
               let g : d ≢ c = grind (arith, nat_tests) in
               subst Q (sym (get_or-set_other pasts c d past 0 g)) (old d k)
 
-  -- all before the least of the moments is given out
+  -- all before the earliest of the times is written
   module _ (takes : O → Row → Bool → O → Type 0) (takes_time : TakesTime system) (some : 1 ≤ system.cores) (t : ℕ) (pasts : List ℕ) (parts : List (List P)) (before : O)
       (is : Waits holds system horizon t pasts parts before) (u : ℕ) (at : u ≡ fold min (horizon + 1) pasts) where
     least : ℕ

@@ -1,4 +1,4 @@
--- What each core tells to passes the idle time that is skipped where a piece is lent.
+-- The collector of each core passes the idle time that is skipped when a piece is lent.
 use Rattle.std.proofs.Common.{◌≡◌, ℕ, ◌<◌, ◌≤◌, length, min, Option, Some, None, List, [], inl, inr, ap, sym, ◌∙◌, subst, arith}
 use Rattle.std.specs.Prelude.{slice_index, slice_index_or, IfSome, IfNone}
 use Rattle.std.proofs.lemmas.List.{get_or_default}

@@ -1,18 +1,18 @@
--- The rows of the cores, of which each counts its own.
+-- Counts of rows, made by each core for its own.
 use Rattle.std.specs.Prelude.{ℕ, ◌+◌, ◌-◌, ◌^◌, fold, min, List, replicate}
 use Rattle.mcs_ticks.specs.declared.row.Row.{Row}
 use Rattle.mcs_report.specs.CoreTally.{CoreTally}
 use Rattle.mcs_report.specs.laws.CoreTallies.{AreOfCores}
 use Rattle.mcs_system.specs.System.{System}
 
--- each core has its tally, of all its rows up to the horizon
+-- each core has its tally, which has counted all its rows up to the horizon
 abbrev pub AreWhole : System → ℕ → List CoreTally → Type 0
 AreWhole system horizon tallies = AreOfCores system horizon (replicate system.cores (horizon + 1)) tallies
 
--- the next number, of those that a word of 64 bits has
+-- the next number, up to the maximum of 64 bits
 abbrev pub one_more : ℕ → ℕ
 one_more n = min (n + 1) (2 ^ 64 - 1)
 
--- how many rows these are, as far as a word of 64 bits says
+-- the number of rows, up to the maximum of 64 bits
 abbrev pub many_of : List Row → ℕ
 many_of rows = fold (λ n _. one_more n) 0 rows

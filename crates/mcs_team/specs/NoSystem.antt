@@ -1,4 +1,4 @@
--- A system without anything, which stands where one must be named and none is meant.
+-- An empty system, for places that must name one and mean none.
 use Rattle.std.specs.Prelude.{[]}
 use Rattle.mcs_system.specs.System.{System}
 

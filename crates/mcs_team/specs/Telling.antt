@@ -1,4 +1,4 @@
--- What a core told: its rows from one moment to before another.
+-- The rows that a core recorded: from one time to before another.
 use Rattle.std.specs.Prelude.{ℕ}
 
 pub record Span : Type 0 where

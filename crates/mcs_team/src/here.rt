@@ -1,4 +1,4 @@
-//! Runs on the caller's thread, whose rows go to an output or are kept.
+//! Simulations on the caller's thread. Their rows go to an output or are kept.
 ghost use Rattle.std.specs.Prelude.{◌≡◌, ◌≤◌, ◌+◌, ◌<◌, ◌^◌, length, slice_index_or, IfErr, IfOk, OnOk, []};
 ghost use Rattle.std.specs.Arc.{arc_value};
 ghost use Rattle.mcs_core.specs.Clock.{schedule};
@@ -19,19 +19,22 @@ use std::alloc::Global;
 use std::marker::Brand;
 use std::sync::Arc;
 
-/// With so much of the only core on the desk it is taken.
+/// Rows to collect before they are written, with one core.
 const ENOUGH: usize = 2048;
 
-/// Of several cores it is taken with as much of each as ticks lie in the least delay: for so long a core goes on alone. With fewer rows too much time
-/// goes to and fro between cores, and more of them would have left the cache when they are given out, so there are bounds.
+/// Fewest rows per core to collect before they are written, with several cores. Between the bounds
+/// the number is the minimum delay in ticks, since a core runs ahead for that long. Fewer rows make
+/// the switches between cores too costly.
 const FEWEST: u64 = 64;
 
+/// Most rows per core to collect before they are written. More of them would have left the cache.
 const MOST: u64 = 256;
 
-/// At least so much is taken in all. It may all be of one core, and room for it is made in turn with each.
+/// Fewest rows to collect in all. They may all be from one core, and room for them is made at each
+/// core in turn.
 const IN_ALL: usize = 512;
 
-/// With so much on a desk of several cores it is taken.
+/// Rows to collect on a desk of several cores before they are written.
 pub(crate) fn enough_of(parts: &SystemParts) -> usize {
     let mut delay = parts.delay;
     for link in parts.links.as_slice() {
@@ -41,8 +44,8 @@ pub(crate) fn enough_of(parts: &SystemParts) -> usize {
     parts.cores.saturating_mul(of_each).max(IN_ALL)
 }
 
-/// Takes the turns that are left in rounds, and gives out what was told in each round before the clocks of all cores. A round ends where there is
-/// enough.
+/// Takes the remaining turns in rounds that end at `enough` rows. After each round it writes the
+/// rows that the clocks of all cores have passed.
 pub(crate) fn flow_rounds<B: Run, W: Relay, G: Gate>(
     relay: &W,
     mut desk: Desk<W::Told>,
@@ -73,7 +76,7 @@ pub(crate) fn flow_rounds<B: Run, W: Relay, G: Gate>(
     Ok(())
 }
 
-/// Takes the turns in rounds at a desk on which nothing has happened yet.
+/// Runs a whole simulation in rounds, from a desk at time 0.
 fn flow_desk<B: Run, W: Relay, G: Gate>(
     alloc: Global,
     relay: &W,
@@ -95,8 +98,8 @@ fn flow_desk<B: Run, W: Relay, G: Gate>(
     flow_rounds::<B, W, G>(relay, desk, flow, enough, gate, out)
 }
 
-/// Takes all turns in rounds at a desk with one core, on which nothing has happened yet, and gives what was told in each round to an output at
-/// once.
+/// Runs a whole simulation of one core in rounds, from a desk at time 0. The rows of each round are
+/// written at once, without a merge.
 fn flow_one<W: Relay, G: Gate>(
     relay: &W,
     mut desk: Desk<W::Told>,
@@ -130,7 +133,7 @@ fn flow_one<W: Relay, G: Gate>(
     Ok(())
 }
 
-/// For each core what it tells its rows to. None was told yet.
+/// Returns one empty collector per core.
 pub(crate) fn empty_told<W: Relay>(
     alloc: Global,
     relay: &W,
@@ -145,7 +148,7 @@ pub(crate) fn empty_told<W: Relay>(
     Ok(told)
 }
 
-/// All cores at moment 0, each with what it tells its rows to.
+/// Returns a desk with all cores at time 0, each with an empty collector.
 fn desk_for<W: Relay>(
     alloc: Global,
     relay: &W,
@@ -160,7 +163,8 @@ fn desk_for<W: Relay>(
     Desk::opened(alloc, shared, horizon, told)
 }
 
-/// The whole simulation up to the horizon on this thread, given out to an output. Of one core nothing is merged.
+/// Runs the whole simulation up to the horizon on this thread, and writes it to an output. A single
+/// core needs no merge.
 pub(crate) fn flow_here<W: Relay, G: Gate>(
     alloc: Global,
     system: Arc<System>,
@@ -184,7 +188,7 @@ pub(crate) fn flow_here<W: Relay, G: Gate>(
     flow_desk::<Brand, W, G>(alloc, relay, desk, &system, gate, out)
 }
 
-/// All rows up to the horizon, of a run on this thread.
+/// Returns all rows up to the horizon, from a run on this thread.
 pub(crate) fn rows_here(
     alloc: Global,
     system: Arc<System>,

@@ -1,4 +1,4 @@
-//! Whole simulations, on one thread or on several.
+//! Whole simulations, on one thread or on a team of threads.
 #![tactic(auto)]
 
 mod here;

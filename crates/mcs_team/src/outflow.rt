@@ -1,4 +1,4 @@
-//! What cores told, on its way to an output.
+//! The rows of the cores on their way to an output.
 ghost use Rattle.std.specs.Prelude.{◌≡◌, ◌+◌, ◌<◌, ◌≤◌, ◌^◌, ◌↔◌, [], OnErr, OnOk, fold, length, min, replicate, slice_index, slice_set, IfOk, IsTrue};
 ghost use Rattle.mcs_merge.specs.Parts.{HoldEach};
 ghost use Rattle.mcs_stretch.specs.Stretch.{rows_between};
@@ -17,37 +17,42 @@ use mcs_window::Desk;
 use std::alloc::Global;
 use std::marker::PhantomData;
 
-/// How what cores tell is given on. A core tells its rows to a collector, which then waits as a part until its moments are given to an
-/// output, and is room for more when all of it was given. Each relay says by `fits` for which outputs its parts are made, and an output stays
-/// one of them as it takes rows.
+/// How rows get from the cores to an output.
+///
+/// A core records its rows in a collector. The collector then waits as a part until its times are
+/// written to an output. Once all of it is written, its room is used again. Each relay states by
+/// `fits` for which outputs its parts are made. An output keeps fitting as it takes rows.
 pub trait Relay {
     ghost use Rattle.std.specs.Prelude.{[], List, true, OnErr, OnOk};
     ghost use Rattle.mcs_ticks.specs.declared.row.Row.{Row};
     ghost use Rattle.mcs_ticks.specs.Given.{Given, GivenUntil};
     ghost use Rattle.mcs_merge.specs.Merge.{DoNotFall};
 
-    /// What a core tells its rows to.
+    /// The collector of a core.
     type Told: Collector + Drop;
 
-    /// What was told, while it waits.
+    /// Rows of a core that wait.
     type Part: Part;
 
     ghost fits: { Self → Self.Part.Out → Type 0 };
 
-    /// What a core may tell its rows to, which holds none. It takes no memory.
+    /// Returns an empty collector. It takes no memory.
     fn empty(&self) -> Self::Told
         ensures { Self.Told.holds result [] };
 
-    /// What was told, as a part that holds the same rows for each output that fits.
+    /// Turns a collector into a part that holds the same rows, for each output that fits.
     fn part(&self, told: Self::Told) -> Self::Part
         ensures { (out : Self.Part.Out) (rows : List Row) → fits self.now out → DoNotFall rows → Self.Told.holds told rows
             → Self.Part.holds out result rows };
 
-    /// The room of a part, without rows.
+    /// Returns the room of a part as an empty collector.
     fn room(&self, part: Self::Part) -> Self::Told
         ensures { Self.Told.holds result [] };
 
-    /// Gives all that was told to an output at once, as if the rows were given one by one. Its room stays.
+    /// Writes all collected rows to an output at once, as if the rows were written one by one. The
+    /// collector is then empty and keeps its room.
+    ///
+    /// Errors: `Refused` if the output refused a row.
     fn give(
         &self,
         told: &mut Self::Told,
@@ -62,7 +67,7 @@ pub trait Relay {
         → Self.Part.Out.takes before row true after → fits relay after };
 }
 
-/// Rows that are given to a sink as they are.
+/// A relay that passes rows to a sink unchanged.
 pub struct RowRelay<S> {
     alloc: Global,
     to: PhantomData<S>,
@@ -75,7 +80,7 @@ impl<S> Drop for RowRelay<S> {
 }
 
 impl<S> RowRelay<S> {
-    /// Cores tell their rows to lists, whose memory is from there.
+    /// Returns a relay whose lists of rows use this allocator.
     pub fn new(alloc: Global) -> RowRelay<S>
         ensures { result.alloc ≡ alloc }
     {
@@ -86,7 +91,7 @@ impl<S> RowRelay<S> {
     }
 }
 
-/// Its parts are made for every sink.
+/// The parts fit every sink.
 impl<S: Sink> Relay for RowRelay<S> {
     type Told = Vec<Row>;
 
@@ -115,7 +120,7 @@ impl<S: Sink> Relay for RowRelay<S> {
     ghost fits_on = { λ relay before after row fits taken. fits };
 }
 
-/// Gives these rows.
+/// Writes these rows to a sink, up to the first that it refuses.
 pub(crate) fn give_all<S: Sink>(rows: &[Row], sink: &mut S) -> Result<(), Refused>
     ensures given { OnOk result (Given S.takes sink.old rows.now sink.new) }
     ensures refused { OnErr result (GivenUntil S.takes sink.old rows.now sink.new) }
@@ -126,23 +131,23 @@ pub(crate) fn give_all<S: Sink>(rows: &[Row], sink: &mut S) -> Result<(), Refuse
     Ok(())
 }
 
-/// What cores told, which waits to be given out by moments.
+/// Rows of the cores that wait to be written in order of time.
 #[derive(Drop)]
 pub(crate) struct Outflow<W: Relay> {
     merger: Merger<W::Part>,
-    /// For each core the moment before which all that it told was added.
+    /// For each core, the time before which all its rows were added.
     pub(crate) pasts: Vec<Tick>,
-    /// The moment before which all was given out.
+    /// The time before which all rows were written.
     pub(crate) reached: Tick,
-    /// The moment after the horizon.
+    /// The tick after the horizon.
     end: Tick,
-    /// Parts of which all was given out, for use again.
+    /// Written parts, for use again.
     spare: Vec<W::Part>,
     ghost same: { length merger ≡ length pasts.items },
 }
 
 impl<W: Relay> Outflow<W> {
-    /// All before moment `at` was given, and nothing was told of the time since.
+    /// Returns a flow that has written all rows before `at` and holds no later ones.
     pub(crate) fn new(
         alloc: Global,
         relay: &W,
@@ -173,21 +178,21 @@ impl<W: Relay> Outflow<W> {
         })
     }
 
-    /// Whether all was given.
+    /// Whether all rows were written.
     pub(crate) fn is_over(&self) -> bool
         ensures { IsTrue result ↔ (self.now.reached ≡ self.now.end) }
     {
         self.reached == self.end
     }
 
-    /// The moment before which all was given out.
     pub(crate) fn reached(&self) -> Tick
         ensures { result ≡ self.now.reached }
     {
         self.reached
     }
 
-    /// Adds what a core told from where that was last added to before a moment.
+    /// Adds the rows of a core from the end of those added last to before `past`. `NoMemory` if
+    /// memory runs out.
     pub(crate) fn add<B: Run>(
         &mut self,
         relay: &W,
@@ -214,7 +219,7 @@ impl<W: Relay> Outflow<W> {
         Ok(())
     }
 
-    /// Room for what a core tells.
+    /// Returns an empty collector for a core, from a written part if there is one.
     pub(crate) fn take_room(&mut self, relay: &W) -> W::Told
         ensures empty { W.Told.holds result [] }
         ensures same { (self.new.reached ≡ self.old.reached) × (self.new.end ≡ self.old.end) }
@@ -226,7 +231,10 @@ impl<W: Relay> Outflow<W> {
         }
     }
 
-    /// Adds what a core told, where that goes on where what was added last of the core ends. Else it's not as this run left it.
+    /// Adds the rows of a core if they begin at the end of those added last.
+    ///
+    /// Errors: `Odd` if they begin elsewhere, are from an unknown core or end after the horizon,
+    /// `NoMemory` if memory runs out.
     pub(crate) fn add_telling<B: Run>(
         &mut self,
         relay: &W,
@@ -248,7 +256,7 @@ impl<W: Relay> Outflow<W> {
         }
     }
 
-    /// Adds all that was told, of which nothing is left then.
+    /// Adds all collected rows. `told` is then empty, unless an error is returned.
     pub(crate) fn add_all<B: Run>(
         &mut self,
         relay: &W,
@@ -266,7 +274,7 @@ impl<W: Relay> Outflow<W> {
         Ok(())
     }
 
-    /// Takes what a core told from a desk, and adds it.
+    /// Takes the rows of a core from a desk and adds them.
     fn take<B: Run>(
         &mut self,
         relay: &W,
@@ -290,7 +298,7 @@ impl<W: Relay> Outflow<W> {
         self.add::<B>(relay, core, past, told)
     }
 
-    /// Takes what each core told from a desk, and adds it.
+    /// Takes the rows of each core from a desk and adds them.
     pub(crate) fn gather<B: Run>(
         &mut self,
         relay: &W,
@@ -311,7 +319,7 @@ impl<W: Relay> Outflow<W> {
         Ok(())
     }
 
-    /// Gives out all that each core told before the least of the moments up to which they told.
+    /// Writes all rows before the earliest of the cores' `pasts`.
     pub(crate) fn pour<B: Run>(&mut self, out: &mut <W::Part as Part>::Out) -> Result<(), Refused>
         requires well_formed { IsWellFormed B.system }
         requires end { self.old.end ≡ B.horizon + 1 }
@@ -329,7 +337,7 @@ impl<W: Relay> Outflow<W> {
     }
 }
 
-/// Keeps a part of which all was given out, where there is room for it.
+/// Keeps a written part for later, if there is capacity for it.
 fn keep<P: Drop>(spare: &mut Vec<P>, part: Option<P>) {
     if let Some(part) = part {
         if spare.len() < spare.capacity() {
@@ -338,7 +346,7 @@ fn keep<P: Drop>(spare: &mut Vec<P>, part: Option<P>) {
     }
 }
 
-/// A part for each core, which holds nothing.
+/// Returns one empty part per core.
 fn empty_parts<W: Relay>(alloc: Global, relay: &W, cores: usize) -> Result<Vec<W::Part>, NoMemory>
     ensures many { IfOk result (λ parts. length parts.items ≡ cores) }
     ensures held { (out : W.Part.Out) → W.fits relay.now out → IfOk result (λ parts. HoldEach W.Part.holds out parts.items (replicate cores [])) }
@@ -350,7 +358,7 @@ fn empty_parts<W: Relay>(alloc: Global, relay: &W, cores: usize) -> Result<Vec<W
     Ok(parts)
 }
 
-/// The least of the moments, or `end` where none is less.
+/// The earliest of the times, but at most `end`.
 fn least(moments: &[Tick], end: Tick) -> Tick
     ensures { result ≡ fold min end moments.now }
 {

@@ -1,4 +1,4 @@
-//! Tallies of the cores of one run, whose system and horizon the type knows.
+//! Tallies of the cores of one run. Their type names the system and the horizon.
 ghost use Rattle.std.specs.Prelude.{◌≡◌, ℕ, ◌<◌, [], length, slice_index_or, IfOk, IsTrue, replicate, IfSome};
 ghost use Rattle.std.specs.Arc.{arc_value};
 ghost use Rattle.mcs_report.specs.CoreTally.{HoldsRows};
@@ -13,7 +13,7 @@ use std::alloc::Global;
 use std::marker::PhantomData;
 use std::sync::Arc;
 
-/// What is counted of the rows of one core, up to the horizon of the run.
+/// The counts of the rows of one core, up to the horizon of the run.
 #[derive(Drop)]
 pub(crate) struct OwnTally<B: Run> {
     pub(crate) tally: CoreTally,
@@ -24,7 +24,7 @@ pub(crate) struct OwnTally<B: Run> {
 }
 
 impl<B: Run> OwnTally<B> {
-    /// The tally of a core before its first row.
+    /// Returns the tally of a core before its first row.
     pub(crate) fn new(
         alloc: Global,
         places: Arc<Places>,
@@ -44,7 +44,7 @@ impl<B: Run> OwnTally<B> {
     }
 }
 
-/// A tally for each core, from core 0 on, before their first rows.
+/// Returns one empty tally per core, from core 0.
 pub(crate) fn tallies_of_cores<B: Run>(
     alloc: Global,
     places: &Arc<Places>,
@@ -62,7 +62,7 @@ pub(crate) fn tallies_of_cores<B: Run>(
     Ok(tallies)
 }
 
-/// Whether the tally at each place is that of the core with its number.
+/// Whether the tally at index `c` is that of core `c`, for all of them.
 pub(crate) fn are_in_place<B: Run>(tallies: &[OwnTally<B>]) -> bool
     ensures { IsTrue result → (c : ℕ) (own : _) → c < length tallies.now → (slice_index_or tallies.now c own).tally.core ≡ c }
 {
@@ -90,7 +90,7 @@ impl<B: Run> Sink for OwnTally<B> {
     }
 }
 
-/// Its size is how many rows were counted, at most `usize::MAX`.
+/// The size is the number of rows counted, capped at `usize::MAX`.
 impl<B: Run> Measured for OwnTally<B> {
     ghost size = { λ own. own.rows };
 
@@ -100,7 +100,7 @@ impl<B: Run> Measured for OwnTally<B> {
     }
 }
 
-/// It holds the rows that its tally does.
+/// It holds the rows that its tally has counted.
 impl<B: Run> Collector for OwnTally<B> {
     ghost use Rattle.std.specs.Prelude.{◌≡◌};
     ghost use Rattle.mcs_report.specs.CoreTally.{HoldsRows};
@@ -121,7 +121,7 @@ impl<B: Run> Collector for OwnTally<B> {
     ghost is_measured = { λ own held holds. holds.1 };
 }
 
-/// Each core tells its rows to a tally of its own, which has none yet.
+/// Returns collectors in which each core counts its own rows, before the first row.
 pub(crate) fn counting<B: Run>(
     alloc: Global,
     places: &Arc<Places>,
@@ -140,7 +140,8 @@ pub(crate) fn counting<B: Run>(
     Ok(Tellings::<B, OwnTally<B>>::new(slots))
 }
 
-/// The tallies, from core 0 on, where each has counted the rows of its core from moment 0 up to the core's clock. Else None, which no run meets.
+/// Returns the tallies, from core 0, if each has counted its core's rows from time 0 to the core's
+/// clock. Otherwise `None`, which doesn't occur in a run.
 pub(crate) fn counted<B: Run>(
     alloc: Global,
     mut tellings: Tellings<B, OwnTally<B>>,

@@ -1,4 +1,4 @@
-//! Reports of whole simulations, of which nobody wants the rows.
+//! Reports of whole simulations without their rows.
 ghost use Rattle.std.specs.Prelude.{◌≡◌, ℕ, ◌<◌, ◌≤◌, ◌^◌, false, IfOk, IfSome};
 ghost use Rattle.std.specs.Arc.{arc_value};
 ghost use Rattle.mcs_core.specs.Clock.{schedule};
@@ -24,21 +24,25 @@ use std::marker::Brand;
 use std::sync::{Arc, Wait};
 use std::thread::Threads;
 
-/// After so many rows more the gate is told how far the run is.
+/// Rows after which the gate is called with the progress of the run.
 const ENOUGH: usize = 16_384;
 
-/// What was counted need not be taken, so there is never too much of it.
+/// No limit on waiting rows: counts take no more room as they grow.
 const BRIM: Brim = Brim {
     enough: usize::MAX,
     full: usize::MAX,
 };
 
-/// The reports of the whole simulation up to the horizon, at most 2^40, of which nobody wants the rows: those of the schedule, for every
-/// number of workers. Each core counts its own rows where its turns are taken, and no row is merged or kept. Threads work at one desk, this
-/// one among them, as many as the lesser of `workers` and the number of cores; where that number is less than two this one takes all turns,
-/// and where pieces of work have few rows it takes those that are left after a while, as `simulate_to` says. The reports are those that
-/// `simulate_to` gives. `NoMemory` is answered only where a growth was refused. The gate is told of each piece of work that is lent; where
-/// this thread takes turns alone none is.
+/// Simulates the system up to the horizon, at most 2^40, and returns the reports of its schedule,
+/// for every number of workers. They equal those of `simulate_to`.
+///
+/// Each core counts its own rows as its turns are taken. No row is merged or kept. The team has
+/// `workers` threads, at most one per core, and this thread is one of them. If that is fewer than
+/// two, this thread takes all turns. If pieces of work have few rows, the team ends after a while
+/// and this thread takes the remaining turns, see `simulate_to`. The gate is called for each piece
+/// that is lent; turns that this thread takes alone lend none.
+///
+/// Errors: `NoMemory` if an allocation failed.
 pub fn report<R: Threads + Wait + Sync, G: Gate + Sync>(
     rt: &R,
     alloc: Global,
@@ -63,7 +67,7 @@ pub fn report<R: Threads + Wait + Sync, G: Gate + Sync>(
     }
 }
 
-/// The reports, on this thread, where each core counts its own rows.
+/// Returns the reports from a run on this thread in which each core counts its own rows.
 fn report_here<G: Gate>(
     alloc: Global,
     system: Arc<System>,
@@ -81,7 +85,8 @@ fn report_here<G: Gate>(
     put_together(alloc, tally, &places, found, system, horizon)
 }
 
-/// The reports of all rows that the cores have counted, or, where their tallies were not found, of a run on this thread that keeps its rows.
+/// Returns the reports of the rows that the cores have counted. If `found` is `None`, they are from
+/// a new run on this thread that keeps its rows.
 fn put_together(
     alloc: Global,
     tally: Tally,
@@ -108,7 +113,8 @@ fn put_together(
     }
 }
 
-/// The tallies of all cores of a run on this thread. None where they stand in another order, which no run meets.
+/// Counts the rows of all cores on this thread. `None` if the tallies are in another order, which
+/// doesn't occur in a run.
 fn count_here<B: Run, G: Gate>(
     alloc: Global,
     places: &Arc<Places>,
@@ -126,7 +132,8 @@ fn count_here<B: Run, G: Gate>(
     count_to_end(alloc, desk, gate)
 }
 
-/// Takes all turns that are left, where each core counts its own rows, and all were told that were made before. Then the tallies alone.
+/// Takes all remaining turns while each core counts its own rows. All earlier rows must have been
+/// counted. Returns the tallies.
 fn count_to_end<B: Run, G: Gate>(
     alloc: Global,
     mut desk: Desk<OwnTally<B>>,
@@ -148,7 +155,7 @@ fn count_to_end<B: Run, G: Gate>(
     }
 }
 
-/// The tallies alone, where all turns were taken, or None where they stand in another order.
+/// Returns the tallies after all turns were taken. `None` if they are in another order.
 fn tallies_alone<B: Run>(
     alloc: Global,
     desk: Desk<OwnTally<B>>,
@@ -166,7 +173,7 @@ fn tallies_alone<B: Run>(
     Ok(Some(tallies))
 }
 
-/// The reports, by threads of which each counts the rows of the pieces that it runs.
+/// Returns the reports from a team in which each thread counts the rows of the pieces that it runs.
 fn report_team<R: Threads + Wait + Sync, G: Gate + Sync>(
     rt: &R,
     alloc: Global,
@@ -186,8 +193,8 @@ fn report_team<R: Threads + Wait + Sync, G: Gate + Sync>(
     put_together(alloc, tally, &places, found, system, horizon)
 }
 
-/// The tallies of all cores of a run, whose rows are counted by threads that work at its desk. None where something was not as this run left it,
-/// which no run meets.
+/// Counts the rows of all cores on a team. `None` if something is not as this run left it, which
+/// doesn't occur in a run.
 fn count_beside<B: Run + Send + Sync, R: Threads + Wait + Sync, G: Gate + Sync>(
     rt: &R,
     alloc: Global,
@@ -210,7 +217,7 @@ fn count_beside<B: Run + Send + Sync, R: Threads + Wait + Sync, G: Gate + Sync>(
     }
 }
 
-/// Takes the turns that a team has left, after which the tallies are as `count_to_end` says.
+/// Takes the turns that a team has left, and returns the tallies like `count_to_end`.
 fn count_rest<B: Run, G: Gate>(
     alloc: Global,
     desk: Desk<Nothing>,

@@ -1,4 +1,4 @@
-//! What is left of a run when a team has ended, on the caller's thread.
+//! The rest of a run after its team has ended, on the caller's thread.
 ghost use Rattle.std.specs.Prelude.{◌≡◌, ◌+◌, ◌<◌, ◌≤◌, ◌^◌, ◌⊎◌, ℕ, [], length, slice_index, slice_set, IfErr, IfOk, IfSome, OnOk};
 ghost use Rattle.std.specs.Arc.{arc_value};
 ghost use Rattle.mcs_merge.specs.Parts.{rows_from};
@@ -18,7 +18,7 @@ use mcs_window::{Desk, Front};
 use std::marker::Brand;
 use std::sync::Arc;
 
-/// How a flow stops where something was not told.
+/// Why a flow stops when rows of a core are missing.
 pub(crate) fn stop_at(untold: Untold, reached: Tick) -> Stop
     ensures { (result ≡ Stop.Fault FlowFault.NoMemory) ⊎ (result ≡ Stop.Odd reached) }
 {
@@ -28,7 +28,7 @@ pub(crate) fn stop_at(untold: Untold, reached: Tick) -> Stop
     }
 }
 
-/// The clocks of the desk, where these moments are the clocks of its cores.
+/// Returns the clocks of the desk if these times equal the clocks of its cores.
 fn clocks_at(desk: &Desk<Nothing>, moments: &[Tick]) -> Option<Front>
     ensures many { IfSome result (λ front. length moments.now ≡ desk.now.system.cores) }
     ensures long { IfSome result (λ front. length front ≡ 64) }
@@ -49,7 +49,8 @@ fn clocks_at(desk: &Desk<Nothing>, moments: &[Tick]) -> Option<Front>
     Some(front)
 }
 
-/// The cores of a desk, which tell by this relay from now on, where all that they told before these moments was added.
+/// Gives the cores of a desk new collectors of this relay. `Odd` unless all rows before these
+/// times, their clocks, were added.
 fn retold<W: Relay>(
     relay: &W,
     desk: Desk<Nothing>,
@@ -68,7 +69,7 @@ fn retold<W: Relay>(
     Ok(desk.retold(front, told))
 }
 
-/// Adds what each core has told.
+/// Adds the rows of each core. `Odd` if those of a core are missing.
 fn add_found<B: Run, W: Relay>(
     relay: &W,
     found: Vec<Option<Telling<B, W::Told>>>,
@@ -89,7 +90,7 @@ fn add_found<B: Run, W: Relay>(
     Ok(())
 }
 
-/// The desk of a team that has ended, when all that its cores told was added.
+/// Returns the desk of a team that has ended, after all rows of its cores were added.
 fn gathered<B: Run, W: Relay>(
     relay: &W,
     team: Team<B, W::Told>,
@@ -108,7 +109,8 @@ fn gathered<B: Run, W: Relay>(
     retold(relay, desk, &flow.pasts)
 }
 
-/// Takes the turns that a team has left, in rounds that end where there is enough, and gives out what is told.
+/// Takes the turns that a team has left, in rounds that end at `enough` rows, and writes their
+/// rows.
 pub(crate) fn go_on_alone<B: Run, W: Relay, G: Gate>(
     relay: &W,
     team: Team<B, W::Told>,
@@ -134,7 +136,7 @@ pub(crate) fn go_on_alone<B: Run, W: Relay, G: Gate>(
     }
 }
 
-/// A desk from which nothing was taken, and whose cores have taken all their turns.
+/// Returns a desk that holds all rows of the run. All turns are taken.
 fn desk_at_end(plan: &Plan) -> Result<Desk, NoMemory>
     requires { plan.now.horizon ≤ 2 ^ 40 }
     ensures run { IfOk result (λ desk. (desk.system ≡ arc_value plan.now.system) × (desk.horizon ≡ plan.now.horizon)) }
@@ -144,14 +146,14 @@ fn desk_at_end(plan: &Plan) -> Result<Desk, NoMemory>
 {
     let mut desk = Desk::new(plan.alloc, Arc::try_clone(&plan.system)?, plan.horizon)?;
     desk.go(usize::MAX)?;
-    // more rows than that are in no memory
+    // no memory can hold that many rows
     if !desk.finished() {
         return Err(NoMemory);
     }
     Ok(desk)
 }
 
-/// Tells the rows from a moment on.
+/// Records the rows from time `from` in `told`.
 fn tell_from<S: Collector>(rows: &[Row], from: Tick, told: &mut S) -> Result<(), Refused>
     requires { S.holds told.old [] }
     ensures { OnOk result (S.holds told.new (rows_from from rows.now)) }
@@ -165,7 +167,7 @@ fn tell_from<S: Collector>(rows: &[Row], from: Tick, told: &mut S) -> Result<(),
     Ok(())
 }
 
-/// Takes the rows of a core from a desk, and adds those from a moment on, up to which all was given.
+/// Takes the rows of a core from a desk and adds those from time `from`. Earlier ones were written.
 fn add_rest<B: Run, W: Relay>(
     relay: &W,
     desk: &mut Desk,
@@ -193,7 +195,7 @@ fn add_rest<B: Run, W: Relay>(
     flow.add::<B>(relay, core, past, told)
 }
 
-/// Adds the rows of all cores from a moment on, up to which all was given.
+/// Adds the rows of all cores from time `from`. Earlier ones were written.
 fn add_rests<B: Run, W: Relay>(
     relay: &W,
     desk: &mut Desk,
@@ -217,7 +219,7 @@ fn add_rests<B: Run, W: Relay>(
     Ok(())
 }
 
-/// Simulates on this thread, and gives out all from a moment on.
+/// Simulates on this thread, and writes the rows from time `from`.
 fn rest_from<B: Run, W: Relay>(
     plan: &Plan,
     from: Tick,
@@ -246,7 +248,7 @@ fn rest_from<B: Run, W: Relay>(
     Ok(())
 }
 
-/// The simulation again, on this thread, of which all from a moment on is given out.
+/// Simulates again on this thread, and writes the rows from time `from`.
 pub(crate) fn simulate_again<W: Relay>(
     plan: Plan,
     from: Tick,

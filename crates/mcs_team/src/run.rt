@@ -1,4 +1,4 @@
-//! A run: what is simulated, what names it in types, what is told of it while it goes on, and how it ends.
+//! A run: its plan, the types that name it, the gate that reports its progress, and its faults.
 use mcs_system::System;
 use mcs_ticks::{Collector, CoreId, FlowFault, NoMemory, Tick};
 use mcs_window::Desk;
@@ -7,18 +7,18 @@ use std::marker::Brand;
 use std::sync::Arc;
 use thiserror::Error;
 
-/// What is simulated: a system from moment 0 to a horizon.
+/// The plan of a run: a system from time 0 to a horizon.
 #[derive(Drop)]
 pub struct Plan {
-    /// What the memory of the run is from.
+    /// The allocator of the run.
     pub alloc: Global,
     /// The system.
     pub system: Arc<System>,
-    /// The last moment.
+    /// The last tick that is simulated.
     pub horizon: Tick,
 }
 
-/// Names one run: its system and its horizon. The call that begins it picks them.
+/// Names one run, by its system and its horizon. The call that starts the run picks them.
 pub(crate) trait Run {
     ghost use Rattle.std.specs.Prelude.{ℕ};
     ghost use Rattle.mcs_system.specs.System.{System};
@@ -36,16 +36,20 @@ impl Run for Brand {
     ghost horizon = { 0 };
 }
 
-/// What is told of the work of a run while it goes on.
+/// Receives the progress of a run.
 pub trait Gate {
-    /// Just before the turns of a core from the moment `first` on are run, by the thread that runs them, with no lock held. It is told of pieces
-    /// that are lent: where the caller's thread takes turns itself, as for one worker or one core, or once a team has ended, no piece is.
+    /// Called just before the turns of a core from time `first` are run, by the thread that runs
+    /// them and with no lock held.
+    ///
+    /// This covers pieces that are lent. When the caller's thread takes turns itself, no piece is
+    /// lent. It does for one worker, for one core, or after a team has ended.
     fn before(&self, core: CoreId, first: Tick);
 
-    /// Just after its turns to before the moment `past` were run, and before they are settled.
+    /// Called just after the turns before time `past` were run, and before they are settled.
     fn after(&self, core: CoreId, past: Tick);
 
-    /// All turns before this moment were taken, and what they told was given or counted. It is told on the caller's thread, now and then.
+    /// All turns before this time were taken, and their rows were written or counted. Called now
+    /// and then on the caller's thread.
     fn reached(&self, moment: Tick);
 }
 
@@ -61,7 +65,7 @@ impl Gate for Open {
     fn reached(&self, _moment: Tick) {}
 }
 
-/// The least clock of a desk: all turns before it were taken, and are settled.
+/// The earliest clock of a desk: all turns before it were taken and settled.
 pub(crate) fn reached<S: Collector>(desk: &Desk<S>) -> Tick {
     let mut reached = desk.horizon().plus(1).unwrap();
     for core in 0..desk.cores() {
@@ -70,10 +74,10 @@ pub(crate) fn reached<S: Collector>(desk: &Desk<S>) -> Tick {
     reached
 }
 
-/// Why a simulation gives no answer.
+/// Why a simulation returns no result.
 #[derive(Clone, Copy, Debug, PartialEq, Eq, Error)]
 pub enum SimFault {
-    /// A growth was refused.
+    /// Out of memory: an allocation failed.
     #[error("no memory")]
     NoMemory,
 }
@@ -84,11 +88,12 @@ impl From<NoMemory> for SimFault {
     }
 }
 
-/// How the flow of a team ends early.
+/// Why the flow of a team ended early.
 #[derive(Clone, Copy, Debug, Drop)]
 pub(crate) enum Stop {
-    /// There was no memory, or the sink refused a row.
+    /// Memory ran out, or the sink refused a row.
     Fault(FlowFault),
-    /// The desk is not as this run left it, which no run meets; all rows before this moment were given.
+    /// The desk is not as this run left it, which doesn't occur in a run. All rows before this time
+    /// were written.
     Odd(Tick),
 }

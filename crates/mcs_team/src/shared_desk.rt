@@ -1,4 +1,4 @@
-//! The desk of one run, which the threads share. Its system is known by the type.
+//! The desk of one run, which the threads share. Its type names the system and the horizon.
 ghost use Rattle.std.specs.Prelude.{◌≡◌, ◌⊎◌, ◌≤◌, ℕ, ◌<◌, [], false, slice_index, IfOk, IfSome, OnErr};
 ghost use Rattle.mcs_stretch.specs.Stretch.{rows_between};
 ghost use Rattle.mcs_window.specs.Desk.{clock_of, settled_at, with_lost, AllAreHere};
@@ -11,36 +11,37 @@ use mcs_window::{Desk, Done, Front, Lost, Piece, SettleFault};
 use std::alloc::Global;
 use std::marker::PhantomData;
 
-/// So many pieces a thread takes at most under one lock.
+/// Most pieces that a thread takes under one lock.
 const MOST: usize = 8;
 
-/// How much waits before the caller's thread takes it: where there is enough it is time, and where it is full no piece is lent until it was taken.
+/// Limits on waiting rows. At `enough` it is time for the caller's thread to take them. At `full`
+/// no piece is lent until they were taken.
 #[derive(Clone, Copy, Drop)]
 pub(crate) struct Brim {
     pub(crate) enough: usize,
     pub(crate) full: usize,
 }
 
-/// A desk for the system and the horizon of the run, on which no row lies, and what its cores told of their rows.
+/// The desk of a run, which keeps no rows, and the rows that its cores have recorded.
 #[derive(Drop)]
 pub(crate) struct SharedDesk<B: Run, S: Collector + Drop> {
     desk: Desk<Nothing>,
     tellings: Tellings<B, S>,
     brim: Brim,
     pace: Pace,
-    /// How many threads share it, and how many pieces are away
+    /// Number of threads that share it, and number of pieces that are lent.
     workers: usize,
     away: usize,
-    /// Whether a thread has begun to work, and how many wait for a piece
+    /// Whether a thread has begun to work, and number of threads that wait for a piece.
     begun: bool,
     idle: usize,
-    /// Why nothing is lent any more, where something was lost
+    /// Why no further piece is lent, if a piece was lost.
     lost: Option<Untold>,
     of: PhantomData<B>,
     ghost ours: { (desk.system ≡ B.system) × (desk.horizon ≡ B.horizon) },
 }
 
-/// The clocks of all cores, of which a system has at most 64.
+/// The clocks of all cores. A system has at most 64 cores.
 fn clocks(desk: &Desk<Nothing>) -> Front
     ensures { (c : ℕ) → c < desk.now.system.cores → c < 64 → slice_index result c ≡ clock_of desk.now c }
 {
@@ -52,7 +53,7 @@ fn clocks(desk: &Desk<Nothing>) -> Front
 }
 
 impl<B: Run, S: Collector + Drop> SharedDesk<B, S> {
-    /// The desk, which is one of the run, and what its cores tell to, for so many threads.
+    /// Returns the desk of a run, with the collectors of its cores, for `workers` threads.
     pub(crate) fn new(
         desk: Desk<Nothing>,
         tellings: Tellings<B, S>,
@@ -75,7 +76,8 @@ impl<B: Run, S: Collector + Drop> SharedDesk<B, S> {
         }
     }
 
-    /// A piece, if one is to be had now: none where too much waits, or where the team has ended.
+    /// Lends a piece, if one is available now. `None` if the desk has none, if too many rows wait,
+    /// if pieces are no longer worth their cost, or if the team has ended.
     pub(crate) fn lend(&mut self) -> Option<Errand<B, S>> {
         if self.is_full() || self.pace.is_over() {
             return None;
@@ -92,7 +94,8 @@ impl<B: Run, S: Collector + Drop> SharedDesk<B, S> {
         }
     }
 
-    /// A piece of the desk. Where no core is lent idle time is skipped first, and what the cores tell to passes it.
+    /// Lends a piece from the desk. If no piece is lent, it skips idle time first and moves the
+    /// collectors past it.
     fn lend_piece(&mut self) -> Option<Piece>
         ensures { IfSome result (λ piece. piece.system ≡ B.system) }
     {
@@ -110,7 +113,8 @@ impl<B: Run, S: Collector + Drop> SharedDesk<B, S> {
         piece
     }
 
-    /// What each core tells to goes on from these moments to the core's clock.
+    /// Moves each core's collector from these times to the core's clock. In between no row was
+    /// made.
     fn catch_up(&mut self, before: &Front) -> Result<(), Untold>
         requires { (c : ℕ) → c < self.old.desk.system.cores → c < 64
             → (slice_index before.now c ≤ clock_of self.old.desk c)
@@ -126,7 +130,7 @@ impl<B: Run, S: Collector + Drop> SharedDesk<B, S> {
         Ok(())
     }
 
-    /// Pieces that are to be had now: no more than come to one thread where each takes the same part of those at home.
+    /// Lends the pieces that are available now, up to one thread's share.
     pub(crate) fn lend_some(&mut self, alloc: Global) -> Vec<Errand<B, S>> {
         let mut errands = Vec::new(alloc);
         for _ in 0..self.share() {
@@ -141,7 +145,8 @@ impl<B: Run, S: Collector + Drop> SharedDesk<B, S> {
         errands
     }
 
-    /// How many pieces a thread takes at once: one until it is known how many rows they have.
+    /// Number of pieces that a thread takes at once: an equal share of the cores that are not lent,
+    /// at most `MOST`. One until it is known how many rows pieces have.
     fn share(&self) -> usize {
         if !self.pace.is_known() {
             return 1;
@@ -150,22 +155,21 @@ impl<B: Run, S: Collector + Drop> SharedDesk<B, S> {
         (home / self.workers.max(1)).clamp(1, MOST)
     }
 
-    /// Whether a further piece is to be had now, for which a thread waits.
+    /// Whether a further piece is available now and a thread waits for it.
     pub(crate) fn can_lend(&self) -> bool {
         self.idle > 0 && !self.is_full() && !self.pace.is_over() && self.desk.can_lend()
     }
 
-    /// A thread begins to wait for a piece.
     pub(crate) fn rest(&mut self) {
         self.idle = self.idle.saturating_add(1);
     }
 
-    /// A thread has waited.
     pub(crate) fn wake(&mut self) {
         self.idle = self.idle.saturating_sub(1);
     }
 
-    /// Takes what a piece of this run has come to. Nothing is lent any more where it was lost, or is of no loan, or where there was no memory.
+    /// Takes back the result of a piece of this run. If the piece was lost, was never lent or ran
+    /// out of memory, lending stops for good.
     pub(crate) fn settle(&mut self, ran: Result<Told<B, S>, Untold>)
         ensures ok { IfOk ran (λ told.
             (self.new.desk ≡ settled_at self.old.desk told.done.core told.done.past)
@@ -190,7 +194,7 @@ impl<B: Run, S: Collector + Drop> SharedDesk<B, S> {
         }
     }
 
-    /// Takes what so many pieces have come to. Where some are missing there was no memory to keep them.
+    /// Takes back the results of `many` pieces. If results are missing, memory ran out.
     pub(crate) fn settle_all(&mut self, many: usize, ran: Vec<Result<Told<B, S>, Untold>>) {
         if ran.len() < many {
             self.lose(Untold::NoMemory);
@@ -200,7 +204,6 @@ impl<B: Run, S: Collector + Drop> SharedDesk<B, S> {
         }
     }
 
-    /// Takes a stretch back.
     fn take_back(&mut self, done: Done<Nothing>)
         requires { done.system ≡ B.system }
         ensures { (self.new.desk ≡ settled_at self.old.desk done.core done.past)
@@ -213,7 +216,7 @@ impl<B: Run, S: Collector + Drop> SharedDesk<B, S> {
         }
     }
 
-    /// Lends nothing from now on.
+    /// Stops lending for good, and records why.
     fn lose(&mut self, why: Untold)
         ensures { self.new.desk ≡ with_lost self.old.desk }
     {
@@ -225,47 +228,49 @@ impl<B: Run, S: Collector + Drop> SharedDesk<B, S> {
         });
     }
 
-    /// Whether no piece is to be had any more.
+    /// Whether no further piece will be available.
     pub(crate) fn is_over(&self) -> bool {
         self.pace.is_over() || self.desk.finished() || self.desk.lost()
     }
 
-    /// Whether no piece is lent until what waits was taken.
+    /// Whether no piece is lent until the waiting rows were taken.
     pub(crate) fn is_full(&self) -> bool {
         self.tellings.waiting() >= self.brim.full
     }
 
-    /// Whether it is time for the caller's thread to take what waits.
+    /// Whether it is time for the caller's thread to take the waiting rows.
     pub(crate) fn is_due(&self) -> bool {
         self.tellings.waiting() >= self.brim.enough || self.is_over()
     }
 
-    /// A moment before which all turns were taken and settled.
+    /// A time before which all turns were taken and settled.
     pub(crate) fn reached(&self) -> Tick {
         reached(&self.desk)
     }
 
-    /// A thread has begun to work.
     pub(crate) fn begin(&mut self) {
         self.begun = true;
     }
 
-    /// Whether a thread has begun to work.
     pub(crate) fn has_begun(&self) -> bool {
         self.begun
     }
 
-    /// Lends nothing from now on.
+    /// Stops lending for good.
     pub(crate) fn close(&mut self) {
         self.lose(Untold::Odd);
     }
 
-    /// Moves what each core has told behind `told`, where that has room for it, and leaves an empty collector in its place.
+    /// Appends what each core has recorded to `told`, as far as its capacity allows, and leaves an
+    /// empty collector from `rooms` for each.
     pub(crate) fn exchange(&mut self, rooms: &mut Vec<S>, told: &mut Vec<Telling<B, S>>) {
         self.tellings.exchange(rooms, told);
     }
 
-    /// The desk and what was told, once all threads have ended. The desk has nothing lent and nothing lost.
+    /// Returns the desk and the rows of its cores, once all threads have ended. On that desk no
+    /// piece is lent or lost.
+    ///
+    /// Errors: why a piece was lost, or `Odd` if a piece is still lent.
     pub(crate) fn into_parts(self) -> Result<(Desk<Nothing>, Tellings<B, S>), Untold>
         ensures run { IfOk result (λ parts. (parts.0.system ≡ B.system) × (parts.0.horizon ≡ B.horizon)) }
         ensures whole { IfOk result (λ parts. (parts.0.lost ≡ false) × AllAreHere parts.0) }
@@ -276,7 +281,7 @@ impl<B: Run, S: Collector + Drop> SharedDesk<B, S> {
         self.parts()
     }
 
-    /// The desk and what was told, where nothing is lent and nothing is lost.
+    /// Returns the desk and the rows of its cores. `Odd` if a piece is lent or lost.
     fn parts(self) -> Result<(Desk<Nothing>, Tellings<B, S>), Untold>
         ensures run { IfOk result (λ parts. (parts.0.system ≡ B.system) × (parts.0.horizon ≡ B.horizon)) }
         ensures whole { IfOk result (λ parts. (parts.0.lost ≡ false) × AllAreHere parts.0) }

@@ -1,4 +1,4 @@
-//! The caller's thread gives out what the cores of a team tell while they work.
+//! The caller's thread writes the rows of a team's cores while they work.
 ghost use Rattle.std.specs.Prelude.{◌≡◌, ◌+◌, ◌≤◌, ◌^◌, IfErr, OnOk};
 ghost use Rattle.std.specs.Arc.{arc_value};
 ghost use Rattle.mcs_system.specs.WellFormed.{IsWellFormed};
@@ -18,13 +18,14 @@ use std::alloc::Global;
 use std::sync::{Arc, Wait};
 use std::thread::{Threads, join_mut};
 
-/// Where so many rows wait it is time to take them, and no piece is lent until they were taken.
+/// At `enough` waiting rows it is time to take them. At `full` no piece is lent until they were
+/// taken.
 const BRIM: Brim = Brim {
     enough: 4096,
     full: 8192,
 };
 
-/// What was taken from a team, and room for what its cores tell next.
+/// Collectors taken from a team, and empty ones for its cores.
 #[derive(Drop)]
 struct Basket<B: Run, S: Collector + Drop> {
     rooms: Vec<S>,
@@ -32,7 +33,6 @@ struct Basket<B: Run, S: Collector + Drop> {
 }
 
 impl<B: Run, S: Collector + Drop> Basket<B, S> {
-    /// For so many cores.
     fn new(alloc: Global, cores: usize) -> Result<Basket<B, S>, NoMemory> {
         let rooms = Vec::with_capacity(alloc, cores)?;
         let told = Vec::with_capacity(alloc, cores)?;
@@ -40,7 +40,7 @@ impl<B: Run, S: Collector + Drop> Basket<B, S> {
     }
 }
 
-/// Makes room for what each core tells next, as far as there is none.
+/// Fills `rooms` with empty collectors up to its capacity, at most one per core.
 fn fill<W: Relay>(relay: &W, rooms: &mut Vec<W::Told>, flow: &mut Outflow<W>)
     ensures same { (flow.new.reached ≡ flow.old.reached) × (flow.new.end ≡ flow.old.end) }
     ensures waits { (flow.new.merger ≡ flow.old.merger) × (flow.new.pasts.items ≡ flow.old.pasts.items) }
@@ -52,7 +52,7 @@ fn fill<W: Relay>(relay: &W, rooms: &mut Vec<W::Told>, flow: &mut Outflow<W>)
     }
 }
 
-/// Adds what was taken, and gives out what can be.
+/// Adds the collected rows, and writes those that all clocks have passed.
 fn give<B: Run, W: Relay>(
     relay: &W,
     told: &mut Vec<Telling<B, W::Told>>,
@@ -77,7 +77,7 @@ fn give<B: Run, W: Relay>(
     Ok(())
 }
 
-/// Gives out what is told, until no piece is to be had any more.
+/// Writes rows as they come, until no further piece will be available.
 fn give_out<B: Run, R: Wait, G: Gate, W: Relay>(
     rt: &R,
     gate: &G,
@@ -114,7 +114,8 @@ fn give_out<B: Run, R: Wait, G: Gate, W: Relay>(
     Err(Stop::Odd(flow.reached))
 }
 
-/// Gives out what the cores tell while threads work at their desk, until no piece is to be had any more and the threads have ended.
+/// Writes rows while the team works. Returns when no further piece will be available and all its
+/// threads have ended.
 fn work_and_give<B: Run + Send + Sync, R: Threads + Wait + Sync, G: Gate + Sync, W: Relay>(
     rt: &R,
     gate: &G,
@@ -157,7 +158,7 @@ where
     ended
 }
 
-/// What the cores of a run tell to.
+/// Returns an empty collector per core.
 fn tellings_for<B: Run, W: Relay>(
     alloc: Global,
     relay: &W,
@@ -171,7 +172,7 @@ fn tellings_for<B: Run, W: Relay>(
     Ok(Tellings::<B, W::Told>::new(slots))
 }
 
-/// A team for a run, of which no thread works yet.
+/// Returns a team for a run. Its threads have not begun yet.
 fn team_for<B: Run, W: Relay>(
     plan: &Plan,
     workers: usize,
@@ -187,8 +188,8 @@ fn team_for<B: Run, W: Relay>(
     Ok(team)
 }
 
-/// The whole simulation, of which threads take the turns and this one gives out what the cores tell; once no piece is to be had any more it takes
-/// the turns that are left.
+/// Runs the whole simulation: a team takes the turns, and this thread writes their rows. Once no
+/// further piece is available, this thread takes the remaining turns.
 pub(crate) fn flow_beside<B: Run + Send + Sync, R: Threads + Wait + Sync, G: Gate + Sync, W: Relay>(
     rt: &R,
     plan: &Plan,

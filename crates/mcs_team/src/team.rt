@@ -1,4 +1,4 @@
-//! Threads that work at one desk, and how long their pieces are.
+//! Worker threads that share one desk, and the rule for the length of their pieces.
 ghost use Rattle.std.specs.Prelude.{◌≡◌, ◌≤◌, ◌^◌, false, IfOk};
 ghost use Rattle.std.specs.Arc.{arc_value};
 ghost use Rattle.mcs_window.specs.Desk.{opening_table, AllAreHere};
@@ -16,23 +16,23 @@ use std::thread;
 use std::thread::{Parker, Threads};
 use std::time::Duration;
 
-/// So long, in milliseconds, the caller's thread sleeps at most before it looks for rows.
+/// Longest sleep of the caller's thread between two looks for rows, in milliseconds.
 const NAP: u64 = 1;
 
-/// What the threads of a run share.
+/// The state that the threads of a run share.
 #[derive(Drop)]
 pub(crate) struct Team<B: Run, S: Collector + Drop> {
     desk: Mutex<SharedDesk<B, S>>,
     workers: usize,
     alloc: Global,
-    /// Told where a further piece may be had, and at the end.
+    /// Signalled when a further piece may be available, and at the end.
     free: Condvar,
-    /// Told where it is time to take rows.
+    /// Wakes the caller's thread when it is time to take rows.
     due: Parker,
 }
 
 impl<B: Run, S: Collector + Drop> Team<B, S> {
-    /// So many threads are to work at the desk, of which none has begun.
+    /// Returns a team of `workers` threads for this desk. No thread has begun yet.
     pub(crate) fn new(
         alloc: Global,
         desk: Desk<Nothing>,
@@ -51,7 +51,8 @@ impl<B: Run, S: Collector + Drop> Team<B, S> {
         }
     }
 
-    /// Waits until it may be time to take what was told. Where no thread has begun to work this one runs a piece.
+    /// Waits until it may be time to take rows. If no thread has begun to work, this one runs a
+    /// piece.
     pub(crate) fn wait<R: Wait, G: Gate>(&self, rt: &R, gate: &G) {
         let mut guard = self.desk.lock(rt);
         if guard.has_begun() {
@@ -71,8 +72,8 @@ impl<B: Run, S: Collector + Drop> Team<B, S> {
         }
     }
 
-    /// Moves what each core has told behind `told`, where that has room for it, and leaves an empty collector in its place. Answers whether no
-    /// piece is to be had any more.
+    /// Appends what each core has recorded to `told`, as far as its capacity allows, and leaves an
+    /// empty collector from `rooms` for each. Returns whether no further piece will be available.
     pub(crate) fn take_out<R: Wait>(
         &self,
         rt: &R,
@@ -96,7 +97,11 @@ impl<B: Run, S: Collector + Drop> Team<B, S> {
         self.free.notify_all();
     }
 
-    /// The desk and what was told, once all threads have ended. The desk has nothing lent and nothing lost.
+    /// Returns the desk and the rows of its cores, once all threads have ended. On that desk no
+    /// piece is lent or lost.
+    ///
+    /// Errors: `NoMemory` if memory ran out, `Odd` if a piece is missing or the team was closed
+    /// early.
     pub(crate) fn into_parts(self) -> Result<(Desk<Nothing>, Tellings<B, S>), Untold>
         ensures run { IfOk result (λ parts. (parts.0.system ≡ B.system) × (parts.0.horizon ≡ B.horizon)) }
         ensures whole { IfOk result (λ parts. (parts.0.lost ≡ false) × AllAreHere parts.0) }
@@ -105,7 +110,7 @@ impl<B: Run, S: Collector + Drop> Team<B, S> {
     }
 }
 
-/// All cores at moment 0, on a desk that keeps no rows.
+/// Returns a desk with all cores at time 0 that keeps no rows.
 pub(crate) fn silent_desk(
     alloc: Global,
     system: Arc<System>,
@@ -118,7 +123,8 @@ pub(crate) fn silent_desk(
     Desk::opened(alloc, system, horizon, told)
 }
 
-/// Runs pieces, one after another.
+/// Runs pieces one after another and returns the results. If memory for the list runs out, it
+/// returns those so far.
 fn run_all<B: Run, S: Collector + Drop, G: Gate>(
     alloc: Global,
     errands: Vec<Errand<B, S>>,
@@ -134,8 +140,10 @@ fn run_all<B: Run, S: Collector + Drop, G: Gate>(
     ran
 }
 
-/// Takes pieces until none is to be had any more. Who takes some wakes another thread only where a further piece is to be had, for which one
-/// waits. Where it is to tell so, the gate is told how far the run is.
+/// Takes and runs pieces until no further piece will be available.
+///
+/// A worker that takes pieces wakes another one only if a further piece is available and a thread
+/// waits for it. If `tells` is set, the gate is called with the progress of the run.
 fn work<B: Run, S: Collector + Drop, R: Wait, G: Gate>(
     rt: &R,
     team: &Team<B, S>,
@@ -176,8 +184,8 @@ fn work<B: Run, S: Collector + Drop, R: Wait, G: Gate>(
     }
 }
 
-/// Lets threads work, this one among them, and waits until they have ended. A thread that can't be started is done without. Where this one is
-/// the caller's it tells the gate how far the run is.
+/// Runs the team on new threads and this one, and waits until all have ended. A thread that can't
+/// be started is left out. If `is_callers` is set, this thread reports progress to the gate.
 pub(crate) fn crew<
     B: Run + Send + Sync,
     S: Collector + Drop + Send,
@@ -192,39 +200,44 @@ pub(crate) fn crew<
     });
 }
 
-/// A piece that told more rows than that was too long, and one of as many rows as that is long enough.
+/// Rows above which a piece was too long.
 const MANY: usize = 1024;
 
+/// Rows below which a piece was short.
 const FEW: usize = 256;
 
-/// For so many moments a piece is lent at first, and at most.
+/// Span of the first pieces, in ticks.
 const FIRST: u64 = 512;
 
+/// Longest span of a piece, in ticks: longer than any run.
 const LONGEST: u64 = 1 << 41;
 
-/// After so many pieces it is asked whether they were worth it.
+/// Pieces after which the team checks whether pieces are worth their cost.
 const PIECES: usize = 1024;
 
-/// With fewer rows from so many pieces, 128 of each, it may cost less to run them than to lend them.
+/// Rows that `PIECES` pieces must return, 128 each. If they return fewer, it may cost less to run
+/// the turns than to lend them.
 const ROWS: usize = 128 * PIECES;
 
-/// For how many moments a piece is lent at most, by how many rows the pieces of before told, and whether pieces are worth it.
+/// The longest span for which a piece is lent, set by the rows of earlier pieces, and whether
+/// pieces are still worth their cost.
 #[derive(Drop)]
 pub(crate) struct Pace {
     span: u64,
-    /// Of the pieces that came back since the span was last tried: how many there are, and the most rows that one told
+    /// Pieces that returned since the span was last reconsidered, and the maximum rows of one
+    /// piece.
     tried: usize,
     most: usize,
-    /// Of those since it was last asked whether they were worth it: how many were lent, how many came back, and how many rows these told
+    /// Since the last check of the cost: pieces lent, pieces returned, and rows of the returned
+    /// ones.
     lent: usize,
     back: usize,
     rows: usize,
-    /// Whether they were not worth it.
+    /// Whether pieces were not worth their cost.
     over: bool,
 }
 
 impl Pace {
-    /// No piece was lent yet.
     pub(crate) fn new() -> Pace {
         Pace {
             span: FIRST,
@@ -237,24 +250,24 @@ impl Pace {
         }
     }
 
-    /// For how many moments a piece is lent at most.
+    /// The longest span of a piece, in ticks. At least 1.
     pub(crate) fn span(&self) -> u64
         ensures { 1 ≤ result }
     {
         self.span.max(1)
     }
 
-    /// Whether a piece has come back since it was last asked whether they were worth it.
+    /// Whether a piece has returned since the last check of the cost.
     pub(crate) fn is_known(&self) -> bool {
         self.back > 0
     }
 
-    /// Whether pieces were not worth it.
     pub(crate) fn is_over(&self) -> bool {
         self.over
     }
 
-    /// A piece was lent.
+    /// Counts a lent piece. Every `PIECES` pieces it checks whether they returned `ROWS` rows, and
+    /// starts to count again.
     pub(crate) fn lend(&mut self) {
         self.lent = self.lent.saturating_add(1);
         if self.lent >= PIECES {
@@ -265,7 +278,10 @@ impl Pace {
         }
     }
 
-    /// A piece of so many moments has come back, of the pieces of so many cores, and it told so many rows.
+    /// Counts a returned piece of `moments` ticks with `rows` rows, and adapts the span.
+    ///
+    /// A piece with more than `MANY` rows shortens the span at once. When `cores` pieces have
+    /// returned without one that was too long, the span may grow.
     pub(crate) fn settle(&mut self, moments: u64, rows: usize, cores: usize) {
         self.back = self.back.saturating_add(1);
         self.rows = self.rows.saturating_add(rows);
@@ -278,7 +294,8 @@ impl Pace {
         }
     }
 
-    /// A piece of so many moments was too long: half as many rows as are too many come of the next one, if its rows are as dense.
+    /// Shortens the span after a piece of `moments` ticks with too many rows. If the next piece is
+    /// as dense, it has about half of `MANY` rows.
     fn shorten(&mut self, moments: u64, rows: usize) {
         let times = (rows / (MANY / 2)) as u64;
         self.span = self.span.min((moments / times.max(1)).max(1));
@@ -286,7 +303,8 @@ impl Pace {
         self.most = 0;
     }
 
-    /// Of as many pieces as there are cores none was too long: the next ones are longer where all were short.
+    /// Called when one piece per core has returned and none was too long. Quadruples the span if
+    /// all were short.
     fn lengthen(&mut self) {
         if self.most < FEW {
             self.span = self.span.saturating_mul(4).min(LONGEST);

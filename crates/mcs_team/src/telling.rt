@@ -1,4 +1,4 @@
-//! What the cores of a team tell: of each its rows from one moment to before another.
+//! Rows recorded by the cores of a team, each from one time to before another.
 ghost use Rattle.std.specs.Prelude.{◌≡◌, ◌≤◌, [], IfOk};
 ghost use Rattle.mcs_stretch.specs.Stretch.{rows_between};
 ghost use Rattle.mcs_window.specs.Pieces.{IsOf};
@@ -10,7 +10,8 @@ use mcs_window::{Done, Piece};
 use std::marker::{Model, PhantomData};
 use std::mem;
 
-/// What holds the rows of a core of the run from one moment to before another, and no others. Contracts see the core and the moments.
+/// Holds exactly the rows of one core of the run from time `first` to before time `past`. Contracts
+/// see the core and both times.
 #[derive(Drop)]
 pub(crate) struct Telling<B: Run, S: Collector + Drop> {
     core: CoreId,
@@ -32,17 +33,17 @@ impl<B: Run, S: Collector + Drop> Model for Telling<B, S> {
     ghost invariant = { λ a. (a.first ≤ a.past) × S.holds a.told (rows_between B.system a.core a.first a.past) };
 }
 
-/// Why the rows of a core could not be told.
+/// Why the rows of a core are missing.
 #[derive(Clone, Copy, Debug, PartialEq, Eq, Drop)]
 pub(crate) enum Untold {
-    /// There was no memory.
+    /// Memory ran out.
     NoMemory,
-    /// Something is not as this run left it, which no run meets.
+    /// Something is not as this run left it, which doesn't occur in a run.
     Odd,
 }
 
 impl<B: Run, S: Collector + Drop> Telling<B, S> {
-    /// Nothing was told yet, and what is told begins at this moment.
+    /// Returns a collector without rows that begins at time `at`.
     pub(crate) fn new(core: CoreId, at: Tick, empty: S) -> Telling<B, S>
         requires { S.holds empty [] }
         ensures { result ≡ record { core = core; first = at; past = at } }
@@ -56,14 +57,13 @@ impl<B: Run, S: Collector + Drop> Telling<B, S> {
         }
     }
 
-    /// The core that tells.
     pub(crate) fn core(&self) -> CoreId
         ensures { result ≡ self.now.core }
     {
         self.core
     }
 
-    /// The moment from which on the rows were told.
+    /// The time of the first rows.
     pub(crate) fn first(&self) -> Tick
         ensures value { result ≡ self.now.first }
         ensures in_order { result ≤ self.now.past }
@@ -71,15 +71,18 @@ impl<B: Run, S: Collector + Drop> Telling<B, S> {
         self.first
     }
 
-    /// The moment before which they were told.
+    /// The time before which the rows end.
     pub(crate) fn past(&self) -> Tick
         ensures { result ≡ self.now.past }
     {
         self.past
     }
 
-    /// Runs a stretch of the core, which tells its rows where its turns are taken. `Odd` where it does not begin where what was told ends, and
-    /// `NoMemory` where there was none for it. What was told is then gone.
+    /// Runs a stretch of the core, which records its rows. On an error all earlier rows are
+    /// dropped.
+    ///
+    /// Errors: `Odd` if the stretch does not begin at the end of the earlier rows, `NoMemory` if
+    /// memory runs out.
     pub(crate) fn run(self, piece: Piece) -> Result<(Telling<B, S>, Done<Nothing>), Untold>
         requires { piece.system ≡ B.system }
         ensures told { IfOk result (λ ran. ran.0 ≡ record self { past = piece.past }) }
@@ -108,7 +111,8 @@ impl<B: Run, S: Collector + Drop> Telling<B, S> {
         Ok((telling, done))
     }
 
-    /// Goes on to a moment, up to which the core made no row. `Odd` where what was told does not end where that time begins.
+    /// Moves the end to time `past`. The core made no row in between. `Odd` if the rows do not end
+    /// at time `from` or are from another core.
     pub(crate) fn pass(self, core: CoreId, from: Tick, past: Tick) -> Result<Telling<B, S>, Untold>
         requires in_order { from ≤ past }
         requires silent { rows_between B.system core from past ≡ [] }
@@ -132,12 +136,10 @@ impl<B: Run, S: Collector + Drop> Telling<B, S> {
         })
     }
 
-    /// How much was told, by the collector's measure.
     pub(crate) fn size(&self) -> usize {
         self.told.size()
     }
 
-    /// What was told alone.
     pub(crate) fn into_told(self) -> S
         ensures { S.holds result (rows_between B.system self.core self.first self.past) }
     {
@@ -146,21 +148,22 @@ impl<B: Run, S: Collector + Drop> Telling<B, S> {
     }
 }
 
-/// What each core of a run has told since it was last taken, but for the time in which a stretch of the core is run.
+/// For each core the rows since they were last taken. A core's collector is away while a stretch of
+/// the core runs.
 #[derive(Drop)]
 pub(crate) struct Tellings<B: Run, S: Collector + Drop> {
     slots: Vec<Option<Telling<B, S>>>,
-    /// The sizes of those that are here.
+    /// Total size of the collectors that are here.
     waiting: usize,
 }
 
 impl<B: Run, S: Collector + Drop> Tellings<B, S> {
-    /// What each core tells to, from core 0 on. Nothing was told yet.
+    /// Returns these collectors, one per core from core 0. They hold no rows yet.
     pub(crate) fn new(slots: Vec<Option<Telling<B, S>>>) -> Tellings<B, S> {
         Tellings { slots, waiting: 0 }
     }
 
-    /// What a core has told, which is away from then on.
+    /// Takes the collector of a core, which is away from then on.
     pub(crate) fn take(&mut self, core: CoreId) -> Option<Telling<B, S>> {
         if core.0 >= self.slots.len() {
             return None;
@@ -170,7 +173,6 @@ impl<B: Run, S: Collector + Drop> Tellings<B, S> {
         Some(telling)
     }
 
-    /// Puts back what a core has told.
     pub(crate) fn put(&mut self, telling: Telling<B, S>) {
         let core = telling.core().0;
         if core < self.slots.len() {
@@ -179,7 +181,8 @@ impl<B: Run, S: Collector + Drop> Tellings<B, S> {
         }
     }
 
-    /// What a core tells to goes on from one moment to another, between which the core made no row.
+    /// Moves the end of a core's rows from one time to a later one. The core made no row in
+    /// between.
     pub(crate) fn pass(&mut self, core: CoreId, from: Tick, past: Tick) -> Result<(), Untold>
         requires in_order { from ≤ past }
         requires silent { rows_between B.system core from past ≡ [] }
@@ -192,12 +195,13 @@ impl<B: Run, S: Collector + Drop> Tellings<B, S> {
         Ok(())
     }
 
-    /// How much waits to be taken by the caller's thread: the sizes of all that was told.
+    /// The amount that waits for the caller's thread: the total size.
     pub(crate) fn waiting(&self) -> usize {
         self.waiting
     }
 
-    /// Moves what each core has told behind `told`, where that has room for it, and leaves an empty collector in its place.
+    /// Appends what each core has recorded to `told`, as far as its capacity allows, and leaves an
+    /// empty collector from `rooms` for each.
     pub(crate) fn exchange(&mut self, rooms: &mut Vec<S>, told: &mut Vec<Telling<B, S>>) {
         for core in 0..self.slots.len() {
             if told.len() == told.capacity() {
@@ -209,7 +213,8 @@ impl<B: Run, S: Collector + Drop> Tellings<B, S> {
         }
     }
 
-    /// Takes what a core has told, if that is any, and leaves an empty collector in its place, if there is one.
+    /// Takes what a core has recorded, if there is any, and leaves an empty collector. `None` and
+    /// no change if `rooms` is empty.
     fn exchange_one(&mut self, core: CoreId, rooms: &mut Vec<S>) -> Option<Telling<B, S>> {
         let telling = self.take(core)?;
         if telling.first() == telling.past() {
@@ -226,13 +231,13 @@ impl<B: Run, S: Collector + Drop> Tellings<B, S> {
         Some(telling)
     }
 
-    /// All that was told, from core 0 on.
+    /// Returns all collectors, from core 0.
     pub(crate) fn into_slots(self) -> Vec<Option<Telling<B, S>>> {
         self.slots
     }
 }
 
-/// A piece of the run, and what its core tells its rows to.
+/// A piece of the run with the collector of its core.
 #[derive(Drop)]
 pub(crate) struct Errand<B: Run, S: Collector + Drop> {
     pub(crate) piece: Piece,
@@ -240,7 +245,7 @@ pub(crate) struct Errand<B: Run, S: Collector + Drop> {
     ghost ours: { piece.system ≡ B.system },
 }
 
-/// A piece of the run that was run and has told its rows, and how much these are.
+/// A piece that was run, with its core's collector and the number of rows that it made.
 #[derive(Drop)]
 pub(crate) struct Told<B: Run, S: Collector + Drop> {
     pub(crate) done: Done<Nothing>,
@@ -250,7 +255,7 @@ pub(crate) struct Told<B: Run, S: Collector + Drop> {
 }
 
 impl<B: Run, S: Collector + Drop> Errand<B, S> {
-    /// Runs the piece, of which the gate is told.
+    /// Runs the piece, with a call of the gate before and after.
     pub(crate) fn run<G: Gate>(self, gate: &G) -> Result<Told<B, S>, Untold> {
         let Errand { piece, telling } = self;
         let (core, first, past) = (piece.core, piece.first, piece.past);

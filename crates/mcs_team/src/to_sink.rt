@@ -1,4 +1,4 @@
-//! Whole simulations whose rows go to a sink, or to an output as each core tells them.
+//! Whole simulations that write their rows to a sink, or to an output as each core makes them.
 ghost use Rattle.std.specs.Prelude.{◌≡◌, ◌≤◌, ◌^◌, IfErr, IfOk, OnOk};
 ghost use Rattle.std.specs.Arc.{arc_value};
 ghost use Rattle.mcs_core.specs.Clock.{schedule};
@@ -24,14 +24,21 @@ use std::marker::Brand;
 use std::sync::{Arc, Wait};
 use std::thread::Threads;
 
-/// The whole simulation up to the horizon, at most 2^40, whose rows go to a sink: the schedule's, in order, some hundreds
-/// or thousands at a time, once the clocks of all cores have passed them, and at the latest about a millisecond later while
-/// threads work. It gives the reports of the schedule: each row that the sink takes is counted. Threads work at one
-/// desk, as many as the lesser of `workers` and the number of cores, beside this one, which gives the rows; where that
-/// number is less than two this one takes all turns, and after 1,024 pieces of work that made fewer than 128 rows each,
-/// on average, they end, and it takes those that are left. `Sink` is answered where the sink has refused a row, after
-/// which it's given no other; and after `NoMemory` it has taken some first rows of the schedule. The gate is told of
-/// each piece of work that is lent; where this thread takes turns none is.
+/// Simulates the system up to the horizon, at most 2^40, and writes the rows of its schedule to a
+/// sink, in order. Returns the reports of the schedule.
+///
+/// Rows are written some hundreds or thousands at a time, once the clocks of all cores have passed
+/// them. While threads work, that is at most about a millisecond later. Each row that the sink
+/// takes is counted.
+///
+/// The team has `workers` threads, at most one per core, and this thread writes their rows. If that
+/// is fewer than two, this thread takes all turns. After 1,024 pieces of work with fewer than 128
+/// rows each, on average, the team ends and this thread takes the remaining turns. The gate is
+/// called for each piece that is lent; turns of this thread lend none.
+///
+/// Errors:
+/// - `Sink` if the sink refused a row. It is given no other row after that.
+/// - `NoMemory` if an allocation failed. The sink has then taken some first rows of the schedule.
 pub fn simulate_to<R: Threads + Wait + Sync, G: Gate + Sync, S: Sink>(
     rt: &R,
     alloc: Global,
@@ -64,8 +71,9 @@ pub fn simulate_to<R: Threads + Wait + Sync, G: Gate + Sync, S: Sink>(
     Ok(tally.finish())
 }
 
-/// The whole simulation up to the horizon, at most 2^40, whose rows go to a sink as `simulate_to` says, by the same
-/// threads and with the same faults. None is counted, so it costs less, and gives no reports.
+/// Simulates the system up to the horizon, at most 2^40, and writes the rows to a sink like
+/// `simulate_to`, with the same threads and errors. It counts nothing, so it costs less and returns
+/// no reports.
 pub fn schedule_to<R: Threads + Wait + Sync, G: Gate + Sync, S: Sink>(
     rt: &R,
     alloc: Global,
@@ -92,7 +100,7 @@ pub fn schedule_to<R: Threads + Wait + Sync, G: Gate + Sync, S: Sink>(
     schedule_by_core(rt, plan, workers, gate, &relay, sink)
 }
 
-/// Gives rows to a sink, and counts those that it takes.
+/// Passes rows to a sink, and counts those that it takes.
 #[derive(Drop)]
 pub(crate) struct Counted<'a, S: Sink> {
     sink: &'a mut S,
@@ -100,7 +108,7 @@ pub(crate) struct Counted<'a, S: Sink> {
 }
 
 impl<'a, S: Sink> Counted<'a, S> {
-    /// Gives rows to this sink, and counts them by this tally.
+    /// Returns a sink that passes rows to `sink` and counts them in `tally`.
     pub(crate) fn new(sink: &'a mut S, tally: &'a mut Tally) -> Counted<'a, S>
         ensures sink { result.sink.ghost_name ≡ sink.entry.ghost_name }
         ensures sink_now { result.sink.now ≡ sink.old }
@@ -128,10 +136,15 @@ impl<S: Sink> Sink for Counted<'_, S> {
     }
 }
 
-/// The whole simulation up to the horizon, at most 2^40, of which each core tells its rows where its turns are taken, and what was told is given
-/// to an output by moments, as the relay has it: as if the output had been given the schedule's rows one by one, in order, once the clocks of
-/// all cores have passed them. The threads are those of `schedule_to`, and so are the faults: `Sink` is answered where the output has refused a
-/// row, after which it's given no other; and after `NoMemory` it has taken some first rows of the schedule.
+/// Simulates the system up to the horizon, at most 2^40. Each core records its rows as its turns
+/// are taken, and they are written to an output through a relay.
+///
+/// For the output it is as if the schedule's rows were written one by one, in order, once the
+/// clocks of all cores have passed them. The threads are those of `schedule_to`.
+///
+/// Errors:
+/// - `Sink` if the output refused a row. It is given no other row after that.
+/// - `NoMemory` if an allocation failed. The output has then taken some first rows of the schedule.
 pub fn schedule_by_core<R: Threads + Wait + Sync, G: Gate + Sync, W: Relay>(
     rt: &R,
     plan: Plan,
@@ -161,7 +174,7 @@ where
     }
 }
 
-/// Threads work, and this one gives out what the cores tell.
+/// Runs the turns on a team while this thread writes the rows.
 fn flow_team<R: Threads + Wait + Sync, G: Gate + Sync, W: Relay>(
     rt: &R,
     plan: Plan,

@@ -1,4 +1,4 @@
-//! Whole simulations whose rows are kept, and all contexts at a moment.
+//! Whole simulations that keep their rows, and the state of all contexts at one time.
 ghost use Rattle.std.specs.Prelude.{◌≡◌, [], ◌≤◌, ◌^◌, ◌+◌, IfOk};
 ghost use Rattle.std.specs.Arc.{arc_value};
 ghost use Rattle.mcs_core.specs.Clock.{schedule};
@@ -19,16 +19,16 @@ use std::alloc::Global;
 use std::sync::{Arc, Wait};
 use std::thread::Threads;
 
-/// What a whole simulation gives.
+/// The result of a whole simulation.
 #[derive(Debug, Drop)]
 pub struct Whole {
-    /// The schedule: all rows by moment, then core, then order of making.
+    /// The schedule: all rows in order of time, then core, then as they were made.
     pub rows: Sequence<Row>,
     /// The reports of the schedule.
     pub reports: Reports,
 }
 
-/// A sink that keeps the rows. It refuses one only where there is no memory.
+/// A sink that keeps the rows. It refuses a row only if memory runs out.
 #[derive(Drop)]
 pub(crate) struct Kept {
     pub(crate) rows: Vec<Row>,
@@ -47,7 +47,6 @@ impl Sink for Kept {
 }
 
 impl Kept {
-    /// No row was kept yet.
     pub(crate) fn new(alloc: Global) -> Kept
         ensures { result.rows.items ≡ [] }
     {
@@ -57,10 +56,18 @@ impl Kept {
     }
 }
 
-/// The whole simulation up to the horizon, at most 2^40, on this thread, with its reports. A thread whose context no order names runs at
-/// most its budget for each period that begins before the horizon, the first of them at moment 0; where the context is in bandwidth mode it
-/// runs in any stretch of a period below the horizon for at most its budget. At each moment of the run each context
-/// has its whole budget in force, in refills that neither touch nor overlap, or in a slice.
+/// Simulates the system up to the horizon, at most 2^40, on this thread. Returns the schedule and
+/// its reports.
+///
+/// The contract promises three bounds:
+/// - A thread whose context no order names runs at most its budget for each period that begins
+///   before the horizon. The first period begins at time 0.
+/// - If that context is in bandwidth mode, the thread runs at most its budget in any interval of
+///   one period below the horizon.
+/// - At each time of the run each context has its whole budget in force, in refills that neither
+///   touch nor overlap, or in a slice.
+///
+/// Errors: `NoMemory` if an allocation failed.
 pub fn simulate_alone(alloc: Global, system: Arc<System>, horizon: Tick) -> Result<Whole, SimFault>
     requires { horizon ≤ 2 ^ 40 }
     ensures rows { IfOk result (λ whole. whole.rows ≡ schedule (arc_value system) horizon) }
@@ -83,11 +90,16 @@ pub fn simulate_alone(alloc: Global, system: Arc<System>, horizon: Tick) -> Resu
     })
 }
 
-/// The whole simulation up to the horizon, at most 2^40, by threads that work at one desk, as many as the lesser of `workers` and the
-/// number of cores, beside this one, which takes the rows; where that number is less than two this one takes all turns, and where pieces of
-/// work stay short it takes those that are left after a while, as `simulate_to` says. It promises what `simulate_alone` does, for every
-/// number of workers. A thread that can't be started is done without. The gate is told of each piece of work that is lent; where this
-/// thread takes turns none is.
+/// Simulates the system up to the horizon, at most 2^40, on a team of threads. Returns the schedule
+/// and its reports, with the promises of `simulate_alone`, for every number of workers.
+///
+/// The team has `workers` threads, at most one per core, and this thread takes their rows. If that
+/// is fewer than two, this thread takes all turns. If pieces of work stay short, the team ends
+/// after a while and this thread takes the remaining turns, see `simulate_to`. A thread that can't
+/// be started is left out. The gate is called for each piece that is lent; turns of this thread
+/// lend none.
+///
+/// Errors: `NoMemory` if an allocation failed.
 pub fn simulate<R: Threads + Wait + Sync, G: Gate + Sync>(
     rt: &R,
     alloc: Global,
@@ -110,15 +122,21 @@ pub fn simulate<R: Threads + Wait + Sync, G: Gate + Sync>(
             rows: Sequence::new(kept.rows),
             reports,
         }),
-        // The rows are kept, and `Kept` refuses one only where a growth of its vector is refused.
+        // The rows are kept. `Kept` refuses one only if its vector can't grow.
         Err(FlowFault::NoMemory | FlowFault::Sink) => Err(SimFault::NoMemory),
     }
 }
 
-/// All contexts in file order, each once, as they are after all turns of moment `t`, which is at most 2^40. Each shows its whole budget in
-/// force then: a sporadic one refills that neither touch nor overlap, whose amounts sum to the budget, at most `2 + extra` of them, which
-/// span at most the period; a round robin one 1 to the budget left. Ticks in use are ticks of the head, and there are none unless the
-/// context's thread runs. It knows no horizon.
+/// Returns all contexts in file order, as they are after all turns of time `t`, at most 2^40. It
+/// needs no horizon.
+///
+/// Each view shows the whole budget in force at that time:
+/// - A sporadic context has at most `2 + extra` refills that neither touch nor overlap. Their
+///   amounts sum to the budget, and they span at most the period.
+/// - A round robin context has 1 to its budget left.
+/// - Ticks in use are ticks of the head. They are 0 unless the context's thread runs.
+///
+/// Errors: `NoMemory` if an allocation failed.
 pub fn probe(alloc: Global, system: Arc<System>, t: Tick) -> Result<Vec<ContextView>, SimFault>
     requires { t ≤ 2 ^ 40 }
     ensures views { IfOk result (λ views. views.items ≡ views_before (arc_value system) (t + 1)) }

@@ -1,3 +1,4 @@
+//! The tests, by what they run.
 mod devices;
 mod failing;
 mod faults;

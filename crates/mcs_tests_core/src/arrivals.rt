@@ -68,7 +68,7 @@ fn are(rt: &impl Abort, rows: &[Row], first: &[(u64, What)], then: &[(u64, What)
     }
 }
 
-/// Runs the core of the waiting thread up to moment 4, with these letters in its box.
+/// Runs the core of the waiting thread up to 4, with these letters in its box.
 fn makes(
     rt: &impl Abort,
     alloc: Global,
@@ -87,7 +87,8 @@ fn made_of(alloc: Global, letters: &[Letter]) -> Result<Made, Fail> {
     made_by(alloc, &makers, 2, letters, 4, 1_000)
 }
 
-/// What was made earlier is delivered before what a lower core made. With one delay for all cores no run has two such signals.
+/// A signal that was made earlier is delivered before one that a lower core made. Two such signals
+/// need different delays.
 #[test]
 fn made_before_maker(rt: HostRuntime) -> Result<(), Fail> {
     let letters = [Letter(4, 2, 0, 1), Letter(4, 1, 1, 2)];

@@ -12,7 +12,8 @@ use std::alloc::Global;
 use std::process::Abort;
 use std::test::Fail;
 
-/// What there is to see of a context: its number, what is left of its slice, its refills, and the ticks in use.
+/// The visible parts of a context: its number, the ticks left of its slice, its refills, and the
+/// ticks in use.
 #[derive(Clone, Copy)]
 struct Seen(usize, Option<u64>, &'static [(u64, u64)], u64);
 
@@ -28,7 +29,7 @@ fn is_seen(rt: &impl Abort, view: &ContextView, seen: Seen) {
     }
 }
 
-/// Compares what there is to see of a core's contexts after all turns of a moment.
+/// Compares the visible parts of a core's contexts after all turns of a moment.
 fn sees(
     rt: &impl Abort,
     alloc: Global,
@@ -78,7 +79,7 @@ fn sees_at(
     Ok(())
 }
 
-/// Takes the turns to a moment of a core without mail.
+/// Takes the turns of a core without mail up to a moment.
 fn go_to(alloc: Global, system: &System, state: &mut CoreState, end: Tick) -> Result<(), NoMemory>
     requires fits { Fits system.now state.old }
     requires in_time { end ≤ 2 ^ 40 + 1 }
@@ -138,7 +139,8 @@ thread = [
 ]
 "#;
 
-/// Each core shows its own contexts. One without a thread begins at 0, the others at the start of their thread.
+/// Each core shows its own contexts. A context without a thread begins at 0, the others at the
+/// start of their thread.
 #[test]
 fn contexts_of_a_core(rt: HostRuntime) -> Result<(), Fail> {
     let alloc = rt.alloc();

@@ -11,11 +11,11 @@ use std::alloc::Global;
 use std::process::Abort;
 use std::test::Fail;
 
-/// Before a moment, with the mail that is left then, this moment is the next busy one.
+/// A moment, and the next busy moment from it on, with the mail that is left then.
 #[derive(Clone, Copy)]
 struct Next(u64, Option<u64>);
 
-/// Compares the next busy moments of core 0, which goes on from each moment to the next one.
+/// Compares the next busy moments of core 0, which runs from each moment to the next one.
 fn is_busy_at(
     rt: &impl Abort,
     alloc: Global,
@@ -61,7 +61,8 @@ fn next_busy(system: &System, state: &CoreState, mailbox: &Mailbox) -> Result<Op
     Ok(state.next_busy(system, mailbox).map(|busy| busy.get()))
 }
 
-/// The thread is released at 0 and spends its 2 ticks at 2, its date comes at 5, and it is done at 11.
+/// The thread is released at 0 and exhausts its 2 ticks at 2, its date comes at 5, and it is done
+/// at 11.
 #[test]
 fn the_runner_depletes(rt: HostRuntime) -> Result<(), Fail> {
     let alloc = rt.alloc();
@@ -90,8 +91,8 @@ thread = [
 ]
 "#;
 
-/// The better thread waits from 1 on. It is woken at 4, runs in that very turn and computes until 6; the other one, which had
-/// used 3 ticks, goes on for 6 more.
+/// The better thread waits from 1 on. It is woken at 4, runs in that very turn and computes until
+/// 6. The other one, which had used 3 ticks, runs for 6 more.
 #[test]
 fn an_arrival_wakes_a_better_one(rt: HostRuntime) -> Result<(), Fail> {
     let alloc = rt.alloc();
@@ -119,8 +120,8 @@ thread = [
 ]
 "#;
 
-/// The better thread starts at 3, runs in that very turn and is done at 5; the other one, which had used 3 ticks, goes on for 6
-/// more.
+/// The better thread starts at 3, runs in that very turn and is done at 5. The other one, which had
+/// used 3 ticks, runs for 6 more.
 #[test]
 fn a_better_one_is_released(rt: HostRuntime) -> Result<(), Fail> {
     let alloc = rt.alloc();
@@ -150,8 +151,8 @@ thread = [
 order = [{ at = 7, core = 0, context = "a", budget = 10, period = 100 }]
 "#;
 
-/// At 7 the head of the runner keeps 3 ticks, which are too few and join the refill at 100, so it must wait until 97; the lesser
-/// thread runs in that very turn and is done at 10.
+/// At 7 the head of the running thread keeps 3 ticks, which are too few and join the refill at 100,
+/// so it must wait until 97. The lesser thread runs in that very turn and is done at 10.
 #[test]
 fn an_order_changes_the_runner(rt: HostRuntime) -> Result<(), Fail> {
     let alloc = rt.alloc();
@@ -160,7 +161,7 @@ fn an_order_changes_the_runner(rt: HostRuntime) -> Result<(), Fail> {
     is_busy_at(&rt, alloc, &orders, &[], &nexts)
 }
 
-/// Skips to a moment of a core without mail, where no turn before it is busy.
+/// Skips a core without mail to a moment; no turn before it may be busy.
 fn skip(alloc: Global, system: &System, state: &mut CoreState, to: Tick) -> Result<(), Fail>
     requires fits { Fits system.now state.old }
     requires in_time { to ≤ 2 ^ 40 + 1 }
@@ -205,7 +206,7 @@ fn using(alloc: Global, system: &System, state: &CoreState) -> Result<u64, Fail>
     Ok(first.using)
 }
 
-/// Takes the turns to a moment of a core without mail, and compares how many rows they make.
+/// Takes the turns of a core without mail up to a moment, and compares the number of their rows.
 fn makes(
     rt: &impl Abort,
     alloc: Global,
@@ -225,7 +226,8 @@ fn makes(
     Ok(())
 }
 
-/// A skip to the clock changes nothing, and one to the next busy moment counts its ticks: both are in use when the thread stops.
+/// A skip to the clock changes nothing, and a skip to the next busy moment counts its ticks: both
+/// are in use when the thread stops.
 #[test]
 fn quiet_turns_are_skipped(rt: HostRuntime) -> Result<(), Fail> {
     let alloc = rt.alloc();

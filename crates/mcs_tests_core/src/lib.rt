@@ -1,4 +1,5 @@
-//! Tests of `mcs_core`, over its public items: what the systems of `mcs_corpus`, which whole runs show, can't show of one core.
+//! Tests of the public items of `mcs_core` for one core, beyond what the whole runs of `mcs_corpus`
+//! show.
 #![tactic(auto)]
 
 #[cfg(test)]

@@ -1,4 +1,4 @@
-//! A core that is run with mail put into its box by hand, and what it makes.
+//! A core that runs with mail put into its box by hand, and what it makes.
 ghost use Rattle.std.specs.Prelude.{◌≡◌, ◌+◌, ◌^◌, ◌≤◌, IsTrue, All, IfOk, OnOk};
 ghost use Rattle.mcs_core.specs.State.{Fits, IsExpected};
 
@@ -9,7 +9,8 @@ use mcs_ticks::{CoreId, NoMemory, NoteId, Row, Tick};
 use std::alloc::Global;
 use std::test::Fail;
 
-/// A signal under way: when it arrives and was made, its maker, and its badge. Its notification is the first of the system.
+/// A signal under way: the times at which it arrives and was made, its maker, and its badge. Its
+/// notification is the first of the system.
 #[derive(Clone, Copy)]
 pub struct Letter(pub u64, pub u64, pub usize, pub u32);
 
@@ -26,7 +27,8 @@ impl Letter {
     }
 }
 
-/// What the turns of a core make: rows, signals for other cores, and how much mail they leave in its box.
+/// The results of the turns of a core: rows, signals for other cores, and the amount of mail left
+/// in its box.
 #[derive(Drop)]
 pub struct Made {
     pub rows: Vec<Row>,
@@ -34,7 +36,7 @@ pub struct Made {
     pub left: usize,
 }
 
-/// A moment of a run, or the one after the last.
+/// Returns a moment of a run, or the one after the last.
 pub(crate) fn moment(ticks: u64) -> Result<Tick, Fail>
     ensures { IfOk result (λ moment. moment ≤ 2 ^ 40 + 1) }
 {
@@ -45,7 +47,7 @@ pub(crate) fn moment(ticks: u64) -> Result<Tick, Fail>
     Ok(moment)
 }
 
-/// The core before its first turn.
+/// Returns the core before its first turn.
 pub(crate) fn opened(alloc: Global, system: &System, core: CoreId) -> Result<CoreState, Fail>
     ensures fits { IfOk result (λ state. Fits system.now state) }
     ensures number { IfOk result (λ state. state.number ≡ core) }
@@ -76,7 +78,7 @@ fn post(system: &System, state: &CoreState, mailbox: &mut Mailbox, mail: Mail) -
     Ok(())
 }
 
-/// The box of a core with these letters.
+/// Returns the box of a core with these letters.
 pub(crate) fn posted(
     alloc: Global,
     system: &System,
@@ -98,7 +100,7 @@ pub(crate) fn posted(
     Ok(mailbox)
 }
 
-/// The turns to a moment. The core and its box can go on afterwards.
+/// Takes the turns up to a moment. The core and its box can be used afterwards.
 pub(crate) fn go_on(
     system: &System,
     state: &mut CoreState,
@@ -117,7 +119,8 @@ pub(crate) fn go_on(
     Ok(())
 }
 
-/// The turns to a moment, or to the end of the one with which there are so many rows. The core and its box can go on afterwards.
+/// Takes the turns up to a moment, or to the end of the one with which there are `most` rows. The
+/// core and its box can be used afterwards.
 pub(crate) fn go_on_some(
     system: &System,
     state: &mut CoreState,
@@ -137,7 +140,8 @@ pub(crate) fn go_on_some(
     Ok(())
 }
 
-/// What a core makes up to the horizon, in stretches of so many turns; the last one may be shorter.
+/// Returns the results of a core up to the horizon, in stretches of this many turns; the last one
+/// may be shorter.
 pub(crate) fn made_by(
     alloc: Global,
     system: &System,
@@ -183,7 +187,6 @@ fn in_stretches(
     Ok(made)
 }
 
-/// Nothing was made yet.
 pub(crate) fn nothing(alloc: Global) -> Made {
     Made {
         rows: Vec::new(alloc),

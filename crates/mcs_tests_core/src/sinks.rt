@@ -1,4 +1,4 @@
-//! The rows of one core, told straight to what counts, writes or watches them.
+//! The rows of one core, emitted straight to a sink that counts, writes or watches them.
 use super::play::{moment, opened};
 use super::systems::{DEPLETES, system};
 use mcs_mail::Mailbox;
@@ -11,7 +11,7 @@ use std::alloc::Global;
 use std::process::Abort;
 use std::test::Fail;
 
-/// As `DEPLETES`, with a deadline that the round misses: it takes 11 ticks, 5 of them running.
+/// `DEPLETES` with a deadline that the round misses: it takes 11 ticks, 5 of them running.
 const TOO_LATE: &str = r#"
 version = 1
 cores = 1
@@ -32,7 +32,7 @@ const LINES: &str = "0 0 release A
 11 0 stop A done 1
 ";
 
-/// The turns of core 0 before moment 13 tell their rows to a sink that refuses one only where there is no memory.
+/// Emits the rows of core 0's turns before 13 to a sink that refuses a row only if memory runs out.
 fn tell<S: Sink>(alloc: Global, system: &System, sink: &mut S) -> Result<(), Fail> {
     let mut core = opened(alloc, system, CoreId(0))?;
     let mut mail = Mailbox::new(alloc);

@@ -7,7 +7,7 @@ use std::alloc::Global;
 use std::process::Abort;
 use std::test::Fail;
 
-/// What a core makes in one stretch it makes in shorter ones too.
+/// A core makes the same in one stretch and in shorter ones.
 fn makes_the_same(
     rt: &impl Abort,
     alloc: Global,
@@ -70,11 +70,11 @@ fn single_turns_take_mail_of_two_makers(rt: HostRuntime) -> Result<(), Fail> {
     makes_the_same(&rt, rt.alloc(), TWO_MAKERS, 2, &letters)
 }
 
-/// A stretch that ends with so many rows, the clock after it, and the rows that there are then.
+/// A stretch that ends with this many rows, the clock after it, and the rows that there are then.
 #[derive(Clone, Copy)]
 struct Enough(usize, u64, usize);
 
-/// Compares where core 0 stands after stretches to moment 40, one after another, that end by their rows.
+/// Compares core 0 after stretches up to 40, one after another, that end by their rows.
 fn ends_at(
     rt: &impl Abort,
     alloc: Global,
@@ -94,8 +94,8 @@ fn ends_at(
     Ok(())
 }
 
-/// The thread is released and runs at 0, 5 and 10, is spent at 2 and 7, and ends its round and stops at 11. A stretch takes a turn
-/// even where there are rows enough before it.
+/// The thread is released and runs at 0, 5 and 10, is exhausted at 2 and 7, and ends its round and
+/// stops at 11. A stretch takes a turn even if there are rows enough before it.
 #[test]
 fn stretches_end_by_their_rows(rt: HostRuntime) -> Result<(), Fail> {
     let alloc = rt.alloc();

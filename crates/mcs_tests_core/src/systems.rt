@@ -5,12 +5,12 @@ use mcs_system::System;
 use std::alloc::Global;
 use std::test::Fail;
 
-/// The system that a text describes.
+/// Returns the system that a text describes.
 pub(crate) fn system(alloc: Global, text: &str) -> Result<System, Fail> {
     Ok(load(alloc, text.as_bytes())?)
 }
 
-/// One thread spends its budget twice, and is done at 11.
+/// One thread exhausts its budget twice, and is done at 11.
 pub const DEPLETES: &str = r#"
 version = 1
 cores = 1
@@ -37,7 +37,8 @@ thread = [
 ]
 "#;
 
-/// A time slice, a thread that waits, one that starts late, and an order, beside a core that signals.
+/// A time slice, a thread that waits, one that starts late, and an order, beside a core that
+/// signals.
 pub const OF_ALL_KINDS: &str = r#"
 version = 1
 cores = 2

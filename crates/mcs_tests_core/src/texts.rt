@@ -1,4 +1,4 @@
-//! The lines of two cores, told by each of them and merged by moments.
+//! The lines of two cores, emitted by each of them and merged by moments.
 ghost use Rattle.std.specs.Prelude.{◌≡◌, length, IfOk, OnOk};
 
 use super::play::{moment, opened};
@@ -11,7 +11,8 @@ use mcs_ticks::{Collector, CoreId, Measured};
 use std::alloc::Global;
 use std::test::Fail;
 
-/// A thread of core 0 spends its budget twice, and one of core 1 starts at the first moment at which it runs again.
+/// A thread of core 0 exhausts its budget twice, and one of core 1 starts at the first moment at
+/// which it runs again.
 const TWO_CORES: &str = r#"
 version = 1
 cores = 2
@@ -50,7 +51,7 @@ const OF_CORE_1: &str = "5 1 release B
 8 1 stop B done 3
 ";
 
-/// The turns of a core before moment 12 tell their rows to lines, which refuse one only where there is no memory.
+/// Emits the rows of a core's turns before 12 to lines that refuse a row only if memory runs out.
 fn tell(alloc: Global, system: &System, core: usize, told: &mut ToldLines<'_>) -> Result<(), Fail> {
     let mut core = opened(alloc, system, CoreId(core))?;
     let mut mail = Mailbox::new(alloc);
@@ -61,7 +62,7 @@ fn tell(alloc: Global, system: &System, core: usize, told: &mut ToldLines<'_>) -
     Ok(())
 }
 
-/// The lines of the turns of a core before moment 12, which wait to be given out.
+/// Returns the lines of a core's turns before 12, which are still to be written.
 fn part_of<'a>(
     alloc: Global,
     system: &System,
@@ -73,7 +74,7 @@ fn part_of<'a>(
     Ok(LinesPart::new(told.into_lines()))
 }
 
-/// The lines of both cores, which wait to be given out.
+/// Returns the lines of both cores, which are still to be written.
 fn merger_of<'a>(
     alloc: Global,
     system: &System,

@@ -154,7 +154,8 @@ static OF_NOTIFICATIONS: [(&str, &str); 7] = [
     ),
 ];
 
-/// the walk's order decides, not the weight of a fault: the thread's unknown key comes later than the double name
+/// The walk's order decides, not the weight of a fault. The thread's unknown key comes after the
+/// double name.
 const LATER_FAULT: &[(&str, &str)] = &[(
     "context = [{name='a',core=0,budget=10,period=100},{name='a',core=0,budget=10,period=100}]
 thread = [{prio=1,name='A',context='a',priority=5,script=['compute 2']}]\n",

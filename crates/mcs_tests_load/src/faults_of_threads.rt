@@ -59,7 +59,7 @@ static OF_THREADS: [(&str, &str); 14] = [
     ),
 ];
 
-/// scripts of a thread, behind which stands a later fault
+/// scripts of a thread with a later fault after them
 static OF_SCRIPTS: [(&str, &str); 10] = [
     (
         "priority=5,script=[1,'sleep 1']",

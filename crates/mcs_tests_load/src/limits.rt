@@ -93,7 +93,7 @@ static LIMITS_OF_CONTEXTS: [(&str, &str); 14] = [
     ),
 ];
 
-/// keys of a thread beside its name and its context
+/// keys of a thread after its name and its context
 static LIMITS_OF_THREADS: [(&str, &str); 16] = [
     (
         "priority=0,start=0,rounds=0,deadline=0,script=['yield']",

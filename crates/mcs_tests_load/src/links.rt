@@ -4,7 +4,7 @@ use crate::files::{answer, are_answered};
 use std::alloc::Global;
 use std::test::Fail;
 
-/// The numbers at the top of a file of version 2, which lie within their limits.
+/// The numbers at the top of a file of version 2, within their limits.
 const TOP: &str = "version = 2\ncores = 2\ndelay = 1\n";
 
 static OF_VERSIONS: [(&str, &str); 11] = [
@@ -124,7 +124,8 @@ fn faults_of_links(rt: HostRuntime) -> Result<(), Fail> {
     are_answered(&rt, alloc, (TOP, ""), OF_LINKS.as_slice())
 }
 
-/// A file of 64 cores with a link from each core to each other one, and then these rows.
+/// Returns a file of 64 cores with a link between each two of them in both directions, and these
+/// rows.
 fn with_all_links(alloc: Global, rows: &str) -> Result<String, Fail> {
     let mut text = String::from_str(alloc, "version = 2\ncores = 64\ndelay = 1\nlink = [")?;
     for maker in 0..64u32 {
@@ -139,7 +140,7 @@ fn with_all_links(alloc: Global, rows: &str) -> Result<String, Fail> {
     Ok(text)
 }
 
-/// So many links of one pair more.
+/// Returns that file with `count` more links of one pair.
 fn with_doubles(alloc: Global, count: usize) -> Result<String, Fail> {
     let mut rows = String::new(alloc);
     for _ in 0..count {
@@ -148,7 +149,7 @@ fn with_doubles(alloc: Global, count: usize) -> Result<String, Fail> {
     with_all_links(alloc, rows.as_str())
 }
 
-/// 4,032 pairs of 64 cores; the 4,033rd row is double, and 4,097 rows are too many
+/// There are 4,032 pairs of 64 cores. The 4,033rd row is double, and 4,097 rows are too many.
 #[test]
 fn most_links(rt: HostRuntime) -> Result<(), Fail> {
     let cases = [

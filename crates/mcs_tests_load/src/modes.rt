@@ -58,7 +58,7 @@ static OF_VERSION_1: [(&str, &str); 2] = [
     ("mode=1}]\n", "unknown key at context 1 ?"),
 ];
 
-/// The key comes after those of the configuration, and before SchedControl tests it.
+/// The mode comes after the keys of the configuration, and before SchedControl tests it.
 #[test]
 fn faults_of_modes(rt: HostRuntime) -> Result<(), Fail> {
     let alloc = rt.alloc();

@@ -1,11 +1,11 @@
-//! The most rows that a file may have of each kind, and one more.
+//! The maximum number of rows of each kind in a file, and one more.
 
 use crate::files::{PARTS, TOP, answer};
 use std::alloc::{AllocError, Global};
 use std::process::Abort;
 use std::test::Fail;
 
-/// So many rows behind a text; a row's pieces have its number between them.
+/// Appends `count` rows to a text. A row's pieces have its number between them.
 fn with_rows(
     alloc: Global,
     begin: &str,
@@ -24,12 +24,12 @@ fn with_rows(
     Ok(text)
 }
 
-/// A thread of which the items of the script are to come.
+/// A thread. The items of its script follow.
 const SCRIPT: &str = "version = 1\ncores = 1\ndelay = 1
 context = [{name='a',core=0,budget=2,period=5}]
 thread = [{name='A',context='a',priority=5,script=[";
 
-/// Rows of which a file may have so many, and what one more is answered.
+/// Rows of a kind, the maximum of them in a file, and the result of one more.
 #[derive(Clone, Copy)]
 struct Rows {
     begin: &'static str,
@@ -124,23 +124,23 @@ static ROWS: [Rows; 10] = [
 /// A notification.
 const NOTES: &str = "version = 3\ncores = 1\ndelay = 1\n[[note]]\nname = 'n'\ncore = 0\n";
 
-/// A source of which the numbers of `at` are to come.
+/// A source. The numbers of `at` follow.
 const OFFSETS: &str = "version = 3\ncores = 1\ndelay = 1\nnote = [{name='n',core=0}]
 source = [{name='s',note='n',badge=1,period=5000,at=[";
 
-/// A source with three numbers in `at`; of each of the sources behind it `at` is absent, which counts one.
+/// A source with three numbers in `at`. Later sources have no `at`, which counts as one.
 const FULL_OFFSETS: &str = "version = 3\ncores = 1\ndelay = 1\nnote = [{name='n',core=0}]
 source = [{name='f',note='n',badge=1,period=5000,at=[0,1,2]},";
 
-/// A server of which the items are to come.
+/// A server. The items of its script follow.
 const SERVER: &str = "version = 3\ncores = 1\ndelay = 1
 context = [{name='a',core=0,budget=2,period=5}]
 server = [{name='v',core=0,priority=5,script=[";
 
-/// The end of the server, and a thread that calls it: two steps more.
+/// The end of the server, and a thread that calls it: two further steps.
 const CALL: &str = "]}]\nthread = [{name='A',context='a',priority=5,script=['call v 1']}]\n";
 
-/// A thread that calls a server, where each call becomes three steps.
+/// A thread that calls a server. Each call becomes three steps.
 const CALLER: &str = "version = 3\ncores = 1\ndelay = 1
 context = [{name='a',core=0,budget=2,period=5}]
 server = [{name='v',core=0,priority=5,script=['yield','on 2','yield']}]
@@ -182,7 +182,7 @@ fn most_rows(rt: HostRuntime) -> Result<(), Fail> {
     Ok(())
 }
 
-/// each thread has a context of its own
+/// each thread has its context
 #[test]
 fn most_threads(rt: HostRuntime) -> Result<(), Fail> {
     let begin = with_rows(rt.alloc(), TOP, CONTEXTS, 4_096)?;

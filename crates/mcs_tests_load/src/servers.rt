@@ -3,12 +3,13 @@
 use crate::files::are_answered;
 use std::test::Fail;
 
-/// The numbers at the top of a file of version 3, with a context on core 0, and notifications n (on core 0) and m (on core 1).
+/// The numbers at the top of a file of version 3, with a context on core 0, and notifications n (on
+/// core 0) and m (on core 1).
 const PARTS: &str = "version = 3\ncores = 2\ndelay = 1
 context = [{name='a',core=0,budget=2,period=5}]
 note = [{name='n',core=0},{name='m',core=1}]\n";
 
-/// The same, with servers v (on core 0) and w (on core 1), and a thread of which the items are to come.
+/// `PARTS`, with servers v (on core 0) and w (on core 1), and a thread. Its items follow.
 const SCRIPT: &str = "version = 3\ncores = 2\ndelay = 1
 context = [{name='a',core=0,budget=2,period=5}]
 note = [{name='n',core=0},{name='m',core=1}]
@@ -149,7 +150,7 @@ static OF_OLD_VERSIONS: [(&str, &str); 5] = [
     ),
 ];
 
-/// The word comes behind the core.
+/// The word comes after the core.
 #[test]
 fn faults_of_words(rt: HostRuntime) -> Result<(), Fail> {
     let alloc = rt.alloc();
@@ -157,21 +158,22 @@ fn faults_of_words(rt: HostRuntime) -> Result<(), Fail> {
     are_answered(&rt, alloc, (begin, "]\n"), OF_WORDS.as_slice())
 }
 
-/// A server's script has neither `on without wait` nor `wait is last`, and names earlier servers alone.
+/// A server's script has neither `on without wait` nor `wait is last`, and names earlier servers
+/// only.
 #[test]
 fn faults_of_servers(rt: HostRuntime) -> Result<(), Fail> {
     let alloc = rt.alloc();
     are_answered(&rt, alloc, (PARTS, ""), OF_SERVERS.as_slice())
 }
 
-/// The place is told by items, and not by the steps that calls become.
+/// A place counts items, not the steps that calls become.
 #[test]
 fn faults_of_new_items(rt: HostRuntime) -> Result<(), Fail> {
     let alloc = rt.alloc();
     are_answered(&rt, alloc, (SCRIPT, "]}]\n"), OF_ITEMS.as_slice())
 }
 
-/// Version 2 has nothing of it.
+/// Version 2 has no servers, sources, chains, first words or new items.
 #[test]
 fn version_2_has_none(rt: HostRuntime) -> Result<(), Fail> {
     let alloc = rt.alloc();

@@ -3,13 +3,13 @@
 use crate::files::are_answered;
 use std::test::Fail;
 
-/// A notification, and a source of which the keys behind its name are to come.
+/// A notification, and a source. The keys after its name follow.
 const SOURCE: &str = "version = 3\ncores = 1\ndelay = 1
 note = [{name='n',core=0}]\nserver = [{name='v',core=0,priority=9,script=['yield']}]
 source = [{name='s',";
 
-/// Threads A (that begins with a wait), B (that waits later) and C (that never waits), a source, and a chain of which the keys behind its
-/// name are to come.
+/// Threads A (which begins with a wait), B (which waits later) and C (which never waits), a source,
+/// and a chain. The keys after its name follow.
 const CHAIN: &str = "version = 3\ncores = 1\ndelay = 1
 context = [{name='a',core=0,budget=2,period=5},{name='b',core=0,budget=2,period=5},{name='c',core=0,budget=2,period=5}]
 note = [{name='n',core=0}]\nsource = [{name='s',note='n',badge=1,period=5}]

@@ -1,10 +1,10 @@
-//! A file with all of its keys, and want of memory, which has no place in a file.
+//! A file with all of its keys, and out of memory, which has no place in a file.
 
 use crate::files::answer;
 use mcs_load::{FaultKind, Key, LoadFault, Section, Spot, accepted_systems_are_well_formed};
 use std::test::Fail;
 
-/// a file with all of its keys but the defaults of the second context, thread and order
+/// a file with all of its keys, except the defaults of the second context, thread and order
 const WHOLE: &str = "version = 1\ncores = 2\ndelay = 7\ncall = 3\nmin_budget = 2
 note = [{name='n',core=1}]
 

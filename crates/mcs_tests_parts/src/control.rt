@@ -15,7 +15,7 @@ fn moment(rt: &impl Abort, t: u64) -> Tick
     Tick::new(t).expect(rt, "a moment of at most 2^40")
 }
 
-/// Charges ticks of the head, which are asserted to be there.
+/// Charges ticks of the head, after asserting that the head has them.
 fn charge(rt: &impl Abort, context: &mut Context, ticks: u64, min_budget: u64) {
     let amount = context.head_amount();
     let moment = context.head_moment();
@@ -28,7 +28,7 @@ fn assert_refills(rt: &impl Abort, view: &ContextView, refills: &[Refill]) {
     assert_eq!(rt; view.left, None);
 }
 
-/// The expected answers are the rule's: five tests in order, the first that fails decides.
+/// The expected results follow the rule: five tests in order, and the first that fails decides.
 #[test]
 fn the_first_fault_wins(rt: HostRuntime) {
     let answers = [
@@ -78,7 +78,7 @@ fn faults_say_what_is_wrong(rt: HostRuntime) -> Result<(), Fail> {
     Ok(())
 }
 
-/// A context of 10 ticks in 100, of which 7 are charged where a head has at least 4.
+/// A context of 10 ticks in 100; 7 are charged, and a head has at least 4.
 #[test]
 fn small_head_joins(rt: HostRuntime) -> Result<(), Fail> {
     let config = Config {
@@ -101,7 +101,8 @@ fn small_head_joins(rt: HostRuntime) -> Result<(), Fail> {
     Ok(())
 }
 
-/// A context of 4 ticks in 10 in bandwidth mode: its wake leaves it, and its choice at 3 moves its head there.
+/// A context of 4 ticks in 10 in bandwidth mode: a wake leaves it unchanged, and its choice at 3
+/// moves its head there.
 #[test]
 fn bandwidth_unblocks_when_chosen(rt: HostRuntime) -> Result<(), Fail> {
     let config = Config {

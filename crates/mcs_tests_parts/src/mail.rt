@@ -7,7 +7,7 @@ fn tick(rt: &impl Abort, ticks: u64) -> Tick {
     Tick::new(ticks).expect(rt, "a tick")
 }
 
-/// Puts mail, by its arrival, making, maker and badge. The badge tells it apart.
+/// Puts mail, given by its arrival, time of making, maker and badge. The badge identifies it.
 fn put_all(
     rt: &impl Abort,
     mailbox: &mut Mailbox,
@@ -28,7 +28,8 @@ fn put_all(
     Ok(())
 }
 
-/// What leaves by the given moment, in order: each mail once, with `next` as its arrival.
+/// Asserts which mail leaves by the given moment, in order: each mail once, with `next` as its
+/// arrival.
 fn leaves(rt: &impl Abort, mailbox: &mut Mailbox, latest: Tick, badges: &[u32]) {
     for badge in badges {
         let first = mailbox.next().expect(rt, "mail is left");
@@ -39,7 +40,7 @@ fn leaves(rt: &impl Abort, mailbox: &mut Mailbox, latest: Tick, badges: &[u32]) 
     assert_eq!(rt; mailbox.take_due(latest), None);
 }
 
-/// Arrival before making before maker, and equal ones in order of putting.
+/// Arrival before time of making before maker, and equal mail in the order in which it was put.
 #[test]
 fn mail_is_taken_in_order_of_delivery(rt: HostRuntime) -> Result<(), Fail> {
     let mut mailbox = Mailbox::new(rt.alloc());

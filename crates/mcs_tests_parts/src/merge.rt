@@ -6,7 +6,8 @@ use mcs_ticks::{CoreId, NoMemory, Row, ThreadId, Tick, What};
 use std::alloc::Global;
 use std::test::Fail;
 
-/// Rows of one core, of which each tells its moment and a number of its own. The moments may not fall.
+/// Returns rows of one core, each given by its moment and a number that identifies it. Fails if the
+/// moments fall.
 fn rows_of(alloc: Global, core: usize, rows: &[(u64, usize)]) -> Result<Vec<Row>, Fail>
     ensures { IfOk result (λ rows. DoNotFall rows.items) }
 {
@@ -29,7 +30,7 @@ fn rows_of(alloc: Global, core: usize, rows: &[(u64, usize)]) -> Result<Vec<Row>
     Ok(all)
 }
 
-/// The moment, core and number of each row.
+/// Returns the moment, core and number of each row.
 fn told(alloc: Global, rows: &[Row]) -> Result<Vec<(u64, usize, usize)>, NoMemory> {
     let mut all = Vec::new(alloc);
     for row in rows {

@@ -5,7 +5,7 @@ use mcs_ticks::{CoreId, NoMemory, Row, ThreadId, Tick, What};
 use std::alloc::Global;
 use std::test::Fail;
 
-/// Rows of one core, of which each tells its moment and a number of its own.
+/// Returns rows of one core, each given by its moment and a number that identifies it.
 fn part_of(alloc: Global, core: usize, rows: &[(u64, usize)]) -> Result<RowPart<Vec<Row>>, Fail> {
     let mut all = Vec::new(alloc);
     for (moment, number) in rows {
@@ -20,7 +20,7 @@ fn part_of(alloc: Global, core: usize, rows: &[(u64, usize)]) -> Result<RowPart<
     Ok(RowPart::new(all))
 }
 
-/// A merger of six cores, of which the fourth has no row.
+/// Returns a merger of six cores; the fourth has no row.
 fn six_cores(alloc: Global) -> Result<Merger<RowPart<Vec<Row>>>, Fail>
     ensures { IfOk result (λ merger. length merger ≡ 6) }
 {
@@ -35,7 +35,6 @@ fn six_cores(alloc: Global) -> Result<Merger<RowPart<Vec<Row>>>, Fail>
     Ok(Merger::new(alloc, Vec::from_array(alloc, parts)?)?)
 }
 
-/// Adds a part of a core.
 fn add_part(
     merger: &mut Merger<RowPart<Vec<Row>>>,
     core: usize,
@@ -50,7 +49,6 @@ fn add_part(
     }
 }
 
-/// Adds rows of a core.
 fn add(
     alloc: Global,
     merger: &mut Merger<RowPart<Vec<Row>>>,
@@ -64,7 +62,7 @@ fn add(
     add_part(merger, core, part)
 }
 
-/// The moment, core and number of each row that is given before a moment.
+/// Returns the moment, core and number of each row that is given before a moment.
 fn poured(
     alloc: Global,
     merger: &mut Merger<RowPart<Vec<Row>>>,
@@ -160,12 +158,13 @@ fn the_room_of_a_part_is_given_back(rt: HostRuntime) -> Result<(), Fail> {
     Ok(())
 }
 
-/// Whether a core has a row in this place of a list of moments.
+/// Whether a core has a row at this index of a list of moments.
 fn has_row(core: usize, place: u64) -> bool {
     place % 3 == core as u64 % 3
 }
 
-/// Rows of a core in the places from one to before another, which lie so many ticks apart.
+/// Returns the rows of a core at the indices `from` to before `to`; consecutive indices are `gap`
+/// ticks apart.
 fn part_between(
     alloc: Global,
     core: usize,
@@ -182,7 +181,7 @@ fn part_between(
     part_of(alloc, core, rows.as_slice())
 }
 
-/// A merger of six cores with rows in places up to 200.
+/// Returns a merger of six cores with rows at indices below 200.
 fn six_long_cores(alloc: Global, gap: u64) -> Result<Merger<RowPart<Vec<Row>>>, Fail>
     ensures { IfOk result (λ merger. length merger ≡ 6) }
 {
@@ -197,7 +196,7 @@ fn six_long_cores(alloc: Global, gap: u64) -> Result<Merger<RowPart<Vec<Row>>>, 
     Ok(Merger::new(alloc, Vec::from_array(alloc, parts)?)?)
 }
 
-/// Adds to each of six cores its rows in places from 200 to before 400.
+/// Adds to each of six cores its rows at indices from 200 to before 400.
 fn add_later(alloc: Global, merger: &mut Merger<RowPart<Vec<Row>>>, gap: u64) -> Result<(), Fail>
     requires { length merger.old ≡ 6 }
 {
@@ -209,7 +208,8 @@ fn add_later(alloc: Global, merger: &mut Merger<RowPart<Vec<Row>>>, gap: u64) ->
     add_part(merger, 5, part_between(alloc, 5, gap, 200, 400)?)
 }
 
-/// What is given of six cores whose rows lie so many ticks apart, in two calls and in parts of 200 places.
+/// Returns the rows of six cores, given in two calls and in parts of 200 indices, `gap` ticks
+/// apart.
 fn poured_in_two(alloc: Global, gap: u64) -> Result<Vec<(u64, usize, usize)>, Fail> {
     let mut merger = six_long_cores(alloc, gap)?;
     let mut rows = poured(alloc, &mut merger, gap.saturating_mul(150))?;
@@ -220,7 +220,7 @@ fn poured_in_two(alloc: Global, gap: u64) -> Result<Vec<(u64, usize, usize)>, Fa
     Ok(rows)
 }
 
-/// The same rows, moment by moment and core by core.
+/// Returns these rows moment by moment and core by core.
 fn in_order(alloc: Global, gap: u64) -> Result<Vec<(u64, usize, usize)>, Fail> {
     let mut rows = Vec::new(alloc);
     for place in 0..400 {

@@ -2,8 +2,8 @@ use mcs_notify::{Notes, Posted, Waited};
 use mcs_ticks::{NoteId, Queued, ThreadId};
 use std::test::Fail;
 
-/// Of the waiters the one of greatest priority is woken, and of two equal ones the longest waiting, not the latest. With none left
-/// the word is held, and the next to wait takes it.
+/// The waiter of maximum priority is woken; of two equal ones the longest waiting, not the latest.
+/// Once no waiter is left, the word is held, and the next to wait takes it.
 #[test]
 fn the_best_waiter_is_woken(rt: HostRuntime) -> Result<(), Fail> {
     let note = NoteId(0);
@@ -21,7 +21,8 @@ fn the_best_waiter_is_woken(rt: HostRuntime) -> Result<(), Fail> {
     Ok(())
 }
 
-/// The waiters of each notification in order of beginning to wait, whatever their priorities; a woken one has left.
+/// The waiters of each notification are in order of beginning to wait, for any priorities; a woken
+/// one has left.
 #[test]
 fn waiters_are_in_order_of_beginning_to_wait(rt: HostRuntime) -> Result<(), Fail> {
     let mut notes = Notes::new(rt.alloc(), 2, 4)?;

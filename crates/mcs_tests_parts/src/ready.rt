@@ -5,7 +5,7 @@ use mcs_ticks::{Queued, ThreadId};
 use std::process::Abort;
 use std::test::Fail;
 
-/// A call on a ready queue, with its arguments or with the answer that is wanted.
+/// A call on a ready queue, with its arguments or with its expected result.
 #[derive(Clone, Copy)]
 enum Step {
     Back(usize, u8),
@@ -18,7 +18,8 @@ use Step::{Back, Best, Front, Take};
 
 const ROOM: usize = 6;
 
-/// What is taken is that of the theorem of the same name in proofs/Worked.antt of mcs_ready, where the definition is evaluated.
+/// The expected results are those of the theorem of this name in proofs/Worked.antt of mcs_ready,
+/// which evaluates the definition.
 const SIX_THREADS: [Step; 17] = [
     Back(0, 3),
     Back(1, 7),
@@ -83,7 +84,8 @@ fn six_threads(rt: HostRuntime) -> Result<(), Fail> {
     Ok(())
 }
 
-/// The greatest priority first, and within one in order of entering, but for one that entered at the front.
+/// The highest priority comes first, and within a priority the order of entering, except for a
+/// thread that entered at the front.
 #[test]
 fn a_list_of_threads_is_by_priority(rt: HostRuntime) -> Result<(), Fail> {
     let mut ready = Ready::new(rt.alloc(), ROOM)?;

@@ -5,7 +5,7 @@ use mcs_ticks::Tick;
 use std::process::Abort;
 use std::test::Fail;
 
-/// A call on a list of refills, with its arguments in their order.
+/// A call on a list of refills, with its arguments in order.
 #[derive(Clone, Copy)]
 enum Call {
     Charge(u64, u64),
@@ -19,7 +19,8 @@ const ROOM: usize = 4;
 
 const LATEST: u64 = 1 << 40;
 
-/// What is left is that of the theorem `reconfigure_to_fewer_refills` in proofs/Sequences.antt of mcs_refills, where the definitions are evaluated.
+/// The expected refills are those of the theorem `reconfigure_to_fewer_refills` in
+/// proofs/Sequences.antt of mcs_refills, which evaluates the definitions.
 const CALLS: [Call; 7] = [
     Charge(2, 1),
     Unblock(20),
@@ -32,7 +33,7 @@ const CALLS: [Call; 7] = [
 
 const LEFT: [(u64, u64); 2] = [(51, 3), (144, 7)];
 
-/// The moment, of at most 2^40.
+/// Returns the moment, after asserting that it is at most 2^40.
 fn moment(rt: &impl Abort, t: u64) -> Tick
     ensures value { result ≡ t }
     ensures early { result ≤ 2 ^ 40 }
@@ -41,7 +42,7 @@ fn moment(rt: &impl Abort, t: u64) -> Tick
     Tick::new(t).expect(rt, "a moment of at most 2^40")
 }
 
-/// Makes the call, whose conditions are asserted.
+/// Makes the call, after asserting its conditions.
 fn make(rt: &impl Abort, refills: &mut Refills, call: Call)
     requires { refills.old.room ≡ ROOM }
     ensures { refills.new.room ≡ ROOM }

@@ -2,7 +2,8 @@ use mcs_release::{Dated, Releases};
 use mcs_ticks::{ThreadId, Tick};
 use std::test::Fail;
 
-/// The least date first, of two equal ones the one that entered first, and none before its date.
+/// The earliest date leaves first, of two equal ones the thread that entered first, and no thread
+/// leaves before its date.
 #[test]
 fn threads_leave_by_date_then_in_order_of_entering(rt: HostRuntime) -> Result<(), Fail> {
     let four = Tick::new(4).ok_or("a tick")?;
@@ -22,7 +23,7 @@ fn threads_leave_by_date_then_in_order_of_entering(rt: HostRuntime) -> Result<()
     Ok(())
 }
 
-/// The list has those that are still held, in the order in which they entered, whatever their dates.
+/// The list has the threads that are still held, in the order in which they entered, for any dates.
 #[test]
 fn a_list_of_threads_is_in_order_of_entering(rt: HostRuntime) -> Result<(), Fail> {
     let four = Tick::new(4).ok_or("a tick")?;

@@ -23,7 +23,7 @@ fn items_as_they_are_written(rt: HostRuntime) {
     }
 }
 
-/// Each fault alone, and each beside a later one.
+/// Each fault alone, and each combined with a later one.
 #[test]
 fn the_first_fault_of_an_item(rt: HostRuntime) {
     let rows = [
@@ -65,7 +65,7 @@ fn the_first_fault_of_an_item(rt: HostRuntime) {
     }
 }
 
-/// The words of version 3 are read with it alone, and the older ones with both.
+/// The words of version 3 are read only in version 3, and the older ones in both.
 #[test]
 fn items_of_version_3(rt: HostRuntime) {
     let rows = [
@@ -94,7 +94,7 @@ fn items_of_version_3(rt: HostRuntime) {
     }
 }
 
-/// Each fault of an item of version 3 alone, and each beside a later one.
+/// Each fault of an item of version 3 alone, and each combined with a later one.
 #[test]
 fn the_first_fault_of_an_item_of_version_3(rt: HostRuntime) {
     let rows = [

@@ -1,4 +1,4 @@
-//! Tallies of single cores, which are told rows of both cores and count their own.
+//! Tallies of single cores. They are given rows of both cores and count their own.
 use mcs_load::load;
 use mcs_report::{CoreReport, CoreTally, Places, Reports, Tally, ThreadReport};
 use mcs_system::System;
@@ -43,8 +43,8 @@ fn round(thread: usize, response: u64) -> What {
     }
 }
 
-/// B runs to the end. A runs for two ticks and then waits until moment 5. C runs from then on, and its round takes longer than
-/// its deadline. There is no thread 7.
+/// B runs to the end. A runs for two ticks and then waits until time 5. C runs from then on, and
+/// its job takes longer than its deadline. There is no thread 7.
 fn rows(alloc: Global) -> Result<Vec<Row>, Fail> {
     let stop = What::Stop {
         thread: ThreadId(0),
@@ -63,7 +63,8 @@ fn rows(alloc: Global) -> Result<Vec<Row>, Fail> {
     Ok(rows)
 }
 
-/// The reports up to moment 6, of which each core counts its own part. The first tally is told the rows twice, and cleared between.
+/// Returns the reports up to time 6. Each core counts its own part. The first tally is given the
+/// rows twice, and cleared in between.
 fn counted_apart(alloc: Global, system: Arc<System>) -> Result<Reports, Fail> {
     let horizon = tick(6)?;
     let room = Tally::new(alloc, &system, horizon)?;

@@ -1,3 +1,4 @@
+//! Reports at the limits of deadlines and sums.
 use mcs_load::load;
 use mcs_report::{CoreReport, Reports, Tally, ThreadReport};
 use mcs_system::System;
@@ -26,7 +27,7 @@ fn tick(ticks: u64) -> Result<Tick, Fail> {
     Ok(Tick::new(ticks).ok_or("a tick")?)
 }
 
-/// The reports of the ends of rounds alone, which have these responses, up to moment 2.
+/// Returns the reports up to time 2 for ends of jobs with these response times.
 fn reports(alloc: Global, system: &System, responses: &[u64]) -> Result<Reports, Fail> {
     let mut tally = Tally::new(alloc, system, tick(2)?)?;
     for response in responses {
@@ -62,7 +63,8 @@ fn is_reported(rt: &impl Abort, alloc: Global, text: &str, late: u64) -> Result<
     Ok(())
 }
 
-/// A response at the deadline is in time, without a deadline none is late, and sums stop at the greatest number.
+/// A response at the deadline is in time, no response is late without a deadline, and sums stop at
+/// the maximum.
 #[test]
 fn deadlines_and_sums_at_their_limits(rt: HostRuntime) -> Result<(), Fail> {
     is_reported(&rt, rt.alloc(), WITH_A_DEADLINE, 1)?;

@@ -1,4 +1,4 @@
-//! Delays of pairs of cores, which a link gives, and how many links a pair may have.
+//! Delays of pairs of cores with links, and the number of links that a pair may have.
 
 use crate::sample::link;
 use mcs_system::{Link, System, SystemParts};
@@ -7,7 +7,7 @@ use std::alloc::Global;
 use std::process::Abort;
 use std::test::Fail;
 
-/// A system with no threads, whose signals are under way for 5 ticks but for the links.
+/// Returns a system without threads; its signals take 5 ticks, except over the links.
 fn parts(alloc: Global, cores: usize, links: Vec<Link>) -> SystemParts {
     SystemParts {
         cores,
@@ -34,7 +34,7 @@ fn system(alloc: Global, cores: usize, links: Vec<Link>) -> Result<System, Fail>
     Ok(System::new(parts))
 }
 
-/// A link from each core to each other one.
+/// Returns a link from each core to each other one.
 fn all_links(alloc: Global, cores: usize, delay: u64) -> Result<Vec<Link>, Fail> {
     let mut links = Vec::new(alloc);
     for maker in 0..cores {
@@ -47,7 +47,7 @@ fn all_links(alloc: Global, cores: usize, delay: u64) -> Result<Vec<Link>, Fail>
     Ok(links)
 }
 
-/// The first three entries of a row.
+/// Returns the first three entries of a row.
 fn of_three(row: [u64; 64]) -> [u64; 3] {
     [row[0], row[1], row[2]]
 }
@@ -64,7 +64,7 @@ fn a_link_goes_one_way(rt: HostRuntime) -> Result<(), Fail> {
     Ok(())
 }
 
-/// The delay of the system counts only where a pair has no link.
+/// The delay of the system counts only for a pair without a link.
 #[test]
 fn the_least_delay(rt: HostRuntime) -> Result<(), Fail> {
     let alloc = rt.alloc();
@@ -85,7 +85,7 @@ fn the_least_delay(rt: HostRuntime) -> Result<(), Fail> {
     Ok(())
 }
 
-/// Each pair of 64 cores may have a link, and no pair a second one, wherever it stands.
+/// Each pair of 64 cores may have a link, but no pair may have a second one, at any place.
 #[test]
 fn each_pair_has_one_link(rt: HostRuntime) -> Result<(), Fail> {
     let alloc = rt.alloc();

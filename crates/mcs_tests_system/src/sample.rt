@@ -1,4 +1,4 @@
-//! The parts of a system of two cores, of which a test changes one.
+//! The parts of a system of two cores; a test changes one of them.
 
 use mcs_control::{Config, Mode, Order};
 use mcs_script::{Item, Script};
@@ -200,7 +200,8 @@ fn sources(alloc: Global, sample: Sample) -> Result<Vec<SourcePart>, Fail> {
     Ok(vec![in alloc; first, second]?)
 }
 
-/// Two dates in each period of the first source, of which the later may change, and one of the second.
+/// Returns two dates in each period of the first source, and one of the second. The later of the
+/// two may be changed.
 fn beats(alloc: Global, sample: Sample) -> Result<Vec<Beat>, Fail> {
     let first = Beat {
         source: SourceId(0),
@@ -241,7 +242,6 @@ fn chains(alloc: Global, sample: Sample) -> Result<Vec<ChainPart>, Fail> {
     Ok(vec![in alloc; first, second]?)
 }
 
-/// A link that takes so many ticks.
 pub(crate) fn link(maker: usize, home: usize, delay: u64) -> Link {
     Link {
         maker: CoreId(maker),
@@ -278,7 +278,7 @@ fn parts(alloc: Global, sample: Sample) -> Result<SystemParts, Fail> {
     })
 }
 
-/// One part of the sample is another.
+/// A change of one part of the sample.
 #[derive(Clone, Copy)]
 pub(crate) enum Change {
     Cores(usize),
@@ -384,7 +384,7 @@ fn apply(change: Change, sample: &mut Sample) {
     }
 }
 
-/// The parts of the sample, with this change.
+/// Returns the parts of the sample, with this change.
 pub(crate) fn changed(alloc: Global, change: Change) -> Result<SystemParts, Fail> {
     let mut sample = SAMPLE;
     apply(change, &mut sample);

@@ -56,7 +56,7 @@ fn limits_are_accepted(rt: HostRuntime) -> Result<(), Fail> {
     all_are(&rt, rt.alloc(), true, &changes)
 }
 
-/// One number past its limit, and nothing else.
+/// One number past its limit, all others unchanged.
 #[test]
 fn one_past_a_limit_is_refused(rt: HostRuntime) -> Result<(), Fail> {
     let changes = [
@@ -88,10 +88,15 @@ fn one_past_a_limit_is_refused(rt: HostRuntime) -> Result<(), Fail> {
     all_are(&rt, rt.alloc(), false, &changes)
 }
 
-/// One part that does not fit the others: a core, a context, a notification, a source or a thread that is not there, a configuration that is
-/// refused, a context that two threads have, a wait away from home, an order that changes the kind, a name that another one has, a link from a
-/// core to itself, a second link of two cores, a server that is not free at first, a signal to a server, a call of a notification, dates of a
-/// source that do not rise within one period.
+/// One part that does not fit the others:
+///
+/// - a core, a context, a notification, a source or a thread that does not exist;
+/// - a configuration that is refused, or an order that changes the kind;
+/// - a context of two threads, or a name of two things;
+/// - a wait on another core;
+/// - a link from a core to itself, or a second link between two cores;
+/// - a server that is not free at first, a signal to a server, or a call of a notification;
+/// - dates of a source that do not rise within a period.
 #[test]
 fn parts_that_do_not_fit_are_refused(rt: HostRuntime) -> Result<(), Fail> {
     let changes = [

@@ -1,4 +1,4 @@
-//! Rows that cores tell to lists of their own, which are given to a sink by moments.
+//! Rows in a list for each core, which are given to a sink by moments.
 
 use super::sinks::comparing;
 use super::systems::{DEPLETES, IDLE, RING, SIGNALS, TWO_MAKERS, moment, system};

@@ -7,7 +7,8 @@ use mcs_window::{Desk, Done};
 use std::process::Abort;
 use std::test::Fail;
 
-/// Whether a core is lent, from one moment to before another. Its stretch is run at once, and kept until it comes back.
+/// Whether a core is lent, from one moment to before another. Its stretch is run at once, and kept
+/// until it comes back.
 fn lends(
     desk: &mut Desk,
     away: &mut Vec<Done>,
@@ -47,7 +48,7 @@ fn comes_back(desk: &mut Desk, away: &mut Vec<Done>) -> bool
     }
 }
 
-/// Signals are under way for 3 from either of two cores to the other one.
+/// Signals are under way for 3 between the two cores, both ways.
 #[test]
 fn the_second_core_is_lent_first(rt: HostRuntime) -> Result<(), Fail> {
     let alloc = rt.alloc();

@@ -1,4 +1,5 @@
-//! Desks whose cores tell to other collectors from some moment on, and what these hold when the desk is given up.
+//! Desks whose cores use other collectors from some moment on, and the contents of these when the
+//! desk is given up.
 ghost use Rattle.std.specs.Prelude.{◌≡◌, IfOk};
 
 use super::systems::{SIGNALS, moment, system};
@@ -8,7 +9,7 @@ use std::alloc::Global;
 use std::process::Abort;
 use std::test::Fail;
 
-/// A desk of two cores, which tell on to lists that begin with the rows that lie on it.
+/// Returns a desk of two cores with other lists, which begin with the rows on the desk.
 fn told_on(alloc: Global, desk: Desk) -> Result<Desk, Fail>
     requires { desk.system.cores ≡ 2 }
     ensures { IfOk result (λ on. on.system ≡ desk.system) }
@@ -25,7 +26,7 @@ fn told_on(alloc: Global, desk: Desk) -> Result<Desk, Fail>
     Ok(desk.retold(taken, told))
 }
 
-/// A desk of two cores, of which nothing is kept from now on.
+/// Returns a desk of two cores that keeps no rows from now on.
 pub(crate) fn told_to_none(alloc: Global, desk: Desk) -> Result<Desk<Nothing>, Fail>
     requires { desk.system.cores ≡ 2 }
     ensures { IfOk result (λ on. on.system ≡ desk.system) }
@@ -37,7 +38,7 @@ pub(crate) fn told_to_none(alloc: Global, desk: Desk) -> Result<Desk<Nothing>, F
     Ok(desk.retold(taken, told))
 }
 
-/// Takes turns until so much lies on a desk.
+/// Takes turns until a desk holds `enough`.
 fn go<S: Collector + Drop>(desk: Desk<S>, enough: usize) -> Result<Desk<S>, Fail>
     ensures { IfOk result (λ gone. gone.system ≡ desk.system) }
 {
@@ -49,7 +50,7 @@ fn go<S: Collector + Drop>(desk: Desk<S>, enough: usize) -> Result<Desk<S>, Fail
     Ok(desk)
 }
 
-/// The moments of rows.
+/// Checks the moments of rows.
 pub(crate) fn are_at(rt: &impl Abort, rows: &[Row], moments: &[u64]) {
     assert_eq!(rt; rows.len(), moments.len());
     for (row, moment) in rows.iter().zip(moments) {
@@ -57,7 +58,7 @@ pub(crate) fn are_at(rt: &impl Abort, rows: &[Row], moments: &[u64]) {
     }
 }
 
-/// Two signals are under way when the cores begin to tell to other lists.
+/// Two signals are under way when the cores change to other lists.
 #[test]
 fn cores_tell_on(rt: HostRuntime) -> Result<(), Fail> {
     let alloc = rt.alloc();

@@ -1,4 +1,4 @@
-//! Views of the contexts of cores that stand at different moments.
+//! Views of the contexts of cores with different clocks.
 ghost use Rattle.std.specs.Prelude.{◌≡◌, ◌<◌};
 
 use super::orders::step;
@@ -25,7 +25,7 @@ thread = [
 ]
 "#;
 
-/// So many steps of a core, none of which is refused.
+/// Takes this many steps of a core; each must succeed.
 fn steps(cores: &mut Cores, core: usize, many: usize) -> Result<(), Fail>
     requires { core < cores.old.system.cores }
     ensures { cores.new.system ≡ cores.old.system }
@@ -36,7 +36,7 @@ fn steps(cores: &mut Cores, core: usize, many: usize) -> Result<(), Fail>
     Ok(())
 }
 
-/// A sporadic context's one refill: when it begins, and of how many ticks it is; and the ticks in use.
+/// Checks a sporadic context's one refill, by its start and ticks, and the ticks in use.
 fn shows_refill(rt: &impl Abort, view: &ContextView, refill: (u64, u64), using: u64) {
     let refills = view.refills.as_slice();
     assert_eq!(rt; refills.len(), 1);
@@ -44,14 +44,14 @@ fn shows_refill(rt: &impl Abort, view: &ContextView, refill: (u64, u64), using: 
     assert_eq!(rt; (view.left, view.using), (None, using));
 }
 
-/// What is left of a round robin context's slice, and the ticks in use.
+/// Checks what is left of a round robin context's slice, and the ticks in use.
 fn shows_slice(rt: &impl Abort, view: &ContextView, left: u64, using: u64) {
     assert!(rt; view.refills.as_slice().is_empty());
     assert_eq!(rt; (view.left, view.using), (Some(left), using));
 }
 
-/// What the contexts show: of the first one always the refill at 5, of the second one its refill and its ticks in use, of the third one
-/// what is left of its slice and its ticks in use.
+/// Checks the three contexts: the first always has the refill at 5, the second its refill and ticks
+/// in use, the third the rest of its slice and its ticks in use.
 fn shows(
     rt: &impl Abort,
     alloc: Global,
@@ -81,11 +81,13 @@ fn each_core_shows_its_contexts_at_its_clock(rt: HostRuntime) -> Result<(), Fail
 fn show_their_contexts(rt: &impl Abort, alloc: Global, cores: &mut Cores) -> Result<(), Fail>
     requires { cores.old.system.cores ≡ 2 }
 {
-    // core 0 has taken moments 0 and 1: B has run one tick. Core 1 has taken 0 to 3: A used up 2 ticks, and C has run one.
+    // core 0 has taken 0 and 1: B has run one tick. Core 1 has taken 0 to 3: A used up 2 ticks, and
+    // C has run one.
     steps(cores, 0, 2)?;
     steps(cores, 1, 4)?;
     shows(rt, alloc, cores, (0, 3), 1, (4, 1))?;
-    // core 0 has taken 0 to 3: B used up 3 ticks. Core 1 has taken 0 to 5: A came back and C was charged 3 ticks.
+    // core 0 has taken 0 to 3: B used up 3 ticks. Core 1 has taken 0 to 5: A came back and C was
+    // charged 3 ticks.
     steps(cores, 0, 2)?;
     steps(cores, 1, 2)?;
     shows(rt, alloc, cores, (10, 3), 0, (1, 0))

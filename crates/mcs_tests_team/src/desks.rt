@@ -1,4 +1,4 @@
-//! Which cores a desk lends, and with what. Each test is a list of steps, with how each of them goes.
+//! Cores that a desk lends, and with what. Each test is a list of steps with their results.
 
 use super::lending::{Step, desk, differs, differs_alone};
 use super::systems::{ONE_TICK, RING, RING_OF_LINKS, TWO_MAKERS};
@@ -26,7 +26,8 @@ fn a_core_is_lent_while_another_one_is_away(rt: HostRuntime) -> Result<(), Fail>
     Ok(())
 }
 
-/// From 0 to before 2 no core makes a signal. All three are away when the first two signals come, which arrive at 4.
+/// No core makes a signal from 0 to before 2. All three are away when the first two signals are
+/// made, which arrive at 4.
 static BY_THE_DESK: [Step; 18] = [
     Step::Lends(0, 0, 2),
     Step::Lends(1, 0, 2),
@@ -73,7 +74,7 @@ fn mail_comes_by_way_of_the_desk(rt: HostRuntime) -> Result<(), Fail> {
     Ok(())
 }
 
-/// Both cores are lent up to the horizon: the least delay is longer.
+/// Both cores are lent up to the horizon: the minimum delay is longer.
 static ONE_THREAD: [Step; 5] = [
     Step::Lends(0, 0, 2),
     Step::Lends(1, 0, 2),

@@ -1,4 +1,4 @@
-//! Desks whose cores are all back, or were never lent, and that are finished by one thread.
+//! Desks with all cores back, or never lent, that are finished by one thread.
 ghost use Rattle.std.specs.Prelude.{◌≡◌, ◌<◌};
 
 use super::lending::{Step, desk, differs, lends_none};
@@ -10,12 +10,12 @@ use std::alloc::Global;
 use std::process::Abort;
 use std::test::Fail;
 
-/// Which of what a desk says of itself is so: that all its cores are here, that it is finished, that a piece was lost.
+/// Whether all cores are on the desk, it is finished, and a piece was lost.
 fn says(desk: &Desk) -> (bool, bool, bool) {
     (desk.all_are_here(), desk.finished(), desk.lost())
 }
 
-/// How many rows a core has made.
+/// The number of rows that a core has made.
 fn rows_of(desk: &mut Desk, core: usize) -> usize
     requires { core < desk.old.system.cores }
     ensures { desk.new.system ≡ desk.old.system }
@@ -68,7 +68,8 @@ fn has_made(desk: &mut Desk, core: usize, schedule: &[Row]) -> bool
     are_of(rows.as_slice(), CoreId(core), schedule)
 }
 
-/// All three cores are lent before any comes back, and they come back in this order. Then the desk takes the turns that are left.
+/// All three cores are lent before any comes back, and they come back in this order. Then the desk
+/// takes the turns that are left.
 fn makes(rt: &impl Abort, alloc: Global, order: [usize; 3], schedule: &[Row]) -> Result<(), Fail> {
     let mut desk = desk(alloc, ONE_ROUND, 4)?;
     all_come_back(rt, alloc, &mut desk, order)?;

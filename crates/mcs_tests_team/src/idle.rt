@@ -32,7 +32,8 @@ fn one_tick_rows() -> [(u64, usize, What); 4] {
     ]
 }
 
-/// A thread waits on core 0 from moment 1 on, and the other one, on core 1, starts 10^9 ticks later and signals it.
+/// A thread waits on core 0 from 1 on; the other one, on core 1, starts 10^9 ticks later and
+/// signals it.
 const FAR_APART: &str = r#"
 version = 1
 cores = 2
@@ -212,7 +213,7 @@ fn go_to_busy_moments(rt: &impl Abort, cores: &mut Cores) -> Result<(), Fail>
     // the first thread is released at once
     assert_eq!(rt; cores.skip_idle()?.get(), 0);
     assert_eq!(rt; step(cores, 0), Ok(()));
-    // its wait begins at moment 1: core 0 is there, and core 1 goes there
+    // its wait begins at 1: core 0 is there, and core 1 moves there
     assert_eq!(rt; cores.skip_idle()?.get(), 1);
     assert_eq!(rt; clocks(cores), (1, 1));
     assert_eq!(rt; step(cores, 0), Ok(()));

@@ -1,4 +1,4 @@
-//! Steps of a desk, from which cores are lent and to which they come back, and how each of them goes.
+//! Steps of a desk that lends cores and takes them back, with their results.
 ghost use Rattle.std.specs.Prelude.{◌≡◌, OnOk};
 
 use super::systems::{moment, system};
@@ -7,7 +7,8 @@ use mcs_window::{Desk, Done, Lost, SettleFault};
 use std::alloc::Global;
 use std::test::Fail;
 
-/// A step of a desk, and how it goes. A stretch that is lent is run at once, and kept until it comes back.
+/// A step of a desk, and its result. A stretch that is lent is run at once, and kept until it comes
+/// back.
 #[derive(Clone, Copy)]
 pub(crate) enum Step {
     /// A core is lent, from one moment to before another.
@@ -16,20 +17,21 @@ pub(crate) enum Step {
     LendsNone,
     /// The stretch of a core was lent by these clocks of the first three cores.
     Front(usize, [u64; 3]),
-    /// The stretch of a core made so many signals for other cores, and so many arrived at it.
+    /// The numbers of signals for other cores that the stretch of a core made, and that arrived at
+    /// it.
     Mail(usize, usize, usize),
-    /// The stretch of a core is that of a thread's first round, which took this long and ended at this moment, and the core stands
-    /// before the moment that comes next.
+    /// A core's stretch is that of a thread's first round, with this response time and end. The
+    /// core's clock is the next moment.
     Round(usize, u64, u64),
-    /// The stretch of a core comes back.
+    /// A core's stretch comes back.
     Settles(usize),
-    /// The stretch of a core is refused, and is gone.
+    /// A core's stretch is refused, and is gone.
     Refuses(usize, SettleFault),
-    /// The stretch of a core is given up, and is gone.
+    /// A core's stretch is given up, and is gone.
     Forfeits(usize),
 }
 
-/// A desk of a system, up to a horizon.
+/// Returns a desk of a system, up to a horizon.
 pub(crate) fn desk(alloc: Global, text: &str, horizon: u64) -> Result<Desk, Fail> {
     let system = system(alloc, text)?;
     Ok(Desk::new(alloc, system, moment(horizon)?)?)
@@ -63,7 +65,7 @@ pub(crate) fn lends_none(desk: &mut Desk) -> bool
     desk.lend().is_none()
 }
 
-/// How many arrivals the rows tell.
+/// The number of arrivals in the rows.
 fn arrivals(rows: &[Row]) -> usize {
     let mut many = 0usize;
     for row in rows {
@@ -90,7 +92,7 @@ fn taken_out(away: &mut Vec<Done>, core: usize) -> Option<Done> {
     Some(away.remove(at))
 }
 
-/// Why the stretch of a core is refused, or None where it comes back.
+/// Why a core's stretch is refused; `None` if it comes back.
 fn refusal(desk: &mut Desk, done: Done) -> Option<SettleFault>
     ensures { desk.new.system ≡ desk.old.system }
 {
@@ -100,7 +102,7 @@ fn refusal(desk: &mut Desk, done: Done) -> Option<SettleFault>
     }
 }
 
-/// Whether the stretch of a core comes back so.
+/// Whether a core's stretch comes back with this result.
 pub(crate) fn settles(
     desk: &mut Desk,
     away: &mut Vec<Done>,
@@ -150,7 +152,7 @@ fn is_by(done: Option<&Done>, front: [u64; 3]) -> bool {
     }
 }
 
-/// Whether a stretch made so many signals, and so many arrived at it.
+/// Whether a stretch made `out` signals, and `arrived` signals arrived at it.
 fn has_mail(done: Option<&Done>, out: usize, arrived: usize) -> bool {
     match done {
         Some(done) => done.out.len() == out && arrivals(done.rows.as_slice()) == arrived,
@@ -158,7 +160,7 @@ fn has_mail(done: Option<&Done>, out: usize, arrived: usize) -> bool {
     }
 }
 
-/// Whether a row tells that a thread's first round, which took this long, ended at this moment.
+/// Whether a row is the end of a thread's first round, with this response time, at this moment.
 fn ends_round(row: &Row, took: u64, moment: u64) -> bool {
     match row.what {
         What::Round {
@@ -170,8 +172,8 @@ fn ends_round(row: &Row, took: u64, moment: u64) -> bool {
     }
 }
 
-/// Whether a stretch has four rows, the third of which tells the end of a thread's first round, with the clock one moment later, and no
-/// mail.
+/// Whether a stretch has four rows, with the end of a thread's first round as the third, the clock
+/// one moment later, and no mail.
 fn is_round(done: Option<&Done>, took: u64, moment: u64) -> bool {
     match done {
         Some(done) => {
@@ -184,7 +186,7 @@ fn is_round(done: Option<&Done>, took: u64, moment: u64) -> bool {
     }
 }
 
-/// Whether a step goes as it is to go.
+/// Whether a step has its expected result.
 fn goes(desk: &mut Desk, away: &mut Vec<Done>, step: Step) -> Result<bool, Fail>
     ensures { OnOk result (desk.new.system ≡ desk.old.system) }
 {
@@ -202,7 +204,7 @@ fn goes(desk: &mut Desk, away: &mut Vec<Done>, step: Step) -> Result<bool, Fail>
     }
 }
 
-/// The first step, from 0, that goes otherwise.
+/// The first step, counted from 0, with another result.
 pub(crate) fn differs(
     desk: &mut Desk,
     away: &mut Vec<Done>,
@@ -216,7 +218,7 @@ pub(crate) fn differs(
     Ok(None)
 }
 
-/// The first step, from 0, of a fresh desk that goes otherwise.
+/// The first step of a new desk, counted from 0, with another result.
 pub(crate) fn differs_afresh(
     alloc: Global,
     text: &str,
@@ -228,7 +230,7 @@ pub(crate) fn differs_afresh(
     differs(&mut desk, away, steps)
 }
 
-/// The same, where none is away at first.
+/// The first step of a new desk with another result, if no stretch is away at first.
 pub(crate) fn differs_alone(
     alloc: Global,
     text: &str,

@@ -1,4 +1,4 @@
-//! Tests of `mcs_team`, over its public items: what the systems of `mcs_corpus`, which whole runs show, can't show of it.
+//! Tests of the public items of `mcs_team`, beyond what the whole runs of `mcs_corpus` show.
 #![tactic(auto)]
 
 #[cfg(test)]

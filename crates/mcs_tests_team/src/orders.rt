@@ -1,4 +1,4 @@
-//! Cores that go ahead of one another, as far as they may.
+//! Cores that run ahead of one another, as far as they may.
 ghost use Rattle.std.specs.Prelude.{◌≡◌, ◌<◌, ◌≤◌, ◌^◌, All, IfOk};
 ghost use Rattle.mcs_merge.specs.Merge.{DoNotFall};
 
@@ -13,7 +13,7 @@ use std::process::Abort;
 use std::sync::Arc;
 use std::test::Fail;
 
-/// One step of a core.
+/// Takes one step of a core.
 pub(crate) fn step(cores: &mut Cores, core: usize) -> Result<(), StepFault>
     requires { core < cores.old.system.cores }
     ensures { cores.new.system ≡ cores.old.system }
@@ -21,7 +21,7 @@ pub(crate) fn step(cores: &mut Cores, core: usize) -> Result<(), StepFault>
     cores.step(CoreId(core))
 }
 
-/// The rows of each core.
+/// Takes the rows of each core.
 fn taken(alloc: Global, cores: &mut Cores, many: usize) -> Result<Vec<Vec<Row>>, NoMemory>
     requires { many ≡ cores.old.system.cores }
     ensures { IfOk result (λ lists. All (λ rows. DoNotFall rows.items) lists.items) }
@@ -35,7 +35,8 @@ fn taken(alloc: Global, cores: &mut Cores, many: usize) -> Result<Vec<Vec<Row>>,
     Ok(lists)
 }
 
-/// Cores step as a generator of numbers names them. Answers how many steps were taken, or that there was no memory.
+/// Takes steps of cores in pseudo-random order. Returns the number of steps, or that memory ran
+/// out.
 fn step_at_random(cores: &mut Cores, many: usize, seed: usize) -> Result<usize, NoMemory>
     requires some { 1 ≤ many }
     requires many { many ≡ cores.old.system.cores }
@@ -55,7 +56,7 @@ fn step_at_random(cores: &mut Cores, many: usize, seed: usize) -> Result<usize, 
     Ok(steps)
 }
 
-/// The rows of all cores, merged, after steps up to the horizon.
+/// Returns the rows of all cores, merged, after steps up to the horizon.
 fn rows_of_steps(
     rt: &impl Abort,
     alloc: Global,

@@ -7,7 +7,8 @@ use std::alloc::Global;
 use std::process::Abort;
 use std::test::Fail;
 
-/// Whether the stretches that a desk has lent, by its steps, are those of another one, by the steps of that.
+/// The first steps with another result: of a desk that lends stretches, and of another desk that
+/// then gets them.
 fn differs_at_another(
     alloc: Global,
     from: (&str, u64, &[Step]),
@@ -68,7 +69,7 @@ fn a_stretch_of_another_length(rt: HostRuntime) -> Result<(), Fail> {
     Ok(())
 }
 
-/// Whether a desk refuses the stretch of a core that a fresh desk has away after steps, of which none goes otherwise.
+/// Whether a desk refuses the stretch of a core that a new desk has away after these steps.
 fn refuses(
     desk: &mut Desk,
     alloc: Global,
@@ -84,8 +85,9 @@ fn refuses(
     }
 }
 
-/// Core 1 is lent once core 0 is back, and at another desk while core 0 is away: its stretch is the same, but not the clocks. A third desk
-/// lends it by the same clocks, and gives a copy of what has come back.
+/// Core 1 is lent once core 0 is back, and at another desk while core 0 is away: its stretch is the
+/// same, but not the clocks. A third desk lends it by the same clocks, and gives a copy of the
+/// stretch that has come back.
 #[test]
 fn a_stretch_by_other_clocks(rt: HostRuntime) -> Result<(), Fail> {
     let alloc = rt.alloc();
@@ -113,7 +115,7 @@ fn comes_back_alone(
     let gone = SettleFault::NotLent;
     let again = refuses(desk, alloc, ONE_ROUND, lent.as_slice(), 1, gone)?;
     assert!(rt; again);
-    // core 0 is not lent, which is not what is told of a stretch of another system
+    // core 0 is not lent, but another system is reported first
     let foreign = SettleFault::Foreign;
     let strange = refuses(desk, alloc, RING, of_ring.as_slice(), 0, foreign)?;
     assert!(rt; strange);

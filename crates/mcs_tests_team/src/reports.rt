@@ -1,4 +1,4 @@
-//! Reports of simulations whose rows are not kept, by every number of threads.
+//! Reports of simulations whose rows are not kept, for different numbers of worker threads.
 
 use super::systems::{ONE_ROUND, SIGNALS, moment, system};
 use mcs_report::{CoreReport, Reports, ThreadReport};
@@ -6,7 +6,8 @@ use mcs_team::{Open, report};
 use std::process::Abort;
 use std::test::Fail;
 
-/// Of a thread that ran so long, and ended at most one round, at this response: 0 where it ended none.
+/// The report of a thread that ran for `ran` ticks and ended one round with this response time, or
+/// no round if it is 0.
 fn ran(ran: u64, response: u64) -> ThreadReport {
     ThreadReport {
         ran,
@@ -42,7 +43,7 @@ fn a_core_that_only_gets_signals_is_idle(rt: HostRuntime) -> Result<(), Fail> {
     Ok(())
 }
 
-/// The third thread waits from moment 1 to moment 4, at which it begins to run again.
+/// The third thread waits from 1 to 4, when it begins to run again.
 #[test]
 fn a_run_ends_at_the_horizon(rt: HostRuntime) -> Result<(), Fail> {
     let alloc = rt.alloc();

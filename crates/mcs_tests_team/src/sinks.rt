@@ -1,4 +1,4 @@
-//! Rows that go to a sink, by every number of threads.
+//! Rows that go to a sink, for different numbers of worker threads.
 
 use super::systems::{IDLE, RING, SIGNALS, TWO_MAKERS, moment, system};
 use mcs_team::{FlowFault, Open, Refused, Sink, simulate_alone, simulate_to};
@@ -6,7 +6,7 @@ use mcs_ticks::{CoreId, Row, ThreadId, Tick, What};
 use std::sync::Arc;
 use std::test::Fail;
 
-/// Compares so many rows with those that are expected, and refuses the next.
+/// Compares up to `most` rows with those that are expected, and refuses the next.
 #[derive(Drop)]
 pub(super) struct Compared<'a> {
     expected: &'a [Row],
@@ -28,12 +28,12 @@ impl Sink for Compared<'_> {
     }
 }
 
-/// Whether the row in this place is that one.
+/// Whether this row is expected at this place.
 fn is_at(expected: &[Row], place: usize, row: &Row) -> bool {
     place < expected.len() && expected[place] == *row
 }
 
-/// A sink that expects these rows, and refuses one that follows so many.
+/// Returns a sink that expects these rows, and refuses a row after `most`.
 pub(super) fn comparing(expected: &[Row], most: usize) -> Compared<'_> {
     Compared {
         expected,

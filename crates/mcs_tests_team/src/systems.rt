@@ -8,13 +8,13 @@ use std::alloc::Global;
 use std::sync::Arc;
 use std::test::Fail;
 
-/// The system that a text describes.
+/// Returns the system that a text describes.
 pub(crate) fn system(alloc: Global, text: &str) -> Result<Arc<System>, Fail> {
     let system = load(alloc, text.as_bytes())?;
     Ok(Arc::new(alloc, system)?)
 }
 
-/// A moment of a run.
+/// Returns a moment of a run.
 pub(crate) fn moment(ticks: u64) -> Result<Tick, Fail>
     ensures { IfOk result (λ moment. moment ≤ 2 ^ 40) }
 {
@@ -25,10 +25,10 @@ pub(crate) fn moment(ticks: u64) -> Result<Tick, Fail>
     Ok(moment)
 }
 
-/// Two cores on which nothing happens.
+/// Two cores without threads.
 pub const IDLE: &str = "version = 1\ncores = 2\ndelay = 1\n";
 
-/// One thread on the one core computes for longer than its budget.
+/// One thread on one core computes for longer than its budget.
 pub const DEPLETES: &str = r#"
 version = 1
 cores = 1
@@ -74,7 +74,7 @@ thread = [
 ]
 "#;
 
-/// The same, each of them once.
+/// Two cores signal a third one, each of them once.
 pub const ONE_ROUND: &str = r#"
 version = 1
 cores = 3
@@ -92,7 +92,7 @@ thread = [
 ]
 "#;
 
-/// Each of three cores signals the next one when the last one has signalled it, and the first one begins.
+/// Three cores in a ring: each signals the next one when it is signalled, and the first one begins.
 pub const RING: &str = r#"
 version = 1
 cores = 3
@@ -110,7 +110,7 @@ thread = [
 ]
 "#;
 
-/// The same, with signals under way for longer but between the first two cores.
+/// The ring with longer delays except between the first two cores.
 pub const RING_OF_LINKS: &str = r#"
 version = 2
 cores = 3
@@ -129,7 +129,7 @@ thread = [
 ]
 "#;
 
-/// Two cores signal each other again and again, and the signals are under way for long.
+/// Two cores signal each other again and again, with a long delay.
 pub const LONG_DELAY: &str = r#"
 version = 1
 cores = 2
@@ -145,7 +145,7 @@ thread = [
 ]
 "#;
 
-/// The same with a delay of a million.
+/// Two cores signal each other again and again, with a delay of a million.
 pub const FAR_APART: &str = r#"
 version = 1
 cores = 2

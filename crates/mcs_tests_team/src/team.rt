@@ -32,7 +32,8 @@ fn teams_of_all_sizes_give_what_one_thread_gives(rt: HostRuntime) -> Result<(), 
     Ok(())
 }
 
-/// Holds the first pieces of cores 0 and 1 until both have begun, and counts those that waited in vain.
+/// Holds the first pieces of cores 0 and 1 until both have begun, and counts those that waited in
+/// vain.
 #[derive(Drop)]
 struct Both {
     begun: AtomicU64,
@@ -59,7 +60,8 @@ impl Gate for Both {
     fn reached(&self, _moment: Tick) {}
 }
 
-/// A run that lends one piece at a time, or that holds the lock while a piece runs, ends with a piece that waited alone.
+/// A run that lends one piece at a time, or that holds the lock while a piece runs, ends with a
+/// piece that waited alone.
 #[test]
 fn two_pieces_run_at_once(rt: HostRuntime) -> Result<(), Fail> {
     let alloc = rt.alloc();
@@ -99,7 +101,6 @@ impl Gate for Counts {
     fn reached(&self, _moment: Tick) {}
 }
 
-/// Counts from 0.
 fn zero_counts() -> Counts {
     Counts {
         before: AtomicU64::new(0),
@@ -107,7 +108,7 @@ fn zero_counts() -> Counts {
     }
 }
 
-/// How many pieces were begun and ended.
+/// The numbers of pieces that were begun and ended.
 fn counted(gate: &Counts) -> (u64, u64) {
     (
         gate.before.load(Ordering::SeqCst),
@@ -130,7 +131,8 @@ fn two_workers_run_pieces_and_one_runs_none(rt: HostRuntime) -> Result<(), Fail>
     Ok(())
 }
 
-/// Each piece has a few rows. After 1,024 of them the team ends, and the caller's thread takes the turns that are left.
+/// Each piece has a few rows. After 1,024 of them the team ends, and the caller's thread takes the
+/// turns that are left.
 #[test]
 fn a_team_with_short_pieces_ends(rt: HostRuntime) -> Result<(), Fail> {
     let alloc = rt.alloc();
@@ -146,7 +148,8 @@ fn a_team_with_short_pieces_ends(rt: HostRuntime) -> Result<(), Fail> {
     Ok(())
 }
 
-/// Where only reports are wanted the team ends as early, and the caller's thread counts on what the threads have counted.
+/// The team ends as early if only reports are wanted, and the caller's thread adds to the counts of
+/// the other threads.
 #[test]
 fn a_team_that_only_counts_ends_too(rt: HostRuntime) -> Result<(), Fail> {
     let alloc = rt.alloc();
@@ -171,7 +174,8 @@ fn a_team_that_only_counts_ends_too(rt: HostRuntime) -> Result<(), Fail> {
     Ok(())
 }
 
-/// Each piece is of 60 moments or more, and a core has 7 rows each 3 moments: those of its turns, an arrival and a held word. So each has 140 rows.
+/// Each piece is of 60 moments or more, and a core has 7 rows each 3 moments: those of its turns,
+/// an arrival and a held word. Each piece therefore has 140 rows.
 #[test]
 fn a_team_with_long_pieces_goes_on(rt: HostRuntime) -> Result<(), Fail> {
     let alloc = rt.alloc();
@@ -187,7 +191,7 @@ fn a_team_with_long_pieces_goes_on(rt: HostRuntime) -> Result<(), Fail> {
     Ok(())
 }
 
-/// No piece is longer than 512 moments here, though the cores may go on for much longer by themselves.
+/// No piece is longer than 512 moments here, though the delays would allow much longer ones.
 #[test]
 fn pieces_are_bounded(rt: HostRuntime) -> Result<(), Fail> {
     let alloc = rt.alloc();
@@ -203,7 +207,7 @@ fn pieces_are_bounded(rt: HostRuntime) -> Result<(), Fail> {
     Ok(())
 }
 
-/// Keeps the moment that it was told last, and how often it was told an earlier one than before.
+/// Keeps the time reported last, and counts the reports that were earlier than the previous one.
 #[derive(Drop)]
 struct Far {
     last: AtomicU64,
@@ -223,7 +227,6 @@ impl Gate for Far {
     }
 }
 
-/// Nothing was told yet.
 fn nothing_told() -> Far {
     Far {
         last: AtomicU64::new(0),
@@ -231,7 +234,7 @@ fn nothing_told() -> Far {
     }
 }
 
-/// The moment that was told last, where they never fell.
+/// The time reported last, if no report was earlier than the previous one.
 fn last_of(gate: &Far) -> Option<u64> {
     if gate.fell.load(Ordering::SeqCst) > 0 {
         return None;

@@ -1,4 +1,5 @@
-//! Pieces that tell their rows to lists of the caller's as their turns are taken, of a desk that keeps none, and how far they go.
+//! Pieces that emit their rows straight to the caller's lists, from a desk that keeps no rows, and
+//! how far they run.
 ghost use Rattle.std.specs.Prelude.{◌≤◌};
 
 use super::collectors::{are_at, told_to_none};
@@ -8,7 +9,7 @@ use mcs_window::{Desk, Piece};
 use std::process::Abort;
 use std::test::Fail;
 
-/// From when to before when a core is lent.
+/// The moments for which a core is lent, from `first` to before `past`.
 #[derive(Clone, Copy, Debug, PartialEq, Eq)]
 struct Stretch {
     core: CoreId,
@@ -24,7 +25,7 @@ fn stretch_of(piece: &Piece) -> Stretch {
     }
 }
 
-/// The stretch of the next core that is lent, for no more than so many moments.
+/// The stretch of the next core that is lent, for at most `span` moments.
 fn lent<S: Collector>(desk: &mut Desk<S>, span: u64) -> Option<Stretch>
     requires { 1 ≤ span }
 {
@@ -32,7 +33,8 @@ fn lent<S: Collector>(desk: &mut Desk<S>, span: u64) -> Option<Stretch>
     Some(stretch_of(&piece))
 }
 
-/// Lends a core for no more than two moments, tells its rows to its list, and takes it back. Answers its stretch.
+/// Lends a core for at most two moments, emits its rows to its list, and takes it back. Returns its
+/// stretch.
 fn takes_turns(
     desk: &mut Desk<Nothing>,
     told: &mut [Vec<Row>; 2],

@@ -6,7 +6,7 @@ use mcs_team::probe;
 use std::process::Abort;
 use std::test::Fail;
 
-/// The one refill of the one context is of 2 ticks: when it begins, and the ticks in use.
+/// Checks the one refill of the one context, of 2 ticks: its start, and the ticks in use.
 fn shows(rt: &impl Abort, views: &[ContextView], begins: u64, using: u64) {
     assert_eq!(rt; views.len(), 1);
     let refills = views[0].refills.as_slice();

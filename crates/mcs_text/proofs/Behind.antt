@@ -17,7 +17,7 @@ take_part bytes block at k n long few =
     ap (λ j. take (j + n) (take at bytes ++ (block ++ rest))) (sym m) ∙ first
     ∙ ap (λ zs. take at bytes ++ zs) (take-append-le n block rest few)
 
--- a space, and behind it the first bytes of a block
+-- a space, followed by the first bytes of a block
 pub take_block : (bytes block : List ℕ) (at k n : ℕ) → at + 1 ≤ length bytes → n ≤ length block →
     take (at + 1 + n) (put_mid (at + 1) k (set bytes at 32) block) ≡ take at bytes ++ 32 ∷ take n block
 take_block bytes block at k n long few =
@@ -25,7 +25,7 @@ take_block bytes block at k n long few =
     ∙ ap (λ zs. zs ++ take n block) (take_more_set bytes at 32 (omega arith))
     ∙ append_assoc (take at bytes) (32 ∷ []) (take n block)
 
--- a space, and a word behind it
+-- a space followed by a word
 pub take_word : (bytes word part : List ℕ) (at k : ℕ) → at + 1 ≤ length bytes → part ≡ word →
     take (at + 1 + length word) (put_mid (at + 1) k (set bytes at 32) part) ≡ take at bytes ++ 32 ∷ word
 take_word bytes word part at k long is =
@@ -33,7 +33,7 @@ take_word bytes word part at k long is =
     subst (λ p. take (at + 1 + length word) (put_mid (at + 1) k (set bytes at 32) p) ≡ take at bytes ++ 32 ∷ word) (sym is)
     (take_block bytes word at k (length word) long (omega arith) ∙ ap (λ w. take at bytes ++ 32 ∷ w) all)
 
--- a word behind a space, in a block of spaces
+-- a space and a word, in a block of spaces
 pub take_short : (blank word : List ℕ) (k : ℕ) → take 1 blank ≡ 32 ∷ [] → 1 ≤ length blank →
     take (1 + length word) (put_mid 1 k blank word) ≡ 32 ∷ word
 take_short blank word k first long =

@@ -1,4 +1,4 @@
--- Lines that were given rows, and where their moments begin.
+-- Lines that were given rows, and the starts of their times.
 use Rattle.std.proofs.Common.{◌≡◌, List, [], ◌∷◌, ◌++◌, refl, sym, ap, ◌∙◌, append-nil, append_assoc}
 use Rattle.std.specs.Prelude.{fold}
 use Rattle.mcs_ticks.specs.declared.row.Row.{Row}

@@ -41,7 +41,7 @@ between before here rest start end e f =
     rw (long, e, drop-append_seam before (here ++ rest)) (take-append_seam here rest)
 
 module _ (system : System) where
-  -- the rows of the first mark, whose lines begin here, and the later ones, whose lines begin where those end
+  -- the rows of the first mark, with lines from here, and the later ones, with lines after those
   record Begins (later : ℕ → List Row → Type 0) (mark : Mark) (at : ℕ) (rows : List Row) : Type 0 where
     here : List Row
     rest : List Row
@@ -95,7 +95,7 @@ module _ (system : System) where
       ap (rows_at t) b.split ∙ apart-part t mark.moment b.here b.rest b.same (λ e. none 0 (omega arith) (sym e))
       ∙ all-at marks (at + length (schedule_text system b.here)) b.rest b.next t (λ k l. none (suc k) (omega arith))
 
-  -- where the lines of the first mark begin, or all lines end
+  -- the start of the first mark's lines, or the end of all lines
   begins-at : (marks : List Mark) (at : ℕ) (rows : List Row) (end : ℕ) → AreMarked marks at rows → end ≡ at + length (schedule_text system rows) → (get_or marks 0 (mark_at 0 end)).start ≡ at
   begins-at [] at rows end b e = (let none = ap (λ rows. length (schedule_text system rows)) b in omega arith)
   begins-at (mark ∷ marks) at rows end b e = b.start
@@ -127,7 +127,7 @@ module _ (system : System) where
       ∙ ap (schedule_text system)
       (sym (at-rest (AreMarked marks) mark at rows b (moment_of marks k) (some-at marks (at + length here) b.rest b.next k (omega arith))))
 
-  -- after rows, the last of them of the moment of the last mark, these are told
+  -- further rows are given; the last row before them has the time of the last mark
   abbrev Told : List Mark → Mark → List ℕ → List Mark → List Row → List Row → Type 0
   Told front mark bytes marks rows all =
       (later : List Mark) × ((fold with_row (record { system = system; bytes = bytes; marks = marks }) rows).marks ≡ front ++ mark ∷ later)

@@ -152,7 +152,7 @@ come-in-time t (row ∷ rows) h o = (h.0, come-in-time row.moment rows o.0 o.1)
 pub come-all : (rows : List Row) → DoNotFall rows → ComeInTime 0 rows
 come-all rows o = come-in-time 0 rows (AreFrom-zero rows) o
 
--- what waits where there is a next moment
+-- the lines that wait if there is a next time
 pub waits : (part : LinesPart) → IsSome (next_of part) → part.place < length part.lines.marks
 waits part s =
     elim (cases_lt part.place (length part.lines.marks)) [

@@ -1,4 +1,4 @@
--- Where moments begin and end among lines.
+-- Start and end of each time's lines.
 use Rattle.std.proofs.Common.{◌≡◌, ℕ, ◌+◌, ◌-◌, ◌<◌, ◌≤◌, Bool, true, false, List, [], ◌∷◌, ◌++◌, length, take, drop, get_or, refl, sym, ap, subst, ◌∙◌, length-append, append_assoc, arith, take-take}
 use Rattle.std.specs.Prelude.{Option, Some, None, if◌then◌else◌}
 use Rattle.std.specs.List.{last_or}
@@ -26,15 +26,15 @@ last-append o (x ∷ xs) mark = last-append (Some x) xs mark
 abbrev pub mark_at : ℕ → ℕ → Mark
 mark_at moment start = record { moment = moment; start = start }
 
--- where a mark that was read begins
+-- the start of a mark that was read
 pub read_start : (marks : List Mark) (place : ℕ) (mark : Mark) → place < length marks → mark ≡ get_or marks place mark → mark.start ≡ start_of marks place
 read_start marks place mark lt e = ap (λ (m : Mark). m.start) (e ∙ get_or_default marks place mark (mark_at 0 0) lt)
 
--- a mark before the last one ends where the next begins
+-- a mark before the last one ends at the start of the next
 pub end_known : (end : ℕ) (marks : List Mark) (place : ℕ) → place + 1 < length marks → end_of end marks place ≡ start_of marks (place + 1)
 end_known end marks place h = ap (λ (m : Mark). m.start) (get_or_default marks (place + 1) (mark_at 0 end) (mark_at 0 0) h)
 
--- the last one ends where all lines do
+-- the last one ends with all lines
 pub end_last : (end : ℕ) (marks : List Mark) (place : ℕ) → length marks ≤ place + 1 → end_of end marks place ≡ end
 end_last end marks place h = ap (λ (m : Mark). m.start) (get_or_past marks (place + 1) (mark_at 0 end) h)
 
@@ -83,7 +83,7 @@ kept-cases bytes used more moment marks false e lt within order = record {
   in_order = order_marked used more moment marks (omega arith) order;
 }
 
--- a line more, and a mark where its moment is another
+-- a further line, and a mark if its time is another
 pub kept-more : (old bytes : List ℕ) (used more moment digits : ℕ) (marks : List Mark) → AreKept old used marks digits → used < more →
     more ≤ length bytes → AreKept bytes more (marked moment used marks) moment
 kept-more old bytes used more moment digits marks k lt within =
@@ -111,7 +111,7 @@ grows bytes old text more at long e =
     let all : length (take more bytes) ≡ length (take at old ++ text) = ap (λ (xs : List ℕ). length xs) e in
     omega (arith, length-append (take at old) text, length-take-le at old long)
 
--- and more, where a line feed ends it
+-- and more, if a line feed ends it
 pub grows_by_line : (bytes mid old word words : List ℕ) (more core at : ℕ) → at ≤ length old → core ≤ length mid →
     take core mid ≡ take at old ++ word → take more bytes ≡ (take core mid ++ words) ++ 10 ∷ [] → at < more
 grows_by_line bytes mid old word words more core at long further e f =

@@ -1,4 +1,4 @@
--- Lines that a core's turns tell, and of how many rows they are.
+-- Lines of a core's turns, with the number of their rows.
 use Rattle.std.specs.Prelude.{◌≡◌, ℕ, ◌+◌, Bool, if◌then◌else◌, List, length, fold}
 use Rattle.mcs_ticks.specs.declared.row.Row.{Row}
 use Rattle.mcs_system.specs.System.{System}
@@ -15,11 +15,11 @@ nothing_told system = record { lines = no_lines system; rows = 0 }
 abbrev pub one_more : ToldLines → Row → ToldLines
 one_more told r = record { lines = with_row told.lines r; rows = told.rows + 1 }
 
--- how told lines take a row; where they refuse it they stay as they were
+-- how the lines take a row. If they refuse it, they stay as they were.
 abbrev pub TakesTold : ToldLines → Row → Bool → ToldLines → Type 0
 TakesTold before r taken after = after ≡ (if taken then one_more before r else before)
 
--- told lines hold rows: the lines, marks and number are those of these rows
+-- the lines hold rows: lines, marks and number are those of these rows
 pub record HoldsTold (told : ToldLines) (rows : List Row) : Type 0 where
   pub lines : told.lines ≡ fold with_row (no_lines told.lines.system) rows
   pub many : told.rows ≡ length rows

@@ -1,19 +1,19 @@
-//! Words, numbers and names that are written into bytes, each behind the one before: each call is told where its text begins, and
-//! answers where it ends.
+//! Writes words, numbers and names into bytes. Each call takes the index at which its text begins,
+//! and returns the index after it. Bytes after the text may be overwritten.
 ghost use Rattle.std.specs.Prelude.{◌≡◌, ◌+◌, ◌≤◌, ◌<◌, ◌++◌, ◌∷◌, [], length, take, decimal};
 ghost use Rattle.mcs_text.specs.Text.{after};
 
 use crate::name::Name;
 use itoa::write_digits;
 
-/// Bytes with room for the longest row: at most four numbers of 20 digits, at most two names, each in a block of 32 bytes, and its
-/// words, spaces and line feed (138 at most).
+/// Room for the longest row, in bytes: at most 138, for four numbers of 20 digits, two names in
+/// blocks of 32 bytes, words, spaces and a line feed.
 pub(crate) const LINE: usize = 144;
 
-/// The most bytes of a space and a number.
+/// Maximum bytes of a space and a number.
 const NUMBER: usize = 21;
 
-/// Writes a space and a word at this place in bytes that have room for them, and answers where the word ends.
+/// Writes a space and a word. The bytes must have room for them.
 #[inline(always)]
 pub fn write_word(bytes: &mut [u8], at: usize, word: &str) -> usize
     requires { at + 1 + length word.now ≤ length bytes.old }
@@ -27,7 +27,7 @@ pub fn write_word(bytes: &mut [u8], at: usize, word: &str) -> usize
     end
 }
 
-/// Writes a space and a word of at most seven bytes, in a block of eight that is copied whole.
+/// Writes a space and a word of at most seven bytes. A block of eight bytes is copied as a whole.
 #[inline(always)]
 pub(crate) fn write_short(bytes: &mut [u8], at: usize, word: &str) -> usize
     requires short { length word.now ≤ 7 }
@@ -42,7 +42,7 @@ pub(crate) fn write_short(bytes: &mut [u8], at: usize, word: &str) -> usize
     at + end
 }
 
-/// Writes a space and a name, whose block is copied whole.
+/// Writes a space and a name. Its block is copied as a whole.
 #[inline(always)]
 pub(crate) fn write_name(bytes: &mut [u8], at: usize, name: &Name) -> usize
     requires { at + 33 ≤ length bytes.old }
@@ -58,7 +58,7 @@ pub(crate) fn write_name(bytes: &mut [u8], at: usize, name: &Name) -> usize
     end
 }
 
-/// Writes a space and a number in decimal digits at this place in bytes that have room for 20 digits, and answers where they end.
+/// Writes a space and a number in decimal digits. The bytes must have room for 20 digits.
 #[inline(always)]
 pub fn write_number(bytes: &mut [u8], at: usize, number: u64) -> usize
     requires { at + 21 ≤ length bytes.old }
@@ -98,7 +98,7 @@ fn write_two_digits(bytes: &mut [u8], at: usize, number: u8) -> usize
     at + 3
 }
 
-/// Writes a space and a number of any length, in a block that is copied whole.
+/// Writes a space and a number of any length. A block is copied as a whole.
 #[inline(never)]
 fn write_digits_behind(bytes: &mut [u8], at: usize, number: u64) -> usize
     requires { at + 21 ≤ length bytes.old }
@@ -113,7 +113,7 @@ fn write_digits_behind(bytes: &mut [u8], at: usize, number: u64) -> usize
     at + (NUMBER - start)
 }
 
-/// Writes a word and a number at this place, each after a space, in bytes that have room for 20 digits, and answers where these end.
+/// Writes a word and a number, each after a space. The bytes must have room for 20 digits.
 #[inline(always)]
 pub fn write_counted(bytes: &mut [u8], at: usize, word: &str, number: u64) -> usize
     requires { at + 22 + length word.now ≤ length bytes.old }
@@ -124,7 +124,7 @@ pub fn write_counted(bytes: &mut [u8], at: usize, word: &str, number: u64) -> us
     write_number(bytes, digits, number)
 }
 
-/// Writes a number in decimal digits at this place in bytes that have room for 20, and answers where they end.
+/// Writes a number in decimal digits. The bytes must have room for 20 digits.
 pub fn write_decimal(bytes: &mut [u8], at: usize, number: u64) -> usize
     requires { at + 20 ≤ length bytes.old }
     ensures short { result ≤ at + 20 }
@@ -135,7 +135,7 @@ pub fn write_decimal(bytes: &mut [u8], at: usize, number: u64) -> usize
     end
 }
 
-/// How many digits a number has.
+/// Number of digits of a number.
 #[inline(always)]
 fn digits(number: u64) -> usize
     ensures count { result ≡ length (decimal number) }
@@ -154,7 +154,7 @@ fn digits(number: u64) -> usize
     }
 }
 
-/// The same of a number of one to four digits.
+/// Number of digits of a number of one to four digits.
 #[inline(always)]
 fn few_digits(number: u64) -> usize
     requires { number < 10000 }
@@ -171,7 +171,7 @@ fn few_digits(number: u64) -> usize
     }
 }
 
-/// The same of a number of five to eight digits.
+/// Number of digits of a number of five to eight digits.
 #[inline(always)]
 fn more_digits(number: u64) -> usize
     requires { (10000 ≤ number) × (number < 100000000) }

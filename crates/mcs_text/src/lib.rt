@@ -1,4 +1,4 @@
-//! The text of a schedule's rows, and of reports: one line for each row, thread or core, with the names that the system has.
+//! The text of rows and reports: one line per row, thread or core, with the names of the system.
 #![tactic(auto)]
 
 mod bytes;

@@ -1,3 +1,4 @@
+//! Appends words and numbers to a growing text.
 ghost use Rattle.std.specs.Prelude.{◌≡◌, ◌++◌, ◌∷◌, [], OnOk, decimal};
 ghost use Rattle.std.specs.Io.{StartsWith};
 ghost use Rattle.mcs_text.specs.Text.{after};
@@ -5,7 +6,7 @@ ghost use Rattle.mcs_text.specs.Text.{after};
 use itoa::Buffer;
 use mcs_ticks::NoMemory;
 
-/// Appends a space and a word. After a refusal a first part of them may stand behind the text.
+/// Appends a space and a word. On `NoMemory` a first part of them may have been appended.
 pub fn append_word(text: &mut Vec<u8>, word: &str) -> Result<(), NoMemory>
     ensures ok { OnOk result (text.new.items ≡ text.old.items ++ 32 ∷ word.now) }
     ensures kept { StartsWith text.new.items text.old.items }
@@ -15,7 +16,8 @@ pub fn append_word(text: &mut Vec<u8>, word: &str) -> Result<(), NoMemory>
     Ok(())
 }
 
-/// Appends a space and a number in decimal digits. After a refusal a first part of them may stand behind the text.
+/// Appends a space and a number in decimal digits. On `NoMemory` a first part of them may have been
+/// appended.
 pub fn append_number(text: &mut Vec<u8>, number: u64) -> Result<(), NoMemory>
     ensures ok { OnOk result (text.new.items ≡ text.old.items ++ 32 ∷ decimal number) }
     ensures kept { StartsWith text.new.items text.old.items }
@@ -24,7 +26,8 @@ pub fn append_number(text: &mut Vec<u8>, number: u64) -> Result<(), NoMemory>
     append_word(text, buffer.format(number))
 }
 
-/// Appends a word and a number, each after a space. After a refusal a first part of them may stand behind the text.
+/// Appends a word and a number, each after a space. On `NoMemory` a first part of them may have
+/// been appended.
 pub fn append_counted(text: &mut Vec<u8>, word: &str, number: u64) -> Result<(), NoMemory>
     ensures ok { OnOk result (text.new.items ≡ text.old.items ++ after (word.now ∷ decimal number ∷ [])) }
     ensures kept { StartsWith text.new.items text.old.items }

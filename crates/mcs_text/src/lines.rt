@@ -1,3 +1,4 @@
+//! Lines of rows that grow as rows come.
 ghost use Rattle.std.specs.Prelude.{◌≡◌, ◌≤◌, ◌<◌, ◌+◌, ◌++◌, ◌∷◌, [], take, length, None, OnOk, OnErr};
 ghost use Rattle.std.specs.List.{last_or};
 ghost use Rattle.mcs_text.specs.Text.{row_text};
@@ -13,18 +14,18 @@ use mcs_ticks::{Measured, Refused, Row, Sink, Tick};
 use std::alloc::Global;
 use std::marker::Model;
 
-/// So many bytes more are made room for at once.
+/// Bytes by which the room grows at once.
 const MORE: usize = 4096;
 
-/// The lines of rows, of one core or of rows in any order, with the places at which moments begin among them. It is a sink: each row
-/// that it is given becomes a line behind the others. Contracts see the system that has the names, the bytes, and the marks.
+/// The lines of rows, of one core or in any order, with marks at which times begin. As a sink it
+/// appends one line per row. Contracts see the system, the bytes, and the marks.
 #[derive(Drop)]
 pub struct Lines<'a> {
     names: &'a Names<'a>,
     bytes: Vec<u8>,
     used: usize,
     marks: Vec<Mark>,
-    /// of the last row
+    /// digits of the last row's time
     digits: MomentDigits,
 }
 
@@ -40,7 +41,7 @@ impl<'a> Model for Lines<'a> {
     ghost invariant = { λ a. AreKept a.bytes.items a.used a.marks.items a.digits };
 }
 
-/// Makes room for a line behind the text.
+/// Makes room for a further line.
 #[inline(always)]
 fn make_room(bytes: &mut Vec<u8>, used: usize) -> Result<(), Refused>
     requires { used ≤ length bytes.old.items }
@@ -64,7 +65,8 @@ fn grow(bytes: &mut Vec<u8>, used: usize) -> Result<(), Refused>
     bytes.extend_from_slice(&[0; MORE]).ok().ok_or(Refused)
 }
 
-/// Marks that the lines of a moment begin here, where those before are of another. The digits are then those of the moment.
+/// Marks the start of a time's lines, unless the lines before are of that time. The digits are then
+/// those of the time.
 #[inline(always)]
 fn reach(
     marks: &mut Vec<Mark>,
@@ -105,7 +107,7 @@ fn begin(
     Ok(())
 }
 
-/// Writes the line of a row, of whose moment these are the digits.
+/// Writes the line of a row. The digits are those of its time.
 #[inline(always)]
 fn write_line<N: Naming>(
     bytes: &mut [u8],
@@ -125,7 +127,7 @@ fn write_line<N: Naming>(
 }
 
 impl<'a> Lines<'a> {
-    /// No lines yet, of rows of the system with these names. Room is made as rows come.
+    /// Returns no lines, for rows of the system with these names. Room is made as rows come.
     pub fn new(alloc: Global, names: &'a Names<'a>) -> Lines<'a>
         ensures { result ≡ no_lines names.now }
     {
@@ -138,7 +140,7 @@ impl<'a> Lines<'a> {
         }
     }
 
-    /// How many bytes the lines have.
+    /// The number of bytes of all lines.
     #[inline(always)]
     pub fn len(&self) -> usize
         ensures { result ≡ length self.now.bytes }
@@ -154,14 +156,14 @@ impl<'a> Lines<'a> {
         &self.bytes[..self.used]
     }
 
-    /// The moments of the lines, in the order in which they came, each with the place at which its lines begin.
+    /// The marks, in the order in which their times came. Each has the index of its first line.
     pub fn marks(&self) -> &[Mark]
         ensures { result.now ≡ self.now.marks }
     {
         self.marks.as_slice()
     }
 
-    /// The bytes from a mark up to the next one, or to the end.
+    /// The bytes from a mark to the next one, or to the end.
     pub fn text_at(&self, place: usize) -> &[u8]
         requires { place < length self.now.marks }
         ensures { result.now ≡ text_at self.now place }
@@ -176,7 +178,7 @@ impl<'a> Lines<'a> {
         &self.bytes[start..end]
     }
 
-    /// Removes all lines and marks. Their room is kept.
+    /// Removes all lines and marks, and keeps their room.
     pub fn clear(&mut self)
         ensures { self.new ≡ no_lines self.old.system }
     {
@@ -185,7 +187,8 @@ impl<'a> Lines<'a> {
     }
 }
 
-/// A row becomes a line. It is refused only where there is no memory, and all lines and marks then stay as they were.
+/// Appends the line of a row. It is refused only if memory runs out, and then lines and marks stay
+/// as they were.
 impl Sink for Lines<'_> {
     ghost use Rattle.mcs_text.specs.Lines.{TakesLine};
 
@@ -201,7 +204,7 @@ impl Sink for Lines<'_> {
     }
 }
 
-/// The size of lines is how many bytes they have.
+/// The size is the number of bytes.
 impl Measured for Lines<'_> {
     ghost use Rattle.std.specs.Prelude.{length};
 

@@ -1,3 +1,4 @@
+//! Lines that wait to be merged into a text.
 ghost use Rattle.std.specs.Prelude.{◌≡◌, IsSome};
 ghost use Rattle.mcs_text.specs.Lines.{no_lines, text_at};
 ghost use Rattle.mcs_text.specs.Parts.{next_of, passed};
@@ -8,8 +9,8 @@ use mcs_merge::Part;
 use mcs_ticks::{Refused, Soonest};
 use std::marker::Model;
 
-/// Lines of the rows of one core, in order of their moments, which wait to be given to a text, those of a moment at once. Contracts see the
-/// lines, and the place of the first mark at which they wait.
+/// Lines of one core's rows, in order of time, that wait for a text. The lines of one time are
+/// given at once. Contracts see the lines and the index of the first waiting mark.
 #[derive(Drop)]
 pub struct LinesPart<'a> {
     lines: Lines<'a>,
@@ -25,14 +26,14 @@ impl<'a> Model for LinesPart<'a> {
 }
 
 impl<'a> LinesPart<'a> {
-    /// All of these lines wait.
+    /// Returns a part in which all these lines wait.
     pub fn new(lines: Lines<'a>) -> LinesPart<'a>
         ensures { result ≡ record { lines = lines.entry; place = 0 } }
     {
         LinesPart { lines, place: 0 }
     }
 
-    /// The lines of its first moment, of which there must be one.
+    /// The lines of the first time. There must be one.
     #[inline(always)]
     pub fn first_lines(&self) -> &[u8]
         requires { IsSome (next_of self.now) }
@@ -41,18 +42,18 @@ impl<'a> LinesPart<'a> {
         self.lines.text_at(self.place)
     }
 
-    /// Passes over the lines of its first moment, of which there must be one: they wait no more.
+    /// Removes the lines of the first time from those that wait. There must be one.
     #[inline(always)]
     pub fn pass(&mut self)
         requires { IsSome (next_of self.old) }
         ensures { self.new ≡ passed self.old }
     {
-        // the place is before the number of the marks, so there is a next one
+        // the index is below the number of marks, so there is a next one
         let _marks = self.lines.marks().len();
         self.place += 1;
     }
 
-    /// The room of the lines, without lines.
+    /// Returns the room of the lines, empty.
     pub fn into_room(self) -> Lines<'a>
         ensures { result ≡ no_lines self.entry.lines.system }
     {
@@ -65,7 +66,7 @@ impl<'a> LinesPart<'a> {
     }
 }
 
-/// It holds rows where what waits are their lines, with a mark at each of their moments.
+/// It holds rows if the waiting lines are theirs, with a mark at each of their times.
 impl<'a> Part for LinesPart<'a> {
     ghost use Rattle.mcs_text.specs.Parts.{left_of, next_of, HoldsRows};
 

@@ -1,10 +1,11 @@
+//! The mark at the start of a time's lines.
 use mcs_ticks::Tick;
 
-/// Where the lines of a moment begin.
+/// Marks the lines of one time.
 #[derive(Clone, Copy, Debug, PartialEq, Eq)]
 pub struct Mark {
-    /// The moment of these lines.
+    /// The time of the lines, in ticks.
     pub moment: Tick,
-    /// How many bytes stand before them.
+    /// Number of bytes before them.
     pub start: usize,
 }

@@ -1,23 +1,24 @@
+//! Digits of times. Rows of one time share them.
 ghost use Rattle.std.specs.Prelude.{◌≡◌, ◌≤◌, ◌+◌, ◌/◌, ◌++◌, ◌↔◌, true, take, length, decimal, IsTrue};
 
 use itoa::write_digits;
 use mcs_ticks::Tick;
 use std::marker::Model;
 
-/// Where the digits end in their block: a moment has at most 13.
+/// End of the digits in their block. A time has at most 13 digits.
 const END: usize = 16;
 
-/// No moment is as late.
+/// A number larger than any time.
 const NONE: u64 = 1 << 43;
 
-/// The digits of a moment, for all rows that have it. Contracts see the moment.
+/// The digits of a time, shared by all rows of that time. Contracts see the time.
 #[derive(Debug, Drop)]
 pub(crate) struct MomentDigits {
     moment: Tick,
-    /// the moment with its last two digits 0, where it has more than two
+    /// the time with its last two digits 0, if it has more than two
     hundred: u64,
     block: [u8; 32],
-    /// where the digits begin in the block
+    /// index of the first digit in the block
     start: usize,
 }
 
@@ -33,7 +34,7 @@ impl Model for MomentDigits {
 }
 
 impl MomentDigits {
-    /// Those of moment 0.
+    /// Returns the digits of time 0.
     pub(crate) fn new() -> MomentDigits
         ensures { result ≡ 0 }
     {
@@ -45,7 +46,7 @@ impl MomentDigits {
         }
     }
 
-    /// Whether they are those of this moment.
+    /// Whether these are the digits of this time.
     #[inline(always)]
     pub(crate) fn are_of(&self, moment: Tick) -> bool
         ensures { IsTrue result ↔ (self.now ≡ moment) }
@@ -53,7 +54,7 @@ impl MomentDigits {
         self.moment == moment
     }
 
-    /// Makes them those of this moment, where they are not.
+    /// Changes the digits to those of this time, if they differ.
     #[inline(always)]
     pub(crate) fn set(&mut self, moment: Tick)
         ensures { self.new ≡ moment }
@@ -74,7 +75,7 @@ impl MomentDigits {
         }
     }
 
-    /// Whether a moment has more than two digits, of which all but the last two are these.
+    /// Whether a time has more than two digits, and all but the last two are the same.
     #[inline(always)]
     fn is_near(&self, moment: Tick) -> bool
         ensures { result ≡ true → (100 ≤ moment) × (moment / 100 ≡ self.now / 100) }
@@ -105,7 +106,7 @@ impl MomentDigits {
         self.moment = moment;
     }
 
-    /// Writes the digits, whose block is copied whole.
+    /// Writes the digits. Their block is copied as a whole.
     #[inline(always)]
     pub(crate) fn write(&self, bytes: &mut [u8], at: usize) -> usize
         requires { at + 16 ≤ length bytes.old }
@@ -119,7 +120,7 @@ impl MomentDigits {
         end
     }
 
-    /// Writes a moment.
+    /// Writes a time.
     #[inline(always)]
     pub(crate) fn write_moment(&mut self, bytes: &mut [u8], at: usize, moment: Tick) -> usize
         requires { at + 16 ≤ length bytes.old }

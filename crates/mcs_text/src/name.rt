@@ -1,8 +1,9 @@
+//! A name in a block of fixed size.
 ghost use Rattle.std.specs.Prelude.{◌≡◌, ◌≤◌, [], length, take};
 
 use std::marker::Model;
 
-/// A name of at most 32 bytes, in a block that is copied whole. Contracts see the name.
+/// A name of at most 32 bytes, in a block that is copied as a whole. Contracts see the name.
 #[derive(Debug, Drop)]
 pub(crate) struct Name {
     block: [u8; 32],
@@ -20,10 +21,9 @@ impl Model for Name {
 }
 
 impl Name {
-    /// The bytes of a block.
+    /// Bytes of a block.
     pub(crate) const BLOCK: usize = 32;
 
-    /// This name.
     pub(crate) fn new(name: &str) -> Name
         requires { length name.now ≤ 32 }
         ensures { result ≡ name.now }
@@ -34,7 +34,7 @@ impl Name {
         Name { block, len }
     }
 
-    /// How many bytes it has.
+    /// Length in bytes, at most 32.
     pub(crate) fn len(&self) -> usize
         ensures length { result ≡ length self.now }
         ensures short { result ≤ 32 }
@@ -42,7 +42,7 @@ impl Name {
         self.len
     }
 
-    /// The block, whose first bytes are the name.
+    /// The block. Its first bytes are the name.
     #[inline(always)]
     pub(crate) fn block(&self) -> &[u8; 32]
         ensures { take (length self.now) result.now ≡ self.now }

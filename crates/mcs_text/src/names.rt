@@ -1,3 +1,4 @@
+//! Names of threads, notifications, sources and contexts.
 ghost use Rattle.std.specs.Prelude.{◌≡◌, ◌≤◌, ◌+◌, ◌-◌, ◌++◌, ◌∷◌, take, length, IfOk};
 ghost use Rattle.mcs_system.specs.System.{is_server};
 ghost use Rattle.mcs_text.specs.Text.{context_name as context_name_of, note_name as note_name_of, source_name as source_name_of, thread_name as thread_name_of};
@@ -10,25 +11,25 @@ use mcs_ticks::{ContextId, NoMemory, NoteId, SourceId, ThreadId};
 use std::alloc::Global;
 use std::marker::Model;
 
-/// What has the names of a system, and writes them, each after a space.
+/// Writes the names of a system, each after a space.
 pub(crate) trait Naming {
     ghost use Rattle.mcs_system.specs.System.{System};
 
     ghost system: { Self → System };
 
-    /// Writes the name of a thread, or the empty text where the system has no such thread.
+    /// Writes the name of a thread, or the empty text if there is no such thread.
     fn write_thread(&self, bytes: &mut [u8], at: usize, thread: ThreadId) -> usize
         requires { at + 33 ≤ length bytes.old }
         ensures short { result ≤ at + 33 }
         ensures written { take result bytes.new ≡ take at bytes.old ++ 32 ∷ thread_name_of (system self.now) thread };
 
-    /// Writes the name of a notification, or the empty text where the system has no such notification.
+    /// Writes the name of a notification, or the empty text if there is no such notification.
     fn write_note(&self, bytes: &mut [u8], at: usize, note: NoteId) -> usize
         requires { at + 33 ≤ length bytes.old }
         ensures short { result ≤ at + 33 }
         ensures written { take result bytes.new ≡ take at bytes.old ++ 32 ∷ note_name_of (system self.now) note };
 
-    /// Writes the name of a source, or the empty text where the system has no such source.
+    /// Writes the name of a source, or the empty text if there is no such source.
     fn write_source(&self, bytes: &mut [u8], at: usize, source: SourceId) -> usize
         requires { at + 33 ≤ length bytes.old }
         ensures short { result ≤ at + 33 }
@@ -38,7 +39,7 @@ pub(crate) trait Naming {
     fn is_server(&self, note: NoteId) -> bool
         ensures { result ≡ is_server (system self.now) note };
 
-    /// Writes the name of a scheduling context, or the empty text where the system has no such context.
+    /// Writes the name of a scheduling context, or the empty text if there is no such context.
     fn write_context(&self, bytes: &mut [u8], at: usize, context: ContextId) -> usize
         requires { at + 33 ≤ length bytes.old }
         ensures short { result ≤ at + 33 }
@@ -69,7 +70,8 @@ impl Naming for System {
     }
 }
 
-/// A system whose names lie side by side, each in a block that is copied at once. Contracts see the system.
+/// A system whose names lie next to each other, each in a block that is copied at once. Contracts
+/// see the system.
 #[derive(Drop)]
 pub struct Names<'a> {
     system: &'a System,
@@ -96,7 +98,7 @@ impl<'a> Model for Names<'a> {
 }
 
 impl<'a> Names<'a> {
-    /// The names of this system.
+    /// Returns the names of this system. `NoMemory` if memory runs out.
     pub fn new(alloc: Global, system: &'a System) -> Result<Names<'a>, NoMemory>
         ensures { IfOk result (λ names. names ≡ system.now) }
     {
@@ -124,7 +126,7 @@ impl<'a> Names<'a> {
 }
 
 impl Names<'_> {
-    /// The system that has the names.
+    /// The system of the names.
     pub(crate) fn system(&self) -> &System
         ensures { result.now ≡ self.now }
     {
@@ -160,7 +162,7 @@ impl Naming for Names<'_> {
     }
 }
 
-/// Writes a space and the name in this place, or the empty text where there is none.
+/// Writes a space and the name at this index, or the empty text if there is no such name.
 #[inline(always)]
 fn write_listed(bytes: &mut [u8], at: usize, names: &[Name], place: usize) -> usize
     requires { at + 33 ≤ length bytes.old }
@@ -173,7 +175,7 @@ fn write_listed(bytes: &mut [u8], at: usize, names: &[Name], place: usize) -> us
     }
 }
 
-/// The number of the first server, or how many notes there are where none is a server.
+/// The number of the first server. Equals the number of notes if there are no servers.
 fn first_server(system: &System) -> usize
     ensures { result ≡ length system.now.notes - system.now.servers }
 {
@@ -181,14 +183,14 @@ fn first_server(system: &System) -> usize
     parts.notes.len().saturating_sub(parts.servers)
 }
 
-/// Whether a note is a server: the servers are the last of all notes.
+/// Whether a note is a server. Servers are the last notes.
 pub fn is_server(system: &System, note: NoteId) -> bool
     ensures { result ≡ is_server system.now note }
 {
     first_server(system) <= note.0
 }
 
-/// The name of a source, or the empty text where the system has no such source.
+/// The name of a source, or the empty text if there is no such source.
 pub fn source_name(system: &System, source: SourceId) -> &str
     ensures name { result.now ≡ source_name_of system.now source }
     ensures short { length result.now ≤ 32 }
@@ -199,7 +201,7 @@ pub fn source_name(system: &System, source: SourceId) -> &str
     }
 }
 
-/// The name of a thread, or the empty text where the system has no such thread.
+/// The name of a thread, or the empty text if there is no such thread.
 pub fn thread_name(system: &System, thread: ThreadId) -> &str
     ensures name { result.now ≡ thread_name_of system.now thread }
     ensures short { length result.now ≤ 32 }
@@ -210,7 +212,7 @@ pub fn thread_name(system: &System, thread: ThreadId) -> &str
     }
 }
 
-/// The name of a notification, or the empty text where the system has no such notification.
+/// The name of a notification, or the empty text if there is no such notification.
 pub fn note_name(system: &System, note: NoteId) -> &str
     ensures name { result.now ≡ note_name_of system.now note }
     ensures short { length result.now ≤ 32 }
@@ -221,7 +223,7 @@ pub fn note_name(system: &System, note: NoteId) -> &str
     }
 }
 
-/// The name of a scheduling context, or the empty text where the system has no such context.
+/// The name of a scheduling context, or the empty text if there is no such context.
 pub fn context_name(system: &System, context: ContextId) -> &str
     ensures name { result.now ≡ context_name_of system.now context }
     ensures short { length result.now ≤ 32 }

@@ -1,3 +1,4 @@
+//! A page of lines in room of fixed size.
 ghost use Rattle.std.specs.Prelude.{◌≡◌, ◌≤◌, ◌+◌, ◌++◌, ◌↔◌, [], length, IfOk, IsTrue};
 ghost use Rattle.mcs_text.specs.Text.{row_text};
 
@@ -9,12 +10,12 @@ use mcs_ticks::{NoMemory, Row};
 use std::alloc::Global;
 use std::marker::Model;
 
-/// Lines of rows, in room that was made at the beginning. Contracts see their bytes.
+/// A page of lines with fixed room, made when it is created. Contracts see its bytes.
 #[derive(Debug, Drop)]
 pub struct Page {
     bytes: Vec<u8>,
     used: usize,
-    /// of the last row
+    /// digits of the last row's time
     moment: MomentDigits,
 }
 
@@ -29,10 +30,10 @@ impl Model for Page {
 }
 
 impl Page {
-    /// A page of more bytes has no room for a further row.
+    /// Bytes above which a page has no room for a further row.
     pub const FULL: usize = 65_536;
 
-    /// Without lines.
+    /// Returns an empty page. `NoMemory` if memory runs out.
     pub fn new(alloc: Global) -> Result<Page, NoMemory>
         ensures { IfOk result (λ page. page ≡ []) }
     {
@@ -44,21 +45,21 @@ impl Page {
         })
     }
 
-    /// How many bytes its lines have.
+    /// The number of bytes of its lines.
     pub fn len(&self) -> usize
         ensures { result ≡ length self.now }
     {
         self.as_slice().len()
     }
 
-    /// Whether there is room for a further row.
+    /// Whether a further row fits.
     pub fn has_room(&self) -> bool
         ensures { IsTrue result ↔ (length self.now ≤ 65536) }
     {
         self.used <= Self::FULL
     }
 
-    /// Whether there is room for so many bytes more, with which the page has at most `FULL`.
+    /// Whether `bytes` more bytes fit without exceeding `FULL`.
     pub fn has_room_for(&self, bytes: usize) -> bool
         ensures { IsTrue result ↔ (length self.now + bytes ≤ 65536) }
     {
@@ -72,7 +73,7 @@ impl Page {
         &self.bytes[..self.used]
     }
 
-    /// Appends the line of a row, as `put_row` does. It takes no memory.
+    /// Appends the line of a row, like `put_row`, without taking memory. The page must have room.
     pub fn put_row(&mut self, names: &Names, row: &Row)
         requires { length self.old ≤ 65536 }
         ensures { self.new ≡ self.old ++ row_text names.now row.now }
@@ -82,7 +83,7 @@ impl Page {
         self.used = write_rest(bytes, core, names, row);
     }
 
-    /// Appends lines that were made elsewhere. It takes no memory.
+    /// Appends lines made elsewhere, without taking memory. The page must have room for them.
     pub fn append(&mut self, lines: &[u8])
         requires { length self.old + length lines.now ≤ 65536 }
         ensures { self.new ≡ self.old ++ lines.now }
@@ -92,7 +93,7 @@ impl Page {
         self.used = end;
     }
 
-    /// Removes all lines. Their room is kept.
+    /// Removes all lines, and keeps their room.
     pub fn clear(&mut self)
         ensures { self.new ≡ [] }
     {

@@ -1,3 +1,4 @@
+//! Merges waiting lines of many cores into a text.
 ghost use Rattle.std.specs.Prelude.{◌≡◌, All, List, OnErr, OnOk};
 ghost use Rattle.mcs_ticks.specs.declared.row.Row.{Row};
 ghost use Rattle.mcs_ticks.specs.Given.{GivenUntil};
@@ -12,8 +13,8 @@ use crate::text::Text;
 use mcs_merge::Merger;
 use mcs_ticks::{Refused, Tick};
 
-/// Puts the lines of all rows before a moment that wait in a merger behind a text: by moment, then core, then place. Where there is no memory
-/// the text has the lines of some first ones of these rows more.
+/// Appends to a text the lines of all waiting rows before a time: by time, then core, then index.
+/// If memory runs out, the text has the lines of some first ones of these rows.
 pub fn pour_lines<'a>(
     merger: &mut Merger<LinesPart<'a>>,
     until: Tick,

@@ -1,3 +1,4 @@
+//! The lines of reports.
 ghost use Rattle.std.specs.Prelude.{◌≡◌, [], ◌∷◌, ◌++◌, OnOk, OnErr, decimal, flat_map};
 ghost use Rattle.std.specs.Io.{StartsWith};
 ghost use Rattle.mcs_text.specs.Text.{after, core_line, reports_text, thread_line};
@@ -8,8 +9,8 @@ use mcs_report::{CoreReport, Reports, ThreadReport};
 use mcs_system::System;
 use mcs_ticks::{NoMemory, ThreadId};
 
-/// Appends the lines of reports: one for each thread in the file's order, then one for each core from 0. After a refusal the text is
-/// as it was.
+/// Appends the lines of reports: one per thread in file order, then one per core from 0. On
+/// `NoMemory` the text is unchanged.
 pub fn put_reports(text: &mut Vec<u8>, system: &System, reports: &Reports) -> Result<(), NoMemory>
     ensures ok { OnOk result (text.new.items ≡ text.old.items ++ reports_text system.now reports.now) }
     ensures err { OnErr result (text.new.items ≡ text.old.items) }
@@ -69,7 +70,8 @@ fn append_core(text: &mut Vec<u8>, core: usize, report: &CoreReport) -> Result<(
     Ok(())
 }
 
-/// Appends words, each with its number, each after a space. After a refusal a first part of them may stand behind the text.
+/// Appends words with their numbers, each after a space. On `NoMemory` a first part may have been
+/// appended.
 pub fn append_counts(text: &mut Vec<u8>, counts: &[(&str, u64)]) -> Result<(), NoMemory>
     ensures ok { OnOk result
         (text.new.items ≡ text.old.items ++ after (flat_map (λ c. c.0.now ∷ decimal c.1 ∷ []) counts.now)) }

@@ -1,3 +1,4 @@
+//! The line of a row.
 ghost use Rattle.std.specs.Prelude.{◌≡◌, ◌+◌, ◌≤◌, ◌++◌, ◌∷◌, [], OnOk, OnErr, take, length, decimal};
 ghost use Rattle.mcs_text.specs.Text.{after, at_note, row_text, until_words, why_word, words_of, note_name, source_name, thread_name};
 
@@ -6,8 +7,8 @@ use crate::names::Naming;
 use mcs_system::System;
 use mcs_ticks::{NoMemory, NoteId, Row, SourceId, ThreadId, Tick, What, Why};
 
-/// Appends the line of a row: `<moment> <core> ` and what happened, with the names that the system has. After a refusal the text is
-/// as it was.
+/// Appends the line of a row: `<moment> <core> ` and what happened, with the names of the system.
+/// On `NoMemory` the text is unchanged.
 pub fn put_row(text: &mut Vec<u8>, system: &System, row: &Row) -> Result<(), NoMemory>
     ensures ok { OnOk result (text.new.items ≡ text.old.items ++ row_text system.now row.now) }
     ensures err { OnErr result (text.new.items ≡ text.old.items) }
@@ -19,7 +20,7 @@ pub fn put_row(text: &mut Vec<u8>, system: &System, row: &Row) -> Result<(), NoM
     Ok(())
 }
 
-/// Writes the line of a row after its moment.
+/// Writes the line of a row after its time.
 #[inline(always)]
 pub(crate) fn write_rest<N: Naming>(bytes: &mut [u8], at: usize, names: &N, row: &Row) -> usize
     requires { at + 119 ≤ length bytes.old }
@@ -33,7 +34,7 @@ pub(crate) fn write_rest<N: Naming>(bytes: &mut [u8], at: usize, names: &N, row:
     end + 1
 }
 
-/// Writes what a row says after its moment and its core.
+/// Writes what a row reports, after its time and core.
 #[inline(always)]
 fn write_what<N: Naming>(bytes: &mut [u8], at: usize, names: &N, what: &What) -> usize
     requires { at + 97 ≤ length bytes.old }
@@ -130,7 +131,8 @@ fn write_held<N: Naming>(
     write_number(bytes, number, u64::from(bits))
 }
 
-/// Writes what a thread did at a note: in one word where it is a server, else in another one, with the bits that it set or got.
+/// Writes what a thread did at a note: with one word if it is a server, else with another word and
+/// the bits that it set or got.
 #[inline(always)]
 fn write_at_note<N: Naming>(
     bytes: &mut [u8],
@@ -176,7 +178,8 @@ fn write_at_server<N: Naming>(
     names.write_note(bytes, name, server)
 }
 
-/// Writes a word, the names of a source and of its notification, and the badge that the source posts, each after a space.
+/// Writes a word, the names of a source and its notification, and the badge that the source posts,
+/// each after a space.
 #[inline(never)]
 fn write_interrupt<N: Naming>(
     bytes: &mut [u8],
@@ -240,7 +243,7 @@ fn write_noted<N: Naming>(
     write_number(bytes, number, u64::from(bits))
 }
 
-/// Writes why a thread stopped, the ticks that are charged, and the date of its release where there is one.
+/// Writes why a thread stopped, the ticks charged, and its release time if it has one.
 #[inline(always)]
 fn write_stop(bytes: &mut [u8], at: usize, why: Why, charged: u64, until: Option<Tick>) -> usize
     requires { at + 56 ≤ length bytes.old }
@@ -253,7 +256,7 @@ fn write_stop(bytes: &mut [u8], at: usize, why: Why, charged: u64, until: Option
     write_until(bytes, date, until)
 }
 
-/// Writes the date of a release where there is one.
+/// Writes the release time, if there is one.
 #[inline(always)]
 fn write_until(bytes: &mut [u8], at: usize, until: Option<Tick>) -> usize
     requires { at + 27 ≤ length bytes.old }

@@ -1,3 +1,4 @@
+//! A text of lines, in the order in which rows were given.
 ghost use Rattle.std.specs.Prelude.{◌≡◌, length, OnErr, OnOk};
 ghost use Rattle.mcs_text.specs.Parts.{no_text, with_bytes};
 
@@ -7,8 +8,8 @@ use mcs_ticks::{Refused, Row, Sink};
 use std::alloc::Global;
 use std::marker::Model;
 
-/// The lines of rows in the order in which they were given, one by one or as a part that holds them. Contracts see the system that has the
-/// names, and the bytes.
+/// The lines of rows in the order in which they were given, one by one or as a part. Contracts see
+/// the system and the bytes.
 #[derive(Drop)]
 pub struct Text<'a> {
     names: &'a Names<'a>,
@@ -24,7 +25,7 @@ impl<'a> Model for Text<'a> {
 }
 
 impl<'a> Text<'a> {
-    /// No lines yet, of rows of the system with these names.
+    /// Returns an empty text, for rows of the system with these names.
     pub fn new(alloc: Global, names: &'a Names<'a>) -> Text<'a>
         ensures { result ≡ no_text names.now }
     {
@@ -34,7 +35,7 @@ impl<'a> Text<'a> {
         }
     }
 
-    /// How many bytes the lines have.
+    /// The number of bytes of all lines.
     pub fn len(&self) -> usize
         ensures { result ≡ length self.now.bytes }
     {
@@ -48,14 +49,14 @@ impl<'a> Text<'a> {
         self.bytes.as_slice()
     }
 
-    /// Removes all lines. Their room is kept.
+    /// Removes all lines, and keeps their room.
     pub fn clear(&mut self)
         ensures { self.new ≡ no_text self.old.system }
     {
         self.bytes.clear();
     }
 
-    /// Puts lines behind the others. Where there is no memory they stay as they were.
+    /// Appends lines. If memory runs out, the text is unchanged.
     pub(crate) fn append(&mut self, lines: &[u8]) -> Result<(), Refused>
         ensures taken { OnOk result (self.new ≡ with_bytes self.old lines.now) }
         ensures refused { OnErr result (self.new ≡ self.old) }
@@ -64,7 +65,8 @@ impl<'a> Text<'a> {
     }
 }
 
-/// A row becomes a line. It is refused only where there is no memory, and the text is then as it was.
+/// Appends the line of a row. It is refused only if memory runs out, and then the text is
+/// unchanged.
 impl Sink for Text<'_> {
     ghost use Rattle.mcs_text.specs.Parts.{TakesText};
 

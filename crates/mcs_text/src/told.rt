@@ -1,3 +1,4 @@
+//! Lines that a core's turns write, with their number of rows.
 ghost use Rattle.std.specs.Prelude.{◌≡◌};
 ghost use Rattle.mcs_text.specs.Told.{nothing_told};
 
@@ -7,8 +8,8 @@ use mcs_ticks::{Collector, Measured, Refused, Row, Sink};
 use std::alloc::Global;
 use std::marker::Model;
 
-/// The lines that a core's turns tell, and the number of their rows, by which a run can end where enough text lies there: a line has at most
-/// 135 bytes. Contracts see both.
+/// The lines of a core's turns, and the number of their rows. A run can end once enough text lies
+/// there: a line has at most 135 bytes. Contracts see both.
 #[derive(Drop)]
 pub struct ToldLines<'a> {
     lines: Lines<'a>,
@@ -27,7 +28,7 @@ impl<'a> Model for ToldLines<'a> {
 }
 
 impl<'a> ToldLines<'a> {
-    /// No lines yet, of rows of the system with these names.
+    /// Returns no lines, for rows of the system with these names.
     pub fn new(alloc: Global, names: &'a Names<'a>) -> ToldLines<'a>
         ensures { result ≡ nothing_told names.now }
     {
@@ -37,7 +38,7 @@ impl<'a> ToldLines<'a> {
         }
     }
 
-    /// No lines, in the room of these.
+    /// Returns no lines, in the room of these.
     pub fn in_room_of(mut lines: Lines<'a>) -> ToldLines<'a>
         ensures { result ≡ nothing_told lines.entry.system }
     {
@@ -45,7 +46,7 @@ impl<'a> ToldLines<'a> {
         ToldLines { lines, rows: 0 }
     }
 
-    /// The lines alone.
+    /// Returns the lines only.
     pub fn into_lines(self) -> Lines<'a>
         ensures { result ≡ self.entry.lines }
     {
@@ -53,7 +54,7 @@ impl<'a> ToldLines<'a> {
     }
 }
 
-/// A row becomes a line. It is refused only where there is no memory, and all then stays as it was.
+/// Appends the line of a row. It is refused only if memory runs out, and then all is unchanged.
 impl Sink for ToldLines<'_> {
     ghost use Rattle.mcs_text.specs.Told.{TakesTold};
 
@@ -62,14 +63,14 @@ impl Sink for ToldLines<'_> {
     #[inline(always)]
     fn row(&mut self, row: &Row) -> Result<(), Refused> {
         self.lines.row(row)?;
-        // there are no more rows than bytes, so there is a next number
+        // there are at most as many rows as bytes, so the number can grow
         let _bytes = self.lines.as_slice().len();
         self.rows += 1;
         Ok(())
     }
 }
 
-/// The size is how many rows they are of.
+/// The size is the number of rows.
 impl Measured for ToldLines<'_> {
     ghost size = { λ told. told.rows };
 
@@ -79,7 +80,7 @@ impl Measured for ToldLines<'_> {
     }
 }
 
-/// They hold the rows whose lines they are, with their marks.
+/// It holds the rows whose lines and marks these are.
 impl Collector for ToldLines<'_> {
     ghost use Rattle.std.specs.Prelude.{◌≡◌, [], length};
     ghost use Rattle.mcs_text.specs.Told.{nothing_told, HoldsTold};
@@ -89,7 +90,7 @@ impl Collector for ToldLines<'_> {
 
     ghost amount = { length };
 
-    /// Nothing told, in the same room.
+    /// Removes all lines, and keeps their room.
     fn clear(&mut self)
         ensures emptied { HoldsTold self.new [] }
         ensures opened { self.new ≡ nothing_told self.old.lines.system }

@@ -1,4 +1,4 @@
--- What a sink was given, one row or one list after another.
+-- Lemmas on what a sink was given: single rows, and one list after another.
 use Rattle.std.proofs.Common.{◌≡◌, ℕ, ◌+◌, ◌<◌, length, length-append, refl, inr, Bool, true, cond, List, [], ◌∷◌, ◌++◌, sym, ap, ◌∙◌, subst, append-nil, append_assoc}
 use Rattle.std.specs.Prelude.{max}
 use Rattle.mcs_ticks.specs.declared.row.Row.{Row}

@@ -1,4 +1,5 @@
--- One list, of which the first of greatest priority is taken, and the same threads by priority, of which the first is taken.
+-- The queue in one list and the queue by priority hold the same threads: the best of one list is
+-- the first by priority.
 use Rattle.std.proofs.Common.{◌≡◌, Bool, true, false, cond, List, [], ◌∷◌, ◌++◌, refl, sym, ap, ◌∙◌, arith}
 use Rattle.std.specs.Prelude.{nat_lt, Some}
 use Rattle.std.proofs.lemmas.Bool.Decides.{nat_tests}

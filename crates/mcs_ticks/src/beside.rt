@@ -15,7 +15,7 @@ impl Sink for Nothing {
     }
 }
 
-/// Nothing has no size.
+/// The size is always 0.
 impl Measured for Nothing {
     ghost size = { λ _. 0 };
 
@@ -24,7 +24,7 @@ impl Measured for Nothing {
     }
 }
 
-/// What keeps nothing may have taken any rows.
+/// It keeps no rows, so it counts as holding any rows.
 impl Collector for Nothing {
     ghost use Rattle.std.specs.Prelude.{refl};
 
@@ -39,8 +39,8 @@ impl Collector for Nothing {
     ghost is_measured = { λ _ _ _. refl };
 }
 
-/// Two sinks that are told the same rows: each row goes to the first one and then to the second. Where the first refuses a row the second
-/// isn't told it.
+/// Two sinks that receive the same rows, `first` before `second`. If `first` refuses a row,
+/// `second` does not get it.
 #[derive(Debug, Drop)]
 pub struct Pair<A, B> {
     pub first: A,

@@ -1,5 +1,5 @@
-//! Time, the numbers of cores, threads, contexts, notifications and sources, and the rows of a schedule: the words that all other crates
-//! speak. Nothing here knows a scheduling rule.
+//! The types that all other crates share: time, the numbers of cores, threads, contexts,
+//! notifications and sources, and the rows of a schedule. No scheduling rule is defined here.
 #![tactic(auto)]
 
 mod beside;

@@ -1,8 +1,7 @@
 use std::alloc::{AllocError, AllocFailed};
 use thiserror::Error;
 
-/// A growth for which there was no memory. It is answered where the allocator refused, and where more is asked for than there is ever
-/// room for.
+/// Out of memory: the allocator refused, or the request exceeds what can ever be allocated.
 #[derive(Clone, Copy, Debug, PartialEq, Eq, Error)]
 #[error("no memory")]
 pub struct NoMemory;

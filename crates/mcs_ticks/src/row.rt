@@ -3,23 +3,23 @@ use crate::{ContextId, CoreId, NoteId, SourceId, ThreadId, Tick};
 /// Why a thread stops.
 #[derive(Clone, Copy, Debug, PartialEq, Eq)]
 pub enum Why {
-    /// The head of its context's refills, or its time slice, is wholly used.
+    /// The head of its context's refills, or its time slice, is exhausted.
     Spent,
-    /// It yielded: the whole head is charged, ticks that were not run included.
+    /// It yielded: the whole head is charged, including ticks that it did not run.
     Yield,
     /// It waits on a notification whose word is 0.
     Wait,
-    /// It calls a server that is taken.
+    /// It calls a server that is not free.
     Call,
-    /// It finished the last of its rounds.
+    /// It finished its last round.
     Done,
-    /// A thread of greater priority is ready.
+    /// A thread of higher priority is ready.
     Preempt,
     /// A SchedControl order reconfigures its context.
     Order,
 }
 
-/// What a row of the schedule says. Amounts and responses are in ticks.
+/// The event that a row of the schedule reports. Amounts and responses are in ticks.
 #[derive(Clone, Copy, Debug, PartialEq, Eq)]
 pub enum What {
     /// The thread leaves the release queue.
@@ -30,7 +30,8 @@ pub enum What {
     Run {
         thread: ThreadId,
     },
-    /// The thread stops and its context is charged. It enters the release queue with the date `until`, or none.
+    /// The thread stops and its context is charged `charged` ticks. It enters the release queue
+    /// with the date `until`; if that is `None`, it does not enter.
     Stop {
         thread: ThreadId,
         why: Why,
@@ -43,7 +44,7 @@ pub enum What {
         note: NoteId,
         badge: u32,
     },
-    /// A signal that another core, the maker, made arrives.
+    /// A signal from the core `maker` arrives.
     Arrive {
         note: NoteId,
         badge: u32,
@@ -55,7 +56,7 @@ pub enum What {
         note: NoteId,
         word: u32,
     },
-    /// No thread waits: the notification's word, after the badge was ORed in.
+    /// No thread waits; `word` is the notification's word after the badge was ORed in.
     Hold {
         note: NoteId,
         word: u32,
@@ -66,7 +67,8 @@ pub enum What {
         note: NoteId,
         word: u32,
     },
-    /// The thread's round with this number, from 1, ended; the response is its end less its beginning.
+    /// A round of the thread ended: its number, from 1, and its response time, from its beginning
+    /// to its end.
     Round {
         thread: ThreadId,
         number: u64,
@@ -76,7 +78,7 @@ pub enum What {
     Order {
         context: ContextId,
     },
-    /// A source interrupts: it posts this badge.
+    /// A source interrupts and posts this badge.
     Interrupt {
         source: SourceId,
         note: NoteId,

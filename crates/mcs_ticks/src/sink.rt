@@ -3,12 +3,12 @@ ghost use Rattle.std.specs.Prelude.{◌≡◌, ◌<◌, OnOk, vec_len, vec_capac
 use crate::{NoMemory, Row};
 use thiserror::Error;
 
-/// A sink takes a row no more.
+/// The sink takes no more rows.
 #[derive(Clone, Copy, Debug, PartialEq, Eq, Drop)]
 pub struct Refused;
 
-/// What takes rows, one after another. Each sink says by `takes` how it stands after a row, taken (true) or refused
-/// (false).
+/// Something that takes rows, one after another. Each sink defines `takes`: how the sink after a
+/// row relates to the sink before, if the row was taken (true) or refused (false).
 pub trait Sink {
     ghost use Rattle.std.specs.Prelude.{Bool, is_ok};
     ghost use Rattle.mcs_ticks.specs.declared.row.Row.{Row};
@@ -20,7 +20,7 @@ pub trait Sink {
         ensures { takes self.old row.now (is_ok result) self.new };
 }
 
-/// A list takes a row at its end. It refuses one only where there is no memory, and stays as it was.
+/// A list appends each row. It refuses a row only if memory runs out, and then stays unchanged.
 impl Sink for Vec<Row> {
     ghost use Rattle.std.specs.Prelude.{◌≡◌, ◌++◌, ◌∷◌, [], if◌then◌else◌};
 
@@ -36,7 +36,7 @@ impl Sink for Vec<Row> {
     }
 }
 
-/// Makes room for a row more, where there is none.
+/// Ensures room for one more row. Fails only if memory runs out.
 #[inline(always)]
 fn make_room(rows: &mut Vec<Row>) -> Result<(), Refused>
     ensures items { rows.new.items ≡ rows.old.items }
@@ -48,7 +48,7 @@ fn make_room(rows: &mut Vec<Row>) -> Result<(), Refused>
     Ok(())
 }
 
-/// Makes room for a row more. It is a call of its own, so that what takes each row is short.
+/// Allocates room for at least one more row. A separate call keeps the code for each row short.
 #[inline(never)]
 fn grow(rows: &mut Vec<Row>) -> Result<(), Refused>
     ensures items { rows.new.items ≡ rows.old.items }
@@ -60,18 +60,18 @@ fn grow(rows: &mut Vec<Row>) -> Result<(), Refused>
     Ok(())
 }
 
-/// A sink with a size, at which a run can end.
+/// A sink with a size; a run can end at a given size.
 pub trait Measured: Sink {
     ghost use Rattle.std.specs.Prelude.{◌≡◌, ℕ};
 
     ghost size: { Self → ℕ };
 
-    /// How much stands in it.
+    /// Returns the size of what it holds.
     fn size(&self) -> usize
         ensures { result ≡ size self.now };
 }
 
-/// The size of a list is how many rows it holds.
+/// The size of a list is its number of rows.
 impl Measured for Vec<Row> {
     ghost use Rattle.std.specs.Prelude.{length};
 
@@ -82,7 +82,8 @@ impl Measured for Vec<Row> {
     }
 }
 
-/// A sink that can be emptied, and that says which rows it holds: those that it took since it was empty. Its size is a measure of them.
+/// A sink that can be emptied. `holds` says which rows it took since it was last empty, and its
+/// size is a measure of these rows.
 pub trait Collector: Measured {
     ghost use Rattle.std.specs.Prelude.{◌≡◌, ◌++◌, ◌∷◌, [], true, ℕ, List};
     ghost use Rattle.mcs_ticks.specs.declared.row.Row.{Row};
@@ -91,7 +92,7 @@ pub trait Collector: Measured {
 
     ghost amount: { List Row → ℕ };
 
-    /// Lets go of what it holds. Its room stays.
+    /// Drops all rows that it holds, and keeps its capacity.
     fn clear(&mut self)
         ensures { holds self.new [] };
 
@@ -119,10 +120,10 @@ impl Collector for Vec<Row> {
     ghost is_measured = { Prim.search rules };
 }
 
-/// Why a simulation that gives its rows to a sink ends early.
+/// Why a simulation that writes its rows to a sink ends early.
 #[derive(Clone, Copy, Debug, PartialEq, Eq, Error)]
 pub enum FlowFault {
-    /// A growth was refused.
+    /// Out of memory.
     #[error("no memory")]
     NoMemory,
     /// The sink refused a row.

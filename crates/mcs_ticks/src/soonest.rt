@@ -4,7 +4,8 @@ ghost use Rattle.mcs_ticks.specs.Soonest.{moment_of, sooner, before, HasCome};
 use crate::{Limits, Tick};
 use std::marker::Model;
 
-/// A moment, or never, in one number, so that the sooner of two is the lesser number. Contracts see an option of a moment.
+/// A moment or never, kept in one number: the sooner of two is the smaller number. Contracts see an
+/// option of a moment.
 #[derive(Clone, Copy, Debug)]
 pub struct Soonest {
     number: u64,
@@ -24,7 +25,7 @@ impl Model for Soonest {
 }
 
 impl Soonest {
-    /// Never.
+    /// Returns never.
     pub fn never() -> Self
         ensures { result ≡ None }
     {
@@ -39,7 +40,7 @@ impl Soonest {
         self.number == u64::MAX
     }
 
-    /// This moment.
+    /// Returns this moment.
     #[inline(always)]
     pub fn at(moment: Tick) -> Self
         ensures { result ≡ Some moment }
@@ -49,7 +50,7 @@ impl Soonest {
         }
     }
 
-    /// This moment, or never for None.
+    /// Returns this moment, or never for `None`.
     #[inline(always)]
     pub fn of(moment: Option<Tick>) -> Self
         ensures { result ≡ moment }
@@ -60,7 +61,7 @@ impl Soonest {
         }
     }
 
-    /// The moment so many ticks after this one, or never where that is above 2^42.
+    /// Returns the moment `ticks` after this one, or never if that is above 2^42.
     #[inline(always)]
     pub fn after(moment: Tick, ticks: u64) -> Self
         ensures { result ≡ moment_of (moment + ticks) }
@@ -75,7 +76,7 @@ impl Soonest {
         }
     }
 
-    /// The sooner of two.
+    /// Returns the sooner of two.
     #[inline(always)]
     pub fn or(self, other: Soonest) -> Self
         ensures { result ≡ sooner self other }
@@ -85,7 +86,7 @@ impl Soonest {
         }
     }
 
-    /// The moment, or None for never.
+    /// Returns the moment, or `None` for never.
     #[inline(always)]
     pub fn moment(self) -> Option<Tick>
         ensures { result ≡ self }
@@ -93,7 +94,7 @@ impl Soonest {
         Tick::new(self.number)
     }
 
-    /// The moment, where it is before moment `to`, and else None.
+    /// Returns the moment if it is before `to`, otherwise `None`.
     #[inline(always)]
     pub fn before(self, to: Tick) -> Option<Tick>
         ensures { result ≡ before to self }
@@ -105,7 +106,7 @@ impl Soonest {
         }
     }
 
-    /// Whether it is moment `t` or one before it.
+    /// Whether it is moment `t` or an earlier one.
     #[inline(always)]
     pub fn has_come(self, t: Tick) -> bool
         ensures { IsTrue result ↔ HasCome t self }

@@ -2,8 +2,9 @@ ghost use Rattle.std.specs.Prelude.{◌≡◌, ℕ, ◌+◌, ◌^◌, ◌≤◌,
 
 use std::marker::Model;
 
-/// A moment, in whole ticks from the start of the run: moment `t` begins tick `t`. At most 2^42, which no run of profile M
-/// reaches, so that sums of a few moments and periods never overflow. Contracts see the number.
+/// A moment, in whole ticks from the start of the run: moment `t` begins tick `t`. It is at most
+/// 2^42, which no run of profile M reaches, so sums of a few moments and periods never overflow.
+/// Contracts see the number.
 #[derive(Clone, Copy, Debug, PartialEq, Eq, PartialOrd, Ord)]
 pub struct Tick {
     ticks: u64,
@@ -25,7 +26,7 @@ impl Tick {
 
     const LATEST: u64 = 1 << 42;
 
-    /// The moment with this number of ticks before it, or None above 2^42.
+    /// Returns the moment `ticks` after the start, or `None` above 2^42.
     pub fn new(ticks: u64) -> Option<Self>
         ensures some { IsSome result ↔ (ticks ≤ 2 ^ 42) }
         ensures value { IfSome result (λ tick. tick ≡ ticks) }
@@ -37,7 +38,7 @@ impl Tick {
         }
     }
 
-    /// The moment with this number of ticks before it, where that is known to be at most 2^42.
+    /// Returns the moment `ticks` after the start. The caller ensures that it is at most 2^42.
     #[inline(always)]
     pub fn at(ticks: u64) -> Self
         requires { ticks ≤ 2 ^ 42 }
@@ -46,7 +47,7 @@ impl Tick {
         Tick { ticks }
     }
 
-    /// The number of ticks before this moment, at most 2^42.
+    /// Returns the number of ticks since the start, at most 2^42.
     pub fn get(self) -> u64
         ensures value { result ≡ self }
         ensures in_range { result ≤ 2 ^ 42 }
@@ -54,7 +55,7 @@ impl Tick {
         self.ticks
     }
 
-    /// The moment `ticks` later, or None where that is above 2^42.
+    /// Returns the moment `ticks` later, or `None` above 2^42.
     pub fn plus(self, ticks: u64) -> Option<Self>
         ensures some { IsSome result ↔ (self + ticks ≤ 2 ^ 42) }
         ensures value { IfSome result (λ tick. tick ≡ self + ticks) }

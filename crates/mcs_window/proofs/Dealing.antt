@@ -90,7 +90,7 @@ module _ (system : System) where
     as_many : (d : State) (c : ℕ) → c < system.cores → length (cores d c).contexts ≡ length system.contexts
     as_many d c l = ((are.fit c d l).sound (are.whole c d l)).contexts
 
-    -- of the next context its own core has the view, and the others have none
+    -- the core of the next context has its view, and the others do not
     next-own : (d : State) (x : ℕ) → (context_part system x).core < system.cores → x < length system.contexts →
         own_view system x (cores d (context_part system x).core).running (get_or (cores d (context_part system x).core).contexts x None) ≡ view_in system (cores d) x ∷ []
     next-own d x l k =
@@ -203,7 +203,7 @@ slots-at system clocks slots many stand c x l =
     stands-in (Here spare state) stands = stands.1
     stands-in (Away loan) stands = absurd stands
 
--- the views of states that stand as the clock has them are those of the clock
+-- the views of states of the global clock are those of the clock
 pub views-here : (system : System) → IsWellFormed system → (clocks : List ℕ) (states : List State) → AreAt system clocks states → (views : List ContextView) → ((d : State) → views ≡ views_in system (λ c. (get_or states c d).core)) →
     views ≡ views_at system clocks
 views-here system well clocks states stand views are =
@@ -216,11 +216,11 @@ views-here system well clocks states stand views are =
     d : State
     d = opening_state system 0
 
--- and they show the whole budgets
+-- these views show the whole budgets
 pub shown-here : (system : System) → IsWellFormed system → (clocks : List ℕ) (views : List ContextView) → views ≡ views_at system clocks → AreShownAt system clocks views
 shown-here system well clocks views e = subst (AreShownAt system clocks) (sym e) (views-shown system well (slice_index clocks))
 
--- where all clocks are at one moment, the views are those before it
+-- if all clocks are at one moment, the views are those before it
 pub views-at_one : (system : System) → IsWellFormed system → (clocks : List ℕ) (t : ℕ) → ((c : ℕ) → c < system.cores → slice_index clocks c ≡ t) → views_at system clocks ≡ views_before system t
 views-at_one system well clocks t at =
     map-same (view_in system (λ c. core_shown system (world system (slice_index clocks c)) c)) (view_in system (λ c. core_shown system (world system t) c)) (length system.contexts) 0

@@ -1,4 +1,5 @@
--- A calendar of idle cores holds on where all skip idle time, and where one of them takes turns without a signal.
+-- A calendar of idle cores still holds after all cores skip idle time, and after one of them takes
+-- turns without a signal.
 use Rattle.std.proofs.Common.{◌≡◌, ◌≢◌, ℕ, zero, suc, ◌+◌, ◌-◌, ◌<◌, ◌≤◌, false, List, [], ◌∷◌, length, set, inl, inr, refl, sym, ap, subst, ◌∙◌, add-zero, arith}
 use Rattle.std.specs.Prelude.{filter, slice_index}
 use Rattle.std.specs.Arc.{arc_value}
@@ -51,7 +52,7 @@ module _ (system : System) (c : ℕ) where
       same : (n u v : ℕ) (box other : List Mail) (core k : Core) → u ≡ v → box ≡ other → core ≡ k → IsQuiet system c (u + n) (arriving (u + n) box) (counted_times system c n core) → IsQuiet system c (v + n) (arriving (v + n) other) (counted_times system c n k)
       same n u v box other core k e f g h = rw (sym e, sym f, sym g) h
 
--- where another core takes its turns up to before `to` without a signal
+-- another core takes its turns up to before `to` without a signal
 module _ (system : System) (well : IsWellFormed system) (clocks : List ℕ) (k to : ℕ) (in_clocks : k < length clocks) (known : k < system.cores) (forward : slice_index clocks k ≤ to)
     (silent : signals_between system k (slice_index clocks k) to ≡ []) where
   abbrev later : List ℕ
@@ -69,7 +70,7 @@ module _ (system : System) (well : IsWellFormed system) (clocks : List ℕ) (k t
       let Q : List Mail → Type 0 = λ box. AreQuiet system c (slice_index clocks c) box (core_at system (world system (slice_index clocks c)) c) (b - slice_index clocks c) in
       subst P (sym here) (subst Q (same-inbox c (slice_index clocks c) reached) idle)
 
--- nothing is known of a core at moment 0
+-- an entry that is set to 0
 zero-set : (xs : List ℕ) (k : ℕ) → slice_index (set xs k 0) k ≡ 0
 zero-set [] k = refl
 zero-set (x ∷ xs) zero = refl

@@ -1,4 +1,4 @@
--- What `Cores` keeps, after a core's turns and where it was out of memory.
+-- The invariant of `Cores` after a core's turns, and after memory ran out.
 use Rattle.std.proofs.Common.{◌≡◌, ℕ, ◌+◌, ◌<◌, ◌≤◌, true, false, List, [], ◌++◌, length, Vec, get_or, set, inl, inr, sym, ap, ◌∙◌, subst, arith}
 use Rattle.std.specs.Prelude.{slice_index}
 use Rattle.std.specs.Arc.{arc_value}

@@ -1,4 +1,4 @@
--- How far a core may be lent, and that some core may where nothing is lent and there is still something to do.
+-- How far a core may be lent; some core may be lent if no core is lent and a turn is left.
 use Rattle.std.proofs.Common.{◌≡◌, ◌≢◌, ℕ, zero, suc, ◌+◌, ◌-◌, ◌<◌, ◌≤◌, Bool, true, false, length, set, min, inl, inr, refl, ap, ◌∙◌, arith}
 use Rattle.std.specs.Prelude.{fold, sum_by, slice_index, ◌==◌, nat_le, if◌then◌else◌}
 use Rattle.std.specs.List.{range_with_len}
@@ -94,7 +94,7 @@ least f (suc (suc n)) l = by (least f (suc n) (omega arith))
             let g : f (suc n) ≤ f m = grind (arith, nat_tests) in
             (suc n, omega arith, λ k i. last (suc n) k i (omega arith) (λ q. let r = h k q in omega arith))
 
--- where nothing is lent and no core may be lent, all is done
+-- if no core is lent and none may be lent, all turns are taken
 pub goes_on : (table : Table) → 0 < table.system.cores → TakesTime table.system → ((c : ℕ) → c < table.system.cores → clock_of table c ≤ table.horizon + 1) → AllAreHere table →
     ((c : ℕ) → ¬ MayLend table c) → IsFinished table
 goes_on table some takes_time in_time here stuck c l = by (least (clock_of table) table.system.cores some)
@@ -141,7 +141,7 @@ sum-less f g (suc n) c l h less =
           let before = sum-less f g n c (omega arith) (λ b k. h b (omega arith)) less in omega (arith, sum-more f n, sum-more g n))
     ]
 
--- where a core has gone on there are fewer turns left
+-- after a core has taken turns there are fewer left
 pub turns-fewer : (table : Table) (c to : ℕ) → c < table.system.cores → table.system.cores ≤ length table.clocks → clock_of table c < to → to ≤ table.horizon + 1 → turns_left (settled_at table c to) < turns_left table
 turns-fewer table c to known clocks ahead in_time =
     sum-less (λ b. table.horizon + 1 - clock_of table b) (λ b. table.horizon + 1 - slice_index (set table.clocks c to) b) table.system.cores c known each own

@@ -1,4 +1,4 @@
--- A desk of which a core is lent.
+-- A desk after a core was lent.
 use Rattle.std.proofs.Common.{Box, ◌≡◌, ℕ, ◌<◌, ◌≤◌, Some, None, List, [], length, map, get_or, set, inl, inr, refl, sym, ap, ◌∙◌, subst, arith}
 use Rattle.std.specs.Prelude.{slice_index}
 use Rattle.std.specs.Arc.{arc_value}
@@ -68,7 +68,7 @@ module _ {S : Type 0} {holds : S → List Row → Type 0} (a : Inside S) (kept :
         far = λ b l other _. past_by-reached (table_of a) k system.cores b l other;
       }
 
-  -- and so for no more than so many moments
+  -- and for at most `span` moments
   pub may_go_within : (k span : ℕ) → MayLend (table_of a) k → 1 ≤ span → MayGoOn (table_of a) k (past_within (table_of a) span k)
   may_go_within k span may some =
       let all = may_go_on k may in
@@ -144,6 +144,6 @@ module _ {S : Type 0} {holds : S → List Row → Type 0} (a : Inside S) (kept :
       one : Some loan ≡ Some (record { past = past; front = a.clocks })
       one = rw (← past_is, ← front) refl
 
-  -- where nothing is lent and no core may be lent, all is done
+  -- if no core is lent and none may be lent, all turns are taken
   pub all_done : AllAreHere (table_of a) → ((c : ℕ) → ¬ MayLend (table_of a) c) → IsFinished (table_of a)
   all_done = goes_on (table_of a) kept.well_formed.limits.cores.0 (takes_time system kept.well_formed) kept.since.in_time

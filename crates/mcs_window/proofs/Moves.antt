@@ -131,7 +131,7 @@ clocks-all progress (move ∷ ms) takes_time full may =
     ∙ ap (λ clocks. clocks_after clocks (turns_in next ms)) (sym (clocks-after progress move takes_time full may.0))
     ∙ sym (after-append progress.clocks (turns_of progress move) (turns_in next ms))
 
--- where the turns of each move are safe in a sense, those of all are
+-- if the turns of each move are safe in a sense, those of all are
 module _ (IsFine : System → ℕ → List ℕ → List ℕ → Type 0) (none : (system : System) (horizon : ℕ) (clocks : List ℕ) → IsFine system horizon clocks []) (join : (system : System) (horizon : ℕ) (clocks xs ys : List ℕ) → IsFine system horizon clocks xs → IsFine system horizon (clocks_after clocks xs) ys → IsFine system horizon clocks (xs ++ ys)) (P : Progress → Move → Type 0) (one : (progress : Progress) (move : Move) → TakesTime progress.system → IsFull progress → MayMove progress move → P progress move → IsFine progress.system progress.horizon progress.clocks (turns_of progress move)) where
   all-fine : (progress : Progress) (ms : List Move) → TakesTime progress.system → IsFull progress → AreMade progress ms → Each P progress ms → IsFine progress.system progress.horizon progress.clocks (turns_in progress ms)
   all-fine progress [] takes_time full may fine = none progress.system progress.horizon progress.clocks

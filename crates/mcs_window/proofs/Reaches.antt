@@ -7,7 +7,7 @@ use Rattle.mcs_window.specs.Progress.{Progress, IsBehind, clock_of}
 use Rattle.mcs_stretch.specs.Stretch.{NothingArrivesBefore}
 use Rattle.mcs_stretch.proofs.Reaches.{by-delays}
 
--- where no other core is behind
+-- no other core is behind
 pub none-behind : (progress : Progress) (c to : ℕ) → ((b : ℕ) → IsBehind progress c b → ⊥) → to ≡ clock_of progress c + 1 → NothingArrivesBefore progress.system c to progress.clocks
 none-behind progress c to none is = by-delays progress.system c to progress.clocks (λ b known other. far b known other (nat_le (clock_of progress b + delay_between progress.system b c) (clock_of progress c)) refl)
   where

@@ -1,4 +1,4 @@
--- After how long a core may reach another one, by the scripts of its threads.
+-- How soon a core may reach another one, by the scripts of its threads.
 use Rattle.std.proofs.Common.{◌≡◌, ◌≢◌, ℕ, zero, suc, ◌+◌, ◌<◌, ◌≤◌, ◌^◌, ◌⊎◌, Option, Some, None, List, [], ◌∷◌, ◌++◌, length, get_or, set, inl, inr, refl, sym, ap, ◌∙◌, subst, min, Bool, true, false, arith}
 use Rattle.std.specs.Prelude.{nat_lt, slice_index}
 use Rattle.std.specs.Arc.{arc_value}
@@ -20,7 +20,7 @@ use Rattle.mcs_window.specs.stored.Reaches.{home_signalled, IsReach, SignalsUnti
 use Rattle.mcs_stretch.proofs.Inboxes.{of_turn}
 use Rattle.mcs_window.proofs.Lending.{past_by, past_by-own, past_by-other}
 
--- where the scripts say no more
+-- the reach under a premise Q that implies P
 pub reach-less : (system : System) (maker home reach : ℕ) (P Q : Type 0) → (Q → P) → IsReach system maker home P reach → IsReach system maker home Q reach
 reach-less system maker home reach P Q f is = record { least = is.least; most = is.most; is_delay = λ q. is.is_delay (f q) }
 
@@ -130,7 +130,7 @@ delays_from-more system many rows more row h is e =
         let same : maker ≡ many = grind (arith, nat_tests) in
         ap (λ (y : List ℕ). slice_index y home) (get_or_push rows row x maker (let many_are = h.many_are in omega arith)) ∙ is home m ∙ ap (λ b. delay_between system b home) (sym same)
 
--- rows of makers of which nothing was read
+-- rows of makers before any script was read
 pub record AreNever (many : ℕ) (rows : List (List ℕ)) : Type 0 where
   pub many_are : length rows ≡ many
   pub each : (maker home : ℕ) (x : List ℕ) → maker < many → home < 64 → slice_index (get_or rows maker x) home ≡ 2 ^ 41

@@ -1,4 +1,4 @@
--- A desk that takes turns by itself: the core that goes on, and idle time that is skipped.
+-- A desk that takes turns in place: the core that runs, and skipped idle time.
 use Rattle.std.proofs.Common.{◌≡◌, ℕ, zero, suc, ◌+◌, ◌-◌, ◌≤◌, false, Option, None, List, [], ◌∷◌, get_or, set, refl, subst, sym, arith}
 use Rattle.mcs_window.specs.Desk.{Table, AllAreHere, WentByScripts, IsLater, clock_of, settled_at, turns_left}
 use Rattle.mcs_stretch.specs.Idle.{AreSet}

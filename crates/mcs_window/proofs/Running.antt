@@ -1,4 +1,4 @@
--- A desk whose cores take their turns where they lie.
+-- A desk whose cores take their turns in place.
 use Rattle.std.proofs.Common.{◌≡◌, ◌≢◌, ℕ, ◌<◌, ◌≤◌, Bool, true, Some, None, List, [], ◌∷◌, ◌++◌, length, map, Vec, get_or, set, inl, inr, refl, sym, ap, ◌∙◌, subst, arith}
 use Rattle.std.specs.Prelude.{filter, slice_index}
 use Rattle.std.specs.Arc.{arc_value}
@@ -55,7 +55,7 @@ respent_are boxes full k box l same =
     subst (λ xs. AreSameMail (set boxes.items k box) (set xs k box)) (sym (with_items_is boxes full (let ok = boxes.ok.0 in let many = same.many in omega arith)))
     (respent boxes.items full k box l same)
 
--- what a core told is taken, or it is gone
+-- the rows of a core are taken, or they are gone
 pub since_taken : {S : Type 0} {holds : S → List Row → Type 0} (a : Inside S) → IsKept holds a → (k clock : ℕ) (told : List S) (none : S) → k < (arc_value a.system).cores → holds none [] → told ≡ set a.told.items k none
     → clock ≡ slice_index a.clocks k → AreSince holds (arc_value a.system) a.horizon a.clocks (set a.taken k clock) told
 since_taken {S} {holds} a kept k clock told none known none_is told_are clock_is =
@@ -221,7 +221,7 @@ module _ {S : Type 0} {holds : S → List Row → Type 0} (a : Inside S) (kept :
         turns-fewer (table_of a) k to may.known (let all = kept.clocks_of in let few = kept.few in omega arith) gone.later
         (let l = gone.in_time in let h = may.in_time in omega arith)
 
-  -- the desk shows a core that stays lent, and nothing that it told
+  -- the desk shows a core that stays lent, without its rows
   pub spent_shows : (slots : List Slot) (loan : Loan) (clock : ℕ) → loan.past ≡ past → loan.front ≡ a.clocks → slots ≡ set a.slots.items k (Away loan) → clock ≡ slice_index a.clocks k →
       record (table_of a) { lost = true; taken = set a.taken k clock; loans = map slot_loan slots } ≡ taken_at (with_lost (lent_to (table_of a) k past)) k
   spent_shows slots loan clock past_is front_is slots_are clock_is =
@@ -232,7 +232,7 @@ module _ {S : Type 0} {holds : S → List Row → Type 0} (a : Inside S) (kept :
       one : loan ≡ record { past = past; front = a.clocks }
       one = rw (← past_is, ← front_is) refl
 
-  -- memory was refused: the core stays lent, without its mail and what it told
+  -- memory ran out: the core stays lent, without its mail and its rows
   module _ (slots : Vec Slot Global) (boxes : Vec Content Global) (told : Vec S Global) (signals : Vec Mail Global) (loan : Loan) (box : Content) (none : S) (past_is : loan.past ≡ past)
       (front_is : loan.front ≡ a.clocks) (box_is : box.mails ≡ []) (none_is : holds none []) (slots_are : slots.items ≡ set a.slots.items k (Away loan)) (boxes_are : AreSameMail (set a.boxes.items k box) boxes.items)
       (told_are : told.items ≡ set a.told.items k none) (clock : ℕ) (clock_is : clock ≡ slice_index a.clocks k) where

@@ -1,4 +1,4 @@
--- What a settlement moves: the room for it, and the boxes that get it.
+-- Room for a settlement, and the boxes that get its mail.
 use Rattle.std.proofs.Common.{Box, ◌≡◌, ◌≢◌, ℕ, zero, suc, ◌+◌, ◌-◌, ◌<◌, ◌≤◌, Bool, true, false, cond, List, [], ◌∷◌, ◌++◌, length, Vec, get_or, set, take, drop, Some, None, Result, Ok, Err, inl, inr, refl, sym, ap, ◌∙◌, subst, arith}
 use Rattle.std.specs.Prelude.{filter, ◌==◌, slice_index, is_err, OnOk}
 use Rattle.std.specs.Arc.{arc_value}
@@ -35,7 +35,7 @@ use Rattle.mcs_stretch.proofs.Deliveries.{signals_from, home-news}
 use Rattle.mcs_window.proofs.Advances.{here_own, here_other, since_later}
 use Rattle.mcs_stretch.proofs.Later.{takes_time, rises, later_other, signals_own}
 
--- of the first signals no more are for a core than there are
+-- at most i of the first i signals are for a core
 pub count-fits : (system : System) (c i : ℕ) (signals : List Mail) → count_for system c (take i signals) ≤ i
 count-fits system c zero signals = omega arith
 count-fits system c (suc i) [] = omega arith
@@ -138,7 +138,7 @@ own-none system c low high =
     filter-flat_map-none (is_home system c) (λ m. (clocks.turn_of system c m).mails) (high - low) low
     (λ m _ _. away-none system c m (clocks.turn_of system c m).mails (out_of_turn system 0 [] c m))
 
--- so the box that comes back needs no room for them
+-- the box that comes back needs no room for them
 pub room-joined : (system : System) (c : ℕ) (out : List Mail) (mailbox : Content) (boxes joined : List Content) → HaveRoom system out boxes → IsJoined c mailbox boxes joined → filter (is_home system c) out ≡ []
     → HaveRoom system out joined
 room-joined system c out mailbox boxes joined room is none b x l = elim (eqb_tells b c) [
@@ -172,7 +172,7 @@ module _ (system : System) (well : IsWellFormed system) (front : List ℕ) (c to
             (subst (λ ms. AreNews system b loan.past front later ms) (sym (home-news system b loan.past front later (still b loan.past loan.front away.reached away.rises))) (news-are system b loan.past front later));
       }
 
-  -- each other core is placed as it was
+  -- each other core keeps its place
   pub placed_other : (horizon b : ℕ) (box : List Mail) (slot : Slot) → b ≢ c → IsPlaced system horizon b front box slot → IsPlaced system horizon b later (with_delivered b box) slot
   placed_other horizon b box (Here spare state) other placed = (placed.0, here_other system well front c to known b state.value box other forward placed.1)
   placed_other horizon b box (Away loan) other placed = away_later horizon b loan box other placed

@@ -1,4 +1,4 @@
--- What `Cores` keeps where idle time is skipped.
+-- The invariant of `Cores` when idle time is skipped.
 use Rattle.std.proofs.Common.{◌≡◌, ◌≢◌, ℕ, ◌+◌, ◌-◌, ◌<◌, ◌≤◌, ◌^◌, false, List, [], ◌++◌, length, map, max, get_or, set, inl, inr, refl, sym, ap, ◌∙◌, subst, arith, append-nil}
 use Rattle.std.specs.Prelude.{Option, Some, None, slice_index}
 use Rattle.std.specs.Arc.{arc_value}

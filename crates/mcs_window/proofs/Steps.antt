@@ -23,7 +23,7 @@ module _ (R : ℕ → ℕ → Type 0) where
     in_time : past ≤ table.horizon + 1
     far : (b : ℕ) → b < table.system.cores → b ≢ c → R b c → past ≤ clock_of table b + delay_between table.system b c
 
-  -- and so it is for every loan
+  -- and this holds for every loan
   record IsSound (table : Table) : Type 0 where
     many : table.system.cores ≤ length table.clocks
     loans_of : table.system.cores ≤ length table.loans
@@ -32,7 +32,7 @@ module _ (R : ℕ → ℕ → Type 0) where
   abbrev LeadsOn : Table → List ℕ → Table → Type 0
   LeadsOn table turns after = Leads table.system table.horizon R (clock_of table) turns (clock_of after)
 
-  -- a core has come to a later moment and is not lent
+  -- a core that is not lent moves to a later moment
   module _ (table : Table) (c past : ℕ) (sound : IsSound table) (known : c < table.system.cores) (ahead : clock_of table c ≤ past) where
     own : slice_index (set table.clocks c past) c ≡ past
     own = get_or-set_same table.clocks c past 0 (let m = sound.many in omega arith)
@@ -101,7 +101,7 @@ module _ (R : ℕ → ℕ → Type 0) where
         far = λ b l other r. let a = may.in_time in let f = past_by-reached table c table.system.cores b l other in omega arith;
       }
 
-  -- what is asked of a core that goes on the desk
+  -- the condition for a core that takes turns on the desk
   abbrev IsFine : Table → Step → Type 0
   IsFine table (Lend c past) = Unit {0}
   IsFine table (Settle c) = Unit {0}
@@ -209,7 +209,7 @@ module _ (R : ℕ → ℕ → Type 0) where
       (record { many = (let e = length-replicate {A = ℕ} system.cores 0 in omega arith); each = λ b l. zero_at system.cores b ∙ sym (zero_at 64 b) }) in
       (all.0, λ c l. sym (all.1.each c l))
 
--- where no core goes
+-- no core takes turns on the desk
 none-fine : (table : Table) (steps : List Step) → NoneGoes steps → AreFine (λ b c. Unit {0}) table steps
 none-fine table [] h = tt
 none-fine table (step ∷ steps) h = (one step h.0, none-fine (after_step table step) steps h.1)
@@ -254,7 +254,7 @@ scripts-order system horizon ss takes_time few taken =
       subst (λ n. (c : ℕ) → c < n.cores → clock_of (after_steps opening ss) c ≡ slice_index (clocks_after (replicate n.cores 0) (turns_in opening ss)) c) (sym (same-system (Signals system) opening ss)) all.1,
     )
 
--- loans stay safe in the first sense while other cores go on
+-- loans stay safe in the first sense while other cores take turns
 sound-step : (table : Table) (step : Step) → TakesTime table.system → IsSound (λ b c. Unit {0}) table → MayTake table step → IsNoLoss step → IsSound (λ b c. Unit {0}) (after_step table step)
 sound-step table (Lend c past) takes_time sound may no_loss = (step-leads (λ b c. Unit {0}) table (Lend c past) takes_time sound may tt).1
 sound-step table (Settle c) takes_time sound may no_loss = (step-leads (λ b c. Unit {0}) table (Settle c) takes_time sound may tt).1

@@ -49,7 +49,7 @@ views_after_the_order :
     ∷ []
 views_after_the_order = refl
 
--- where a context is left out the views are not those of the system
+-- views that leave out a context are not those of the system
 a_context_left_out :
     AreShownBefore mixed 0
     (record { context = 0; refills = record { begins = 0; amount = 2 } ∷ []; left = None; using = 0 } ∷ record { context = 1; refills = []; left = Some 3; using = 0 } ∷ []) → ⊥

@@ -10,7 +10,8 @@ use Rattle.mcs_stretch.proofs.Reaches.{by-delays}
 abbrev two : System
 two = record { cores = 2; delay = 2; call = 1; min_budget = 1; contexts = []; notes = []; threads = []; orders = []; links = []; servers = 0; sources = []; beats = []; chains = [] }
 
--- core 0 steps, core 1 goes on to 3, its rows are taken, idle time is skipped to moment 4, core 1 steps, and then memory is refused
+-- core 0 steps, core 1 advances to 3, its rows are taken, idle time is skipped to moment 4, core 1
+-- steps, and then memory runs out
 abbrev six : List Move
 six = Step 0 ∷ Advance 1 3 ∷ TakeRows 1 ∷ Skip 4 ∷ Step 1 ∷ Fail ∷ []
 
@@ -24,7 +25,7 @@ turns_by_moves = refl
 clocks_by_moves : after_moves opening six ≡ record { system = two; horizon = 5; clocks = 4 ∷ 5 ∷ []; taken = 0 ∷ 3 ∷ []; failed = true }
 clocks_by_moves = refl
 
--- with a delay of 2 core 1 may go on to 3 where core 0 is at 1
+-- with a delay of 2 core 1 may advance to 3 if core 0 is at 1
 allows_3 : (b : ℕ) → b < 2 → b ≢ 1 → 3 ≤ slice_index (1 ∷ 0 ∷ []) b + 2
 allows_3 zero l other = omega arith
 allows_3 (suc zero) l other = absurd (other refl)
@@ -53,6 +54,7 @@ six_are_made = (
 six_by_delays : Each IsByDelays opening six
 six_by_delays = (tt, (allows_3, (tt, (tt, (tt, (tt, tt))))))
 
--- an advance is turns of its core; where such an order is safe by the signals and not by the scripts `WorkedOrders` of mcs_stretch shows
+-- an advance is turns of its core; `WorkedOrders` of mcs_stretch has such an order that is safe by
+-- the signals and not by the scripts
 turns_of_advance : turns_in opening (Advance 0 2 ∷ []) ≡ 0 ∷ 0 ∷ []
 turns_of_advance = refl

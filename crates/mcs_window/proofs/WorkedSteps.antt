@@ -9,7 +9,8 @@ abbrev two : ℕ → System
 two delay =
     record { cores = 2; delay = delay; call = 1; min_budget = 1; contexts = []; notes = []; threads = []; orders = []; links = []; servers = 0; sources = []; beats = []; chains = [] }
 
--- both are lent, core 1 comes back first, idle time is skipped to moment 4, and core 1 goes on by itself
+-- both are lent, core 1 comes back first, idle time is skipped to moment 4, and core 1 takes turns
+-- in place
 turns_by_settling :
     turns_in (opening_table (two 2) 5)
     (Lend 0 2 ∷ Lend 1 2 ∷ Settle 1 ∷ TakeRows 1 ∷ Settle 0 ∷ Skip 4 (4 ∷ 4 ∷ []) ∷ Go 1 6 ∷ Forfeit ∷ [])

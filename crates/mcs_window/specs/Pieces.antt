@@ -1,4 +1,4 @@
--- A piece of a core's work, and what it is when it is done, as contracts see them.
+-- A piece of a core's work, and its outcome, as contracts see them.
 use Rattle.std.specs.Prelude.{◌≡◌, ℕ, ◌+◌, ◌<◌, ◌≤◌, ◌^◌, List, slice_index}
 use Rattle.mcs_ticks.specs.declared.row.Row.{Row}
 use Rattle.mcs_mail.specs.declared.mail.Mail.{Mail}
@@ -27,7 +27,8 @@ pub record Outcome : Type 0 where
   pub out : List Mail
   pub mail : List Mail
 
--- the moments from `first` to before `past`, which the clocks in `front` allow; it has 0 past the last core
+-- the moments from `first` to before `past`, which the clocks in `front` allow; entries of `front`
+-- past the last core are 0
 pub record IsStretch (system : System) (core first past : ℕ) (front : List ℕ) : Type 0 where
   pub known : core < system.cores
   pub in_order : first ≤ past
@@ -35,7 +36,7 @@ pub record IsStretch (system : System) (core first past : ℕ) (front : List ℕ
   pub reached : NothingArrivesBefore system core past front
   pub idle : (b : ℕ) → system.cores ≤ b → slice_index front b ≡ 0
 
--- what stands before the stretch, and what stands after it
+-- state and mail are those before the stretch (`IsWork`), or those after it (`IsOutcome`)
 pub record IsWork (work : Work) : Type 0 where
   pub stretch : IsStretch work.system work.core work.first work.past work.front
   pub state_is : StandsAt work.system work.core work.first work.state
@@ -48,7 +49,7 @@ pub record IsOutcome (outcome : Outcome) : Type 0 where
   pub out_is : outcome.out ≡ signals_between outcome.system outcome.core outcome.first outcome.past
   pub mail_is : outcome.mail ≡ inbox outcome.system outcome.core outcome.past outcome.front
 
--- a piece and a result of one stretch of one system
+-- a piece and an outcome of one stretch of one system
 pub record IsOf (work : Work) (outcome : Outcome) : Type 0 where
   pub system : outcome.system ≡ work.system
   pub core : outcome.core ≡ work.core

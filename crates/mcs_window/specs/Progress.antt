@@ -1,11 +1,12 @@
--- How far each core of a system has come: every core has a clock of its own, the next moment that it takes.
+-- Progress of the cores of a system: each core has its own clock, the time of its next turn.
 use Rattle.std.specs.Prelude.{◌≡◌, ◌≢◌, ◌⊎◌, ℕ, suc, ◌+◌, ◌<◌, ◌≤◌, Bool, true, false, List, [], ◌∷◌, map, max, replicate, slice_index, slice_set}
 use Rattle.mcs_system.specs.System.{System, delay_between}
 use Rattle.mcs_window.specs.declared.fault.StepFault.{StepFault}
 use Rattle.mcs_window.specs.declared.fault.StepFault.TheVariants.{Ended, NotSafe, NoMemory}
 use Rattle.mcs_stretch.specs.Safe.{MayStep, IsSafe}
 
--- the clocks, the clocks at the last taking of each core's rows, and whether there was no memory for a step
+-- `taken`: the clock of each core when its rows were last taken; `failed`: memory ran out for a
+-- step
 pub record Progress : Type 0 where
   pub system : System
   pub horizon : ℕ
@@ -29,14 +30,14 @@ opening_progress system horizon =
       failed = false;
     }
 
--- core c comes to a later moment, or takes the turn at its clock
+-- core c moves to a later moment, or takes the turn at its clock
 abbrev pub advanced : Progress → ℕ → ℕ → Progress
 advanced progress c to = record progress { clocks = slice_set progress.clocks c to }
 
 abbrev pub stepped : Progress → ℕ → Progress
 stepped progress c = advanced progress c (suc (clock_of progress c))
 
--- each clock that is before the moment is set to it
+-- all earlier clocks are set to the moment
 abbrev pub skipped : Progress → ℕ → Progress
 skipped progress moment = record progress { clocks = map (λ clock. max clock moment) progress.clocks }
 
@@ -44,7 +45,7 @@ skipped progress moment = record progress { clocks = map (λ clock. max clock mo
 abbrev pub with_taken : Progress → ℕ → Progress
 with_taken progress c = record progress { taken = slice_set progress.taken c (clock_of progress c) }
 
--- there was no memory for a step
+-- memory ran out for a step
 abbrev pub with_failed : Progress → Progress
 with_failed progress = record progress { failed = true }
 
@@ -59,19 +60,20 @@ pub record IsFirstBehind (progress : Progress) (c b : ℕ) : Type 0 where
   pub behind : IsBehind progress c b
   pub first : (d : ℕ) → d < b → ¬ IsBehind progress c d
 
--- core c may step, and it was never out of memory
+-- core c may step, and memory never ran out
 pub record IsReady (progress : Progress) (c : ℕ) : Type 0 where
   pub whole : progress.failed ≡ false
   pub may : MayStep progress.system progress.horizon progress.clocks c
 
--- when each fault of a step comes, in this order of tests; there is no memory after it was wanted once
+-- the condition of each fault of a step, in the order of the checks; after one `NoMemory` every
+-- step is refused with it
 abbrev pub IsFault : Progress → ℕ → StepFault → Type 0
 IsFault progress c Ended = (progress.failed ≡ false) × (clock_of progress c ≡ progress.horizon + 1)
 IsFault progress c (NotSafe b) =
     (progress.failed ≡ false) × (clock_of progress c ≤ progress.horizon) × IsFirstBehind progress c b
 IsFault progress c NoMemory = (progress.failed ≡ true) ⊎ IsReady progress c
 
--- only being out of memory changes anything
+-- only a failed allocation changes anything
 abbrev pub after_fault : StepFault → Progress → Progress
 after_fault Ended progress = progress
 after_fault (NotSafe b) progress = progress
@@ -82,13 +84,13 @@ abbrev pub TakeTurns : Progress → List ℕ → Type 0
 TakeTurns progress [] = Unit {0}
 TakeTurns progress (c ∷ cs) = IsReady progress c × TakeTurns (stepped progress c) cs
 
--- then the list is a safe order
+-- such a list is a safe order
 abbrev pub TurnsAreSafe : Type 0
 TurnsAreSafe =
     (progress : Progress) (cs : List ℕ) → TakeTurns progress cs
     → IsSafe progress.system progress.horizon progress.clocks cs
 
--- a core that no other one is behind is not refused, unless it has taken its turn at the horizon
+-- a core with the minimum clock may step, unless it has taken its turn at the horizon
 abbrev pub TheLeastMayStep : System → Type 0
 TheLeastMayStep system =
     (horizon : ℕ) (clocks : List ℕ) (c : ℕ) → c < system.cores → slice_index clocks c ≤ horizon →

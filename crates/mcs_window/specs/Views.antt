@@ -1,4 +1,4 @@
--- The contexts of all cores as a caller is shown them: each context once, in file order.
+-- The views of all contexts: each context once, in file order.
 use Rattle.std.specs.Prelude.{◌≡◌, ℕ, ◌<◌, false, List, map, get_or, length, slice_index, slice_index_or}
 use Rattle.std.specs.List.{range_with_len}
 use Rattle.mcs_control.specs.declared.view.ContextView.{ContextView}
@@ -12,7 +12,7 @@ use Rattle.mcs_laws.specs.Histories.{home_of}
 use Rattle.mcs_laws.specs.Shown.{IsShown}
 
 module _ (system : System) where
-  -- the view of context x, where its core is one of these
+  -- the view of context x, with the state of its core in `cores`
   abbrev pub view_in : (ℕ → Core) → ℕ → ContextView
   view_in cores x =
       let core = cores (context_part system x).core in
@@ -29,7 +29,8 @@ module _ (system : System) where
   abbrev pub views_before : ℕ → List ContextView
   views_before t = views_in (λ c. core_at system (world system t) c)
 
-  -- where each core is at this moment: a view for each context, in file order, which shows the whole budget that the context then has
+  -- a view for each context, in file order, which shows the whole budget that the context has at
+  -- its core's time in `moment`
   pub record AreShown (moment : ℕ → ℕ) (views : List ContextView) : Type 0 where
     pub many : length views ≡ length system.contexts
     pub each : (k : ℕ) (d : ContextView) → k < length system.contexts
@@ -42,7 +43,7 @@ module _ (system : System) where
   abbrev pub AreShownBefore : ℕ → List ContextView → Type 0
   AreShownBefore t views = AreShown (λ c. t) views
 
-  -- the states of all cores, none of which failed
+  -- the states of all cores; no core has failed
   pub record AreStates (states : List State) : Type 0 where
     pub many : length states ≡ system.cores
     pub number_is : (c : ℕ) (x : State) → c < system.cores → (slice_index_or states c x).number ≡ c

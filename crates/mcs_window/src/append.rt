@@ -3,26 +3,27 @@ ghost use Rattle.mcs_window.specs.stored.Delivery.{HasRoomFor};
 
 use mcs_ticks::{Collector, NoMemory, Nothing, Row};
 
-/// A collector behind whose rows those of another one can be put.
+/// A collector to which the rows of another one can be appended.
 pub trait Append: Collector {
     ghost use Rattle.std.specs.Prelude.{◌++◌, OnOk, List};
     ghost use Rattle.mcs_ticks.specs.declared.row.Row.{Row};
 
-    /// It has room for what the other one holds.
+    /// The first collector has room for the rows of the second.
     ghost has_room: { Self → Self → Type 0 };
 
-    /// Makes room for what another one holds. What it holds itself stays the same, also where memory is refused.
+    /// Reserves room for the rows of another collector. Its own rows stay the same, also if memory
+    /// runs out.
     fn make_room(&mut self, more: &Self) -> Result<(), NoMemory>
         ensures same { (held : List Row) → Self.holds self.old held → Self.holds self.new held }
         ensures room { OnOk result (has_room self.new more.now) };
 
-    /// Puts what another one holds behind what it holds itself.
+    /// Appends the rows of another collector, for which there is room.
     fn append(&mut self, more: Self)
         requires { has_room self.old more }
         ensures { (held others : List Row) → Self.holds self.old held → Self.holds more others → Self.holds self.new (held ++ others) };
 }
 
-/// A list that is empty is replaced by the other one, so that no row is copied.
+/// An empty list is replaced by the other one, so no row is copied.
 impl Append for Vec<Row> {
     ghost use Rattle.std.specs.Prelude.{vec_len};
     ghost use Rattle.mcs_window.specs.stored.Delivery.{HasRoomFor};
@@ -41,7 +42,7 @@ impl Append for Vec<Row> {
     }
 }
 
-/// What keeps nothing needs no room.
+/// A collector that keeps no rows needs no room.
 impl Append for Nothing {
     ghost has_room = { λ _ _. Unit {0} };
 
@@ -52,7 +53,7 @@ impl Append for Nothing {
     fn append(&mut self, _more: Self) {}
 }
 
-/// Moves rows behind those that there are, where there is room for them. Where there are none the list is taken as it is.
+/// Appends rows to a list that has room for them. If the list is empty, the other one replaces it.
 fn put_rows(rows: &mut Vec<Row>, more: Vec<Row>)
     requires { HasRoomFor rows.old (vec_len more) }
     ensures { rows.new.items ≡ rows.old.items ++ more.items }

@@ -1,4 +1,4 @@
-//! How far each core may go, by the clocks of the others.
+//! How far each core may run ahead, by the clocks of the others.
 ghost use Rattle.std.specs.Prelude.{◌≡◌, ◌↔◌, ◌+◌, ◌≤◌, ◌<◌, ◌^◌, IsTrue};
 ghost use Rattle.mcs_system.specs.System.{delay_between};
 ghost use Rattle.mcs_stretch.specs.ByScripts.{IsFarByScripts};
@@ -11,7 +11,7 @@ use crate::desk::Desk;
 use mcs_ticks::{Collector, CoreId, Tick};
 
 impl<S: Collector> Desk<S> {
-    /// How long a signal of this core is under way to another.
+    /// The delay of a signal from one core to another, in ticks.
     fn delay(&self, maker: CoreId, home: CoreId) -> u64
         requires maker { maker < self.now.system.cores }
         requires home { home < self.now.system.cores }
@@ -21,7 +21,8 @@ impl<S: Collector> Desk<S> {
         self.delays[home.0][maker.0]
     }
 
-    /// The moment up to which a core may be lent.
+    /// The time before which a loan of a core has to end, at most one past the horizon. No signal
+    /// that another core has yet to make arrives before it, by the delays.
     pub(crate) fn past(&self, core: CoreId) -> Tick
         requires { core < self.now.system.cores }
         ensures { result ≡ past_of self.now core }
@@ -36,7 +37,7 @@ impl<S: Collector> Desk<S> {
         Tick::new(past).unwrap()
     }
 
-    /// The moment up to which a core may be lent for no more than so many moments.
+    /// As `past`, but at most `span` ticks after the core's clock.
     pub(crate) fn past_within(&self, core: CoreId, span: u64) -> Tick
         requires { core < self.now.system.cores }
         ensures { result ≡ past_within self.now span core }
@@ -45,7 +46,7 @@ impl<S: Collector> Desk<S> {
         Tick::new(most.min(self.past(core).get())).unwrap()
     }
 
-    /// After how long a signal of this core may reach another one, from a moment on: after its delay, and never where no script says one.
+    /// Ticks after which a signal of one core may reach another, by the scripts (`reach_rows`).
     fn reach(&self, maker: CoreId, home: CoreId) -> u64
         requires maker { maker < self.now.system.cores }
         requires home { home < self.now.system.cores }
@@ -54,8 +55,8 @@ impl<S: Collector> Desk<S> {
         self.reaches[maker.0][home.0]
     }
 
-    /// A moment before which no signal arrives at a core that another one has still to make. It is no earlier than the moment up to which the
-    /// core may be lent.
+    /// The time before which no signal that another core has yet to make arrives at this core, by
+    /// the scripts. It is at least `past`.
     pub(crate) fn farthest(&self, core: CoreId) -> Tick
         requires { core < self.now.system.cores }
         ensures reached { NothingArrivesBefore self.now.system core result self.now.clocks }
@@ -73,7 +74,8 @@ impl<S: Collector> Desk<S> {
         Tick::new(past).unwrap()
     }
 
-    /// Whether a core may not be lent up to the moment after this one. It looks no further than at the first core that it waits for.
+    /// Whether a core must wait for another one before its turn at this moment, or the run has
+    /// ended. Stops at the first core that it waits for.
     pub(crate) fn must_wait(&self, core: CoreId, moment: Tick) -> bool
         requires { core < self.now.system.cores }
         ensures { IsTrue result ↔ (past_of self.now core ≤ moment) }

@@ -3,7 +3,8 @@ ghost use Rattle.std.specs.Prelude.{◌≡◌, true};
 use crate::Front;
 use mcs_ticks::Tick;
 
-/// Until when each core of a desk only counts ticks, as it was looked up. Stale once a core has made a signal for another one since.
+/// Until when each core of a desk only counts ticks, as last looked up. The calendar is stale once
+/// a core has made a signal for another one since.
 #[derive(Clone, Copy)]
 pub(crate) struct Calendar {
     pub(crate) until: Front,
@@ -11,7 +12,7 @@ pub(crate) struct Calendar {
 }
 
 impl Calendar {
-    /// Nothing was looked up yet.
+    /// A stale calendar, before the first look-up.
     pub(crate) fn new() -> Self
         ensures { result.stale ≡ true }
     {

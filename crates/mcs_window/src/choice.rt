@@ -1,4 +1,4 @@
-//! Which core is lent next, and which takes turns where it lies.
+//! Choice of the core that is lent next, or that takes turns in place.
 ghost use Rattle.std.specs.Prelude.{◌↔◌, ℕ, ◌<◌, suc, IfSome, IfNone, IsTrue};
 ghost use Rattle.mcs_window.specs.stored.Slots.{IsEarliest};
 ghost use Rattle.mcs_window.specs.Desk.{MayLend, IsChosen, IsBest, AllAreHere, IsFinished};
@@ -7,7 +7,7 @@ use crate::desk::Desk;
 use mcs_ticks::{Collector, CoreId};
 
 impl<S: Collector> Desk<S> {
-    /// Whether a core may be lent.
+    /// Whether a core may be lent now.
     pub(crate) fn may_lend(&self, core: CoreId) -> bool
         requires { core < self.now.system.cores }
         ensures { IsTrue result ↔ MayLend self.now core }
@@ -15,7 +15,7 @@ impl<S: Collector> Desk<S> {
         self.is_here(core) && !self.must_wait(core, self.clock(core))
     }
 
-    /// A core if it may be lent and is earlier than the one that was chosen before, and else that one.
+    /// The core if it may be lent and is earlier than the one chosen before; otherwise the latter.
     fn better(&self, core: CoreId, chosen: Option<CoreId>) -> Option<CoreId>
         requires known { core < self.now.system.cores }
         requires lower { IsBest self.now core chosen }
@@ -33,7 +33,7 @@ impl<S: Collector> Desk<S> {
         }
     }
 
-    /// A core if it is not lent and is earlier than the one that was found before, and else that one.
+    /// The core if it is not lent and is earlier than the one found before; otherwise the latter.
     fn earlier(&self, core: CoreId, found: Option<CoreId>) -> Option<CoreId>
         requires known { core < self.now.system.cores }
         requires lower { IsEarliest self.now core found }
@@ -50,7 +50,8 @@ impl<S: Collector> Desk<S> {
         Some(core)
     }
 
-    /// Of the cores that are not lent the one with the least clock, and of those the one with the least number.
+    /// The core with the minimum clock of all cores that are not lent, and of those the one with
+    /// the lowest number. `None` if all cores are lent.
     pub(crate) fn earliest(&self) -> Option<CoreId>
         ensures { IsEarliest self.now self.now.system.cores result }
     {
@@ -61,7 +62,9 @@ impl<S: Collector> Desk<S> {
         found
     }
 
-    /// The core to be lent. That is mostly the earliest that is not lent.
+    /// The core to lend next: of all cores that may be lent the one with the minimum clock, then
+    /// the lowest number. The earliest core that is not lent is tried first. `None` if no core may
+    /// be lent.
     pub(crate) fn choice(&self) -> Option<CoreId>
         ensures some { IfSome result (IsChosen self.now) }
         ensures none { IfNone result ((c : ℕ) → ¬ MayLend self.now c) }
@@ -78,7 +81,8 @@ impl<S: Collector> Desk<S> {
         chosen
     }
 
-    /// Where no core is lent and none may be, every core has taken its turn at the horizon.
+    /// A law: if no core is lent and none may be lent, every core has taken its turn at the
+    /// horizon.
     pub(crate) fn none_waits(&self)
         requires here { AllAreHere self.now }
         requires none { (c : ℕ) → ¬ MayLend self.now c }

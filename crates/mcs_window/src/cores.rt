@@ -21,7 +21,7 @@ use std::marker::Model;
 use std::mem;
 use std::sync::Arc;
 
-/// All cores of a system, each at a moment of its own, up to a horizon.
+/// All cores of a system, each with its own clock, up to a horizon.
 #[derive(Drop)]
 pub struct Cores {
     system: Arc<System>,
@@ -31,7 +31,7 @@ pub struct Cores {
     states: Vec<CoreState>,
     boxes: Vec<Mailbox>,
     rows: Vec<Vec<Row>>,
-    /// For each core the delays of the signals to it.
+    /// The delays of the signals to each core, by their makers.
     delays: Vec<[u64; Limits::CORES]>,
     failed: bool,
     signals: Vec<Mail>,
@@ -50,7 +50,7 @@ impl Model for Cores {
 }
 
 impl Cores {
-    /// All cores at moment 0, for a run up to this horizon.
+    /// Returns all cores at time 0, for a run up to this horizon.
     pub fn new(alloc: Global, system: Arc<System>, horizon: Tick) -> Result<Cores, NoMemory>
         requires { horizon ≤ 2 ^ 40 }
         ensures { IfOk result (λ cores. cores ≡ opening_progress (arc_value system) horizon) }
@@ -76,7 +76,7 @@ impl Cores {
         })
     }
 
-    /// The clock of a core: the next moment that it takes.
+    /// The clock of a core: the time of its next turn.
     pub fn clock(&self, core: CoreId) -> Tick
         requires { core < self.now.system.cores }
         ensures { result ≡ clock_of self.now core }
@@ -84,14 +84,15 @@ impl Cores {
         self.clocks[core.0]
     }
 
-    /// Whether memory was refused to a step or an advance, so that each later one answers `NoMemory`, too.
+    /// Whether a step or an advance ran out of memory. Each later one then returns `NoMemory` too.
     pub fn failed(&self) -> bool
         ensures { result ≡ self.now.failed }
     {
         self.failed
     }
 
-    /// How a core stands at its clock, before it takes its turn then.
+    /// The state of a core at its clock, before it takes its turn then. It may be called only while
+    /// no call has run out of memory.
     pub fn state(&self, core: CoreId) -> &CoreState
         requires known { core < self.now.system.cores }
         requires whole { self.now.failed ≡ false }
@@ -100,7 +101,7 @@ impl Cores {
         &self.states[core.0]
     }
 
-    /// How long a signal of this core is under way to another.
+    /// The delay of a signal from one core to another, in ticks.
     fn delay(&self, maker: CoreId, home: CoreId) -> u64
         requires maker { maker < self.now.system.cores }
         requires home { home < self.now.system.cores }
@@ -110,7 +111,7 @@ impl Cores {
         self.delays[home.0][maker.0]
     }
 
-    /// The first other core from which a signal could still reach the core at its clock.
+    /// The first other core from which a signal could still reach this core at its clock.
     fn first_behind(&self, core: CoreId) -> Option<CoreId>
         requires { core < self.now.system.cores }
         ensures some { IfSome result (IsFirstBehind self.now core) }
@@ -127,8 +128,8 @@ impl Cores {
         None
     }
 
-    /// One turn of a core, at its clock. On `Ended` and `NotSafe` nothing changes. After `NoMemory` every later step answers it
-    /// too, and clocks and rows are as before the step.
+    /// Takes one turn of a core, at its clock. `Ended` and `NotSafe` change nothing. After
+    /// `NoMemory` every later step returns it too; clocks and rows are as before the step.
     pub fn step(&mut self, core: CoreId) -> Result<(), StepFault>
         requires { core < self.old.system.cores }
         ensures ok { OnOk result (IsReady self.old core × (self.new ≡ stepped self.old core)) }
@@ -150,9 +151,10 @@ impl Cores {
         Ok(())
     }
 
-    /// Idle time: all cores whose clocks are earlier go at once to the first moment at which some core does more than
-    /// count a tick, or to the moment after the horizon where that comes first. Until then no core makes a row. Answers
-    /// that moment. After a step's `NoMemory` it answers it too, and nothing changes.
+    /// Skips idle time: sets all earlier clocks to the time at which it ends, and returns that. It
+    /// is the first moment at which some core does more than count a tick, at most one past the
+    /// horizon. Until then no core emits a row. Returns `NoMemory`, and changes nothing, if a step
+    /// or an advance ran out of memory before.
     pub fn skip_idle(&mut self) -> Result<Tick, NoMemory>
         ensures going { OnOk result (self.old.failed ≡ false) }
         ensures moment { IfOk result (IsIdleUntil self.old.system self.old.clocks (self.old.horizon + 1)) }
@@ -167,8 +169,7 @@ impl Cores {
         Ok(moment)
     }
 
-    /// The first moment at which some core does more than count a tick, or the moment after the horizon where that comes
-    /// first.
+    /// The time at which idle time ends, at most one past the horizon.
     fn idle_until(&self) -> Tick
         requires { self.now.failed ≡ false }
         ensures { IsIdleUntil self.now.system self.now.clocks (self.now.horizon + 1) result }
@@ -184,8 +185,9 @@ impl Cores {
         until
     }
 
-    /// The contexts of all cores in file order, each once, as its core has it at its clock: it shows its whole budget in force then, and no
-    /// ticks in use unless its thread runs. After a step's `NoMemory` it answers it too.
+    /// The contexts of all cores in file order, each as its core has it at its clock. Each shows
+    /// its whole budget in force then, and no ticks in use unless its thread runs. Returns
+    /// `NoMemory` also if a step or an advance ran out of memory before.
     pub fn contexts(&self, alloc: Global) -> Result<Vec<ContextView>, NoMemory>
         ensures views { IfOk result (λ views. views.items ≡ views_at self.now.system self.now.clocks) }
         ensures budgets { IfOk result (λ views. AreShownAt self.now.system self.now.clocks views.items) }
@@ -198,7 +200,7 @@ impl Cores {
         Ok(views)
     }
 
-    /// The rows of a core since they were last taken.
+    /// Takes the rows that a core emitted since they were last taken.
     pub fn take_rows(&mut self, core: CoreId) -> Vec<Row>
         requires { core < self.old.system.cores }
         ensures rows { result.items
@@ -210,7 +212,9 @@ impl Cores {
         mem::replace(&mut self.rows[core.0], Vec::new(alloc))
     }
 
-    /// The turns of a core from its clock to before a moment that the other cores' clocks allow.
+    /// Takes the turns of a core from its clock to before `to`, which is at most one past the
+    /// horizon. No signal that another core has yet to make may arrive before `to`. After
+    /// `NoMemory` every later call returns it too.
     pub fn advance(&mut self, core: CoreId, to: Tick) -> Result<(), NoMemory>
         requires known { core < self.old.system.cores }
         requires not_back { clock_of self.old core ≤ to }
@@ -237,7 +241,8 @@ impl Cores {
     }
 }
 
-/// Puts rows behind those that are kept. Where none are kept no row is copied.
+/// Appends rows to those that are kept. If no rows are kept, no row is copied. If memory runs out,
+/// the kept rows stay as they were.
 fn keep_rows(kept: &mut Vec<Row>, mut rows: Vec<Row>) -> Result<(), NoMemory>
     ensures kept { OnOk result (kept.new.items ≡ kept.old.items ++ rows.items) }
     ensures refused { OnErr result (kept.new.items ≡ kept.old.items) }

@@ -5,7 +5,7 @@ use mcs_mail::{Mail, Mailbox};
 use mcs_system::System;
 use mcs_ticks::{CoreId, NoMemory};
 
-/// Puts each signal into the box of its home. Where there is no memory no box has got any.
+/// Puts each signal into the box of its home. If memory runs out, no box gets any.
 pub(crate) fn deliver(
     system: &System,
     boxes: &mut [Mailbox],
@@ -23,7 +23,7 @@ pub(crate) fn deliver(
     Ok(())
 }
 
-/// Makes room for the signals in the boxes of their homes.
+/// Reserves room for the signals in the boxes of their homes.
 pub(crate) fn make_room(
     system: &System,
     boxes: &mut [Mailbox],
@@ -40,7 +40,7 @@ pub(crate) fn make_room(
     Ok(())
 }
 
-/// Makes room for so many signals more. Where there are none the box is not looked at.
+/// Reserves room for `more` signals. If `more` is 0 the box is not touched.
 fn make_room_for(mailbox: &mut Mailbox, more: usize) -> Result<(), NoMemory>
     ensures mails { mailbox.new.mails ≡ mailbox.old.mails }
     ensures spare { OnOk result (more ≤ mailbox.new.spare) }
@@ -51,7 +51,6 @@ fn make_room_for(mailbox: &mut Mailbox, more: usize) -> Result<(), NoMemory>
     mailbox.reserve(more)
 }
 
-/// How many of the signals are for each core.
 fn counts_for(system: &System, signals: &[Mail]) -> [usize; 64]
     ensures { (c : ℕ) → c < 64 → slice_index result c ≡ count_for system.now c signals.now }
 {

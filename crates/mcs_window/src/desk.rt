@@ -13,26 +13,26 @@ use std::alloc::Global;
 use std::marker::Model;
 use std::sync::Arc;
 
-/// The cores of a system, up to a horizon. Those that lie on it are lent for stretches, and are taken back when these were run.
-/// Each core tells its rows to a collector of its own.
+/// The cores of a system, up to a horizon. Cores on the desk are lent for stretches, and are taken
+/// back after these were run. Each core gives its rows to its own collector.
 #[derive(Drop)]
 pub struct Desk<S: Collector = Vec<Row>> {
     pub(crate) system: Arc<System>,
     pub(crate) horizon: Tick,
     pub(crate) lost: bool,
-    /// The clock of a lent core is where its stretch begins.
+    /// The clock of each core: that of a lent core is the start of its stretch.
     pub(crate) clocks: Front,
     pub(crate) taken: Front,
     pub(crate) slots: Vec<Slot>,
-    /// The box of a lent core has what was made for it since.
+    /// The mail of each core: the box of a lent core has the signals made for it since.
     pub(crate) boxes: Vec<Mailbox>,
-    /// What each core told since that was last taken.
+    /// The rows of each core since they were last taken.
     pub(crate) told: Vec<S>,
-    /// For each core the delays of the signals to it.
+    /// The delays of the signals to each core, by their makers.
     pub(crate) delays: Vec<[u64; Limits::CORES]>,
-    /// For each core after how long a signal of it may reach the others.
+    /// The ticks after which a signal of each core may reach the others.
     pub(crate) reaches: Vec<Reaches>,
-    /// Those of the last turns that were taken here.
+    /// The signals of the last turns that were taken in place.
     pub(crate) signals: Vec<Mail>,
     pub(crate) alloc: Global,
 }
@@ -50,7 +50,7 @@ impl<S: Collector> Model for Desk<S> {
 }
 
 impl Desk<Vec<Row>> {
-    /// All cores at moment 0, for a run up to this horizon. No core is lent.
+    /// Returns all cores at time 0, for a run up to this horizon. No core is lent.
     pub fn new(alloc: Global, system: Arc<System>, horizon: Tick) -> Result<Desk, NoMemory>
         requires { horizon ≤ 2 ^ 40 }
         ensures { IfOk result (λ desk. desk ≡ opening_table (arc_value system) horizon) }
@@ -61,7 +61,8 @@ impl Desk<Vec<Row>> {
 }
 
 impl<S: Collector + Drop> Desk<S> {
-    /// All cores at moment 0, for a run up to this horizon, with an empty collector for each. No core is lent.
+    /// Returns all cores at time 0, for a run up to this horizon, with an empty collector for each.
+    /// No core is lent.
     pub fn opened(
         alloc: Global,
         system: Arc<System>,
@@ -94,7 +95,7 @@ impl<S: Collector + Drop> Desk<S> {
 }
 
 impl<S: Collector> Desk<S> {
-    /// How many cores there are.
+    /// The number of cores.
     pub fn cores(&self) -> usize
         ensures { result ≡ self.now.system.cores }
     {
@@ -109,7 +110,7 @@ impl<S: Collector> Desk<S> {
         self.horizon
     }
 
-    /// Whether the desk is for this system and horizon. It compares the systems.
+    /// Whether the desk is for this system and horizon. It compares the systems in full.
     pub fn is_for(&self, system: &System, horizon: Tick) -> bool
         ensures { IsTrue result ↔ ((self.now.system ≡ system.now) × (self.now.horizon ≡ horizon)) }
     {
@@ -123,7 +124,7 @@ impl<S: Collector> Desk<S> {
         *self.system == *system
     }
 
-    /// The clock of a core: the next moment that it takes, or the first of its stretch where it is lent.
+    /// The clock of a core: the time of its next turn, or the start of its stretch if it is lent.
     pub fn clock(&self, core: CoreId) -> Tick
         requires { core < self.now.system.cores }
         ensures value { result ≡ clock_of self.now core }
@@ -143,7 +144,7 @@ impl<S: Collector> Desk<S> {
         taken[core.0]
     }
 
-    /// Whether a piece was lost, or a core that was refused memory for turns on the desk itself.
+    /// Whether a piece was lost, or a core that ran out of memory on the desk itself.
     pub fn lost(&self) -> bool
         ensures { result ≡ self.now.lost }
     {

@@ -1,16 +1,17 @@
 use mcs_ticks::{CoreId, NoMemory};
 use thiserror::Error;
 
-/// Why a core does not take its turn. The tests come in this order.
+/// Why a core does not take its turn, in the order of the checks.
 #[derive(Clone, Copy, Debug, PartialEq, Eq, Error)]
 pub enum StepFault {
     /// The core has taken its turn at the horizon.
     #[error("the core is past the horizon")]
     Ended,
-    /// A signal that this other core still makes could reach the core at its clock. It is the first such core.
+    /// A signal that this other core still makes could reach the core at its clock. It is the first
+    /// such core.
     #[error("core {} is behind", .0.0)]
     NotSafe(CoreId),
-    /// There was no memory, now or at an earlier step.
+    /// Memory ran out, now or at an earlier step.
     #[error("no memory")]
     NoMemory,
 }
@@ -26,10 +27,10 @@ impl From<NoMemory> for StepFault {
     }
 }
 
-/// Why a stretch is not taken back. The tests come in this order.
+/// Why a stretch is not taken back, in the order of the checks.
 #[derive(Clone, Copy, Debug, PartialEq, Eq, Error)]
 pub enum SettleFault {
-    /// It is of another system.
+    /// It belongs to another system.
     #[error("another system")]
     Foreign,
     /// Its core is not lent.
@@ -38,7 +39,7 @@ pub enum SettleFault {
     /// Its core is lent for another stretch, or by other clocks.
     #[error("the core is lent for another stretch")]
     OtherLoan,
-    /// There was no memory.
+    /// Memory ran out.
     #[error("no memory")]
     NoMemory,
 }

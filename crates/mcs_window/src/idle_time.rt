@@ -1,4 +1,4 @@
-//! Idle time of a desk whose cores are all here.
+//! Idle time of a desk when no core is lent.
 ghost use Rattle.std.specs.Prelude.{◌≡◌, ℕ, ◌+◌, ◌≤◌, ◌<◌, false, None, length};
 ghost use Rattle.mcs_core.specs.Clock.{world, core_at};
 ghost use Rattle.mcs_core.specs.Quiet.{IsNextBusy};
@@ -14,7 +14,6 @@ use crate::slot::Slot;
 use mcs_ticks::{Collector, CoreId, Tick};
 
 impl<S: Collector> Desk<S> {
-    /// The next busy moment of a core that is not lent.
     fn next_busy(&self, core: CoreId) -> Option<Tick>
         requires known { core < self.now.system.cores }
         requires here { loan_of self.now core ≡ None }
@@ -28,8 +27,9 @@ impl<S: Collector> Desk<S> {
         }
     }
 
-    /// The first moment at which some core does more than count a tick, or the moment after the horizon where that comes first. It looks at
-    /// no further core where one is busy before `enough`: no clock is earlier.
+    /// The first moment at which some core does more than count a tick, at most one past the
+    /// horizon. No clock is before `enough - 1`, so the search ends at a core that is busy before
+    /// `enough`.
     fn idle_until(&self, enough: Tick) -> Tick
         requires here { AllAreHere self.now }
         requires enough { (c : ℕ) → c < self.now.system.cores → enough ≤ clock_of self.now c + 1 }
@@ -49,8 +49,9 @@ impl<S: Collector> Desk<S> {
         until
     }
 
-    /// Idle time, where no core is lent: all cores whose clocks are earlier go at once to the first moment at which some core does more
-    /// than count a tick, or to the moment after the horizon where that comes first. Until then no core makes a row.
+    /// Skips idle time; no core may be lent. All earlier clocks are set to the first moment at
+    /// which some core does more than count a tick, at most one past the horizon. Until then no
+    /// core emits a row.
     pub fn skip_idle(&mut self)
         requires { AllAreHere self.old }
         ensures { IsSkipped self.old self.new }
@@ -63,7 +64,8 @@ impl<S: Collector> Desk<S> {
         self.skip_to(moment);
     }
 
-    /// No core does more than count ticks while idle time is skipped from here on: it makes no row and no signal.
+    /// A law: while idle time is skipped from here on, each core only counts ticks. It emits no row
+    /// and makes no signal.
     pub fn idle_is_silent(&self)
         ensures { AllAreHere self.now → (after : Table) → IsSkipped self.now after → (c : ℕ) → c < self.now.system.cores
             → OnlyCounts self.now.system self.now.clocks after.clocks c }
@@ -71,7 +73,7 @@ impl<S: Collector> Desk<S> {
         let _lost = self.lost;
     }
 
-    /// Each core whose clock is before the moment goes to it: until then all cores only count ticks.
+    /// Sets each clock before the moment to it. Until then all cores only count ticks.
     pub(crate) fn skip_to(&mut self, moment: Tick)
         requires here { AllAreHere self.old }
         requires in_time { moment ≤ self.old.horizon + 1 }
@@ -85,7 +87,7 @@ impl<S: Collector> Desk<S> {
         skip_slots(&self.system, &mut self.clocks, &mut self.slots, moment);
     }
 
-    /// Until when a core only counts ticks, at most to the moment after the horizon.
+    /// The time until which a core only counts ticks, at most one past the horizon.
     fn idle_of(&self, core: CoreId) -> Tick
         requires known { core < self.now.system.cores }
         requires here { loan_of self.now core ≡ None }
@@ -98,8 +100,8 @@ impl<S: Collector> Desk<S> {
         if moment < end { moment } else { end }
     }
 
-    /// Until when a core only counts ticks, where it is known until when it did at least, unless that is stale: it is looked up where its clock
-    /// has come to it.
+    /// The time until which a core only counts ticks. `until` is what was known of it, unless
+    /// `stale`. It is looked up again if the core's clock has reached it.
     fn idle_since(&self, core: CoreId, until: Tick, stale: bool) -> Tick
         requires known { core < self.now.system.cores }
         requires here { loan_of self.now core ≡ None }
@@ -112,7 +114,8 @@ impl<S: Collector> Desk<S> {
         until
     }
 
-    /// Until when all cores only count ticks, by the calendar, at most to the moment after the horizon.
+    /// The time until which all cores only count ticks, at most one past the horizon. Brings the
+    /// calendar up to date.
     pub(crate) fn look_ahead(&self, calendar: &mut Calendar) -> Tick
         requires here { AllAreHere self.now }
         requires holds { HoldsAt self.now calendar.old }

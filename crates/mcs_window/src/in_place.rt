@@ -1,4 +1,4 @@
-//! Turns in the caller's thread: of cores that take them where they lie.
+//! Turns that cores take in place, in the caller's thread.
 ghost use Rattle.std.specs.Prelude.{◌≡◌, ℕ, ◌≤◌, ◌<◌, max, ◌⊎◌, false, [], slice_index, IfOk, OnOk, OnErr, IsTrue, IsFalse};
 ghost use Rattle.mcs_stretch.specs.Inbox.{signals_between};
 ghost use Rattle.mcs_window.specs.stored.Rounds.{AreReady};
@@ -11,8 +11,9 @@ use crate::turns::{Turns, spend};
 use mcs_ticks::{Collector, CoreId, NoMemory, Tick};
 
 impl<S: Collector> Desk<S> {
-    /// Takes turns of a core that may go on, where it lies, until it comes to `past` or its collector has its share more: at least one. Answers
-    /// whether it made a signal for another core. Where memory is refused the core is lost: it stays lent, and what it told is gone.
+    /// Takes at least one turn of a core in place, until it reaches `past` or its collector has
+    /// `share` more. Returns whether it made a signal for another core. If memory runs out the core
+    /// is lost: it stays lent, and its rows that were not taken are gone.
     fn run_here(&mut self, core: CoreId, past: Tick, share: usize) -> Result<bool, NoMemory>
         requires may { MayGoOn self.old core past }
         ensures ok { OnOk result (self.new ≡ settled_at self.old core (clock_of self.new core)) }
@@ -47,8 +48,8 @@ impl<S: Collector> Desk<S> {
         Ok(!self.signals.is_empty())
     }
 
-    /// Takes turns of a core as `run_here` does, by a calendar, in which nothing is known of the core from then on, and of no core where a signal
-    /// was made.
+    /// Takes turns of a core as `run_here` does, and updates the calendar. The core has to be
+    /// looked up again, and all cores if it made a signal.
     fn run_noted(
         &mut self,
         core: CoreId,
@@ -72,8 +73,9 @@ impl<S: Collector> Desk<S> {
         Ok(())
     }
 
-    /// Takes turns of a core where it is busy, as the calendar has it, before the moment up to which it may be lent: then it goes on as far as it
-    /// may, so that cores which others never signal need not wait for them. Answers whether it took turns.
+    /// Takes turns of a core if the calendar has it busy before it must wait for another one. It
+    /// then runs as far as it may, so cores that others never signal do not wait for them. Returns
+    /// whether it took turns.
     fn run_busy(
         &mut self,
         core: CoreId,
@@ -102,7 +104,8 @@ impl<S: Collector> Desk<S> {
         Ok(false)
     }
 
-    /// Takes turns of each core that is busy before it waits for another one. Answers whether some core took any.
+    /// Takes turns of each core that is busy before it must wait for another one. Returns whether
+    /// some core took any.
     fn sweep(&mut self, share: usize, calendar: &mut Calendar) -> Result<bool, NoMemory>
         requires { AreReady self.old calendar.old }
         ensures later { OnOk result (IsLater self.old self.new) }
@@ -122,7 +125,7 @@ impl<S: Collector> Desk<S> {
         Ok(moved)
     }
 
-    /// Takes turns of the core that would be lent. Answers whether there is one.
+    /// Takes turns of the core that would be lent next. Returns whether there is one.
     fn run_first(&mut self, share: usize, calendar: &mut Calendar) -> Result<bool, NoMemory>
         requires { AreReady self.old calendar.old }
         ensures holds { OnOk result (HoldsAt self.new calendar.new) }
@@ -141,7 +144,8 @@ impl<S: Collector> Desk<S> {
         Ok(true)
     }
 
-    /// Skips idle time, and then takes turns of the cores that are busy, as the calendar has it. Answers whether there were turns to take.
+    /// Skips idle time, and then takes turns of the cores that the calendar has busy. Returns
+    /// whether there were turns to take.
     fn round(&mut self, share: usize, calendar: &mut Calendar) -> Result<bool, NoMemory>
         requires { AreReady self.old calendar.old }
         ensures holds { OnOk result (HoldsAt self.new calendar.new) }
@@ -160,16 +164,18 @@ impl<S: Collector> Desk<S> {
         Ok(more)
     }
 
-    /// How much each core may tell in a round, where at least this much is to lie on the desk: so cores go on side by side, and what they told is
-    /// given while it is in the cache.
+    /// The amount that each core may add in a round if `enough` is wanted in all. All cores advance
+    /// side by side, so their rows are used while they are in the cache.
     fn share(&self, enough: usize) -> usize {
         enough.saturating_sub(self.kept()) / self.cores().max(1)
     }
 
-    /// Takes turns in the caller's thread until at least this much lies on the desk, as `kept` counts it, or every core has taken its turn
-    /// at the horizon. Unless all have, it takes at least one turn or skips idle time, also where there is as much already. After
-    /// `NoMemory` one core is lost as a piece can be: it stays lent for good, what it told that was not taken is gone, and nothing is lent
-    /// from then on. Nothing else is lent.
+    /// Takes turns in the caller's thread until the desk holds at least `enough`, as `kept` counts
+    /// it, or every core has taken its turn at the horizon. Unless all have, it takes at least one
+    /// turn or skips idle time, even if the desk holds enough already.
+    ///
+    /// After `NoMemory` one core is lost: it stays lent for good, its rows that were not taken are
+    /// gone, and no core is lent from then on. No other core is lent.
     pub fn go(&mut self, enough: usize) -> Result<(), NoMemory>
         requires sound { self.old.lost ≡ false }
         requires here { AllAreHere self.old }

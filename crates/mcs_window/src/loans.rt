@@ -1,4 +1,4 @@
-//! Cores that are lent for stretches, and taken back.
+//! Loans of cores for stretches, and their return.
 ghost use Rattle.std.specs.Prelude.{◌≡◌, ℕ, ◌<◌, ◌≤◌, ◌⊎◌, true, false, IfErr, OnOk, OnErr, IfSome, IfNone, IsTrue, IsFalse};
 ghost use Rattle.mcs_window.specs.Desk.{clock_of, past_of, MayLend, IsChosen, past_within, lent_at, lent_to, settled_at, IsAwake, IsLent, IsLentWithin, IsSameRun, with_lost, IsLoan, IsSettleFault, AllAreHere, IsFinished};
 
@@ -21,10 +21,13 @@ impl<S: Collector> Desk<S> {
         !self.lost && self.choice().is_some()
     }
 
-    /// Lends the core with the least clock, and of those the one with the least number, of those that are not lent and may take a turn,
-    /// for as long as the clocks of the others allow. Where nothing is lent and nothing was lost, all cores skip idle time first, as
-    /// `skip_idle` does. None where there is no such core, or a piece or core was lost; where nothing is lent and nothing was lost, that is only
-    /// where every core has taken its turn at the horizon, or skipped it.
+    /// Lends a core for as long as the clocks of the others allow. It is the core with the minimum
+    /// clock, then the lowest number, of those that are not lent and may take a turn. If no core is
+    /// lent and none was lost, all cores skip idle time first, as `skip_idle` does.
+    ///
+    /// Returns `None` if there is no such core, or if a piece or a core was lost. If no core is
+    /// lent and none was lost, `None` means that every core has taken or skipped its turn at the
+    /// horizon.
     pub fn lend(&mut self) -> Option<Piece>
         ensures some { IfSome result (λ piece. IsLent self.old piece.core self.new) }
         ensures piece { IfSome result (λ piece. (piece.system ≡ self.old.system)
@@ -40,7 +43,7 @@ impl<S: Collector> Desk<S> {
         self.lend_within(u64::MAX)
     }
 
-    /// Lends as `lend` does, but for no more than so many moments, of which there is at least one.
+    /// Lends a core as `lend` does, but for at most `span` moments, at least 1.
     pub fn lend_within(&mut self, span: u64) -> Option<Piece>
         requires { 1 ≤ span }
         ensures some { IfSome result (λ piece. IsLentWithin self.old span piece.core self.new) }
@@ -59,8 +62,9 @@ impl<S: Collector> Desk<S> {
         self.lend_now(span)
     }
 
-    /// Lends this core, if it may be lent now, for as long as the clocks of the others allow. No idle time is skipped. None where the core is
-    /// lent already, or may take no turn yet, or has taken all of them, and where a piece or core was lost.
+    /// Lends this core, if it may be lent now, for as long as the clocks of the others allow. No
+    /// idle time is skipped. Returns `None` if the core is lent already, has to wait or has taken
+    /// all its turns, or if a piece or a core was lost.
     pub fn lend_core(&mut self, core: CoreId) -> Option<Piece>
         requires { core < self.old.system.cores }
         ensures some { IfSome result (λ piece. (self.old.lost ≡ false)
@@ -78,7 +82,7 @@ impl<S: Collector> Desk<S> {
         self.lend_core_within(core, u64::MAX)
     }
 
-    /// Lends this core as `lend_core` does, but for no more than so many moments.
+    /// Lends this core as `lend_core` does, but for at most `span` moments.
     fn lend_core_within(&mut self, core: CoreId, span: u64) -> Option<Piece>
         requires known { core < self.old.system.cores }
         requires some { 1 ≤ span }
@@ -116,7 +120,8 @@ impl<S: Collector> Desk<S> {
         })
     }
 
-    /// Of the cores that may be lent, lends the earliest, for no more than so many moments. No idle time is skipped.
+    /// Lends the earliest core that may be lent, for at most `span` moments. No idle time is
+    /// skipped.
     fn lend_now(&mut self, span: u64) -> Option<Piece>
         requires { 1 ≤ span }
         ensures some { IfSome result (λ piece. (self.old.lost ≡ false)
@@ -137,14 +142,16 @@ impl<S: Collector> Desk<S> {
         self.lend_core_within(core, span)
     }
 
-    /// Marks a piece as lost: nothing is lent from now on. All loans stay, and stretches that are away may still be settled.
+    /// Marks a piece as lost: no core is lent from now on. All loans stay, and their stretches may
+    /// still be settled.
     pub fn forfeit(&mut self, _lost: Lost)
         ensures { self.new ≡ with_lost self.old }
     {
         self.lost = true;
     }
 
-    /// Why a stretch of the desk's system is not the one that its core is lent for.
+    /// Why a stretch of the desk's system is not the one for which its core is lent. `None` if it
+    /// is.
     fn fault_of(&self, done: &Done<S>) -> Option<SettleFault>
         requires { done.now.system ≡ self.now.system }
         ensures none { IfNone result (IsLoan self.now done.now) }
@@ -162,8 +169,9 @@ impl<S: Collector> Desk<S> {
 }
 
 impl<S: Append> Desk<S> {
-    /// Takes a stretch back that was run: the core comes to its end, its signals go to their homes, and the mail that collected
-    /// meanwhile joins its own. On each fault the desk is as it was, and the stretch is handed back. It compares the systems.
+    /// Takes back a stretch that was run. The core moves to its end, its signals go to their homes,
+    /// and mail collected meanwhile joins its own. A fault leaves the desk unchanged and hands the
+    /// stretch back. It compares the systems in full.
     pub fn settle(&mut self, done: Done<S>) -> Result<(), (SettleFault, Done<S>)>
         ensures ok { OnOk result ((done.system ≡ self.old.system)
             × IsLoan self.old done
@@ -178,7 +186,8 @@ impl<S: Append> Desk<S> {
         self.take_back(done)
     }
 
-    /// Takes a stretch of the desk's system back, as `settle` does. It compares no systems, so that its cost does not grow with the system's size.
+    /// Takes back a stretch of the desk's system, as `settle` does. It compares no systems, so its
+    /// cost does not grow with the size of the system.
     pub fn take_back(&mut self, done: Done<S>) -> Result<(), (SettleFault, Done<S>)>
         requires { done.system ≡ self.old.system }
         ensures ok { OnOk result (IsLoan self.old done × (self.new ≡ settled_at self.old done.core done.past)) }

@@ -7,7 +7,6 @@ use mcs_system::System;
 use mcs_ticks::{CoreId, Limits, NoMemory, Row};
 use std::alloc::Global;
 
-/// The first state of each core.
 pub(crate) fn opening_states(alloc: Global, system: &System) -> Result<Vec<CoreState>, NoMemory>
     ensures { IfOk result (λ states. AreOpening system.now system.now.cores states.items) }
 {
@@ -20,7 +19,7 @@ pub(crate) fn opening_states(alloc: Global, system: &System) -> Result<Vec<CoreS
     Ok(states)
 }
 
-/// For each core the delays of the signals to it, by their makers.
+/// Returns the delays of the signals to each core, by their makers.
 pub(crate) fn delay_rows(
     alloc: Global,
     system: &System,
@@ -35,7 +34,6 @@ pub(crate) fn delay_rows(
     Ok(rows)
 }
 
-/// As many empty boxes.
 pub(crate) fn empty_boxes(alloc: Global, cores: usize) -> Result<Vec<Mailbox>, NoMemory>
     ensures { IfOk result (λ boxes. AreEmptyBoxes cores boxes.items) }
 {
@@ -46,7 +44,6 @@ pub(crate) fn empty_boxes(alloc: Global, cores: usize) -> Result<Vec<Mailbox>, N
     Ok(boxes)
 }
 
-/// As many empty lists of rows.
 pub(crate) fn empty_rows(alloc: Global, cores: usize) -> Result<Vec<Vec<Row>>, NoMemory>
     ensures { IfOk result (λ rows. AreEmptyRows cores rows.items) }
 {

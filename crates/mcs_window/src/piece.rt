@@ -12,17 +12,19 @@ use std::boxed::Box;
 use std::marker::Model;
 use std::sync::Arc;
 
-/// For so many rows a piece makes room before it is run: a list that grows from nothing is copied at each doubling.
+/// Rows reserved before a piece is run: a list without room is copied at each doubling.
 const ROWS: usize = 512;
 
-/// For so many signals it does.
+/// Signals reserved before a piece is run, for the same reason.
 const SIGNALS: usize = 64;
 
-/// The clocks of all cores at the beginning of a stretch: entry `b` is that of core `b`, 0 past the last core.
+/// The clocks of all cores at the start of a stretch: entry `b` is that of core `b`, and 0 past the
+/// last core.
 pub type Front = [Tick; 64];
 
-/// A stretch of one core that is to be run: the moments from `first` to before `past`. No signal that another core has still to make,
-/// from its moment in `front` on, arrives before `past`. The type keeps that state and mail are those of the core before the stretch.
+/// A stretch of one core that is to be run: the moments from `first` to before `past`. No signal
+/// that another core has yet to make, from its time in `front` on, arrives before `past`. The type
+/// keeps that state and mail are those of the core before the stretch.
 #[derive(Drop)]
 pub struct Piece {
     pub system: Arc<System>,
@@ -31,7 +33,8 @@ pub struct Piece {
     pub past: Tick,
     pub front: Front,
     pub state: Box<CoreState>,
-    /// The signals for the core that the cores made before their moments in `front` and that arrive at `first` or later.
+    /// The signals for the core that the cores made before their times in `front` and that arrive
+    /// at `first` or later.
     pub mail: Mailbox,
     /// For the rows and signals that the turns make.
     pub(crate) alloc: Global,
@@ -64,7 +67,8 @@ impl Model for Piece {
     }) };
 }
 
-/// A stretch that was run. The type keeps that all is as the core's turns leave it after the stretch, and that `rows` holds their rows.
+/// A stretch that was run. The type keeps that all is as the core's turns leave it after the
+/// stretch, and that `rows` holds their rows.
 #[derive(Drop)]
 pub struct Done<S: Collector = Vec<Row>> {
     pub system: Arc<System>,
@@ -73,11 +77,11 @@ pub struct Done<S: Collector = Vec<Row>> {
     pub past: Tick,
     pub front: Front,
     pub state: Box<CoreState>,
-    /// What the core's turns told.
+    /// The rows of the core's turns.
     pub rows: S,
     /// The signals that the turns made for other cores.
     pub out: Vec<Mail>,
-    /// What remains of the piece's mail.
+    /// The rest of the piece's mail.
     pub mail: Mailbox,
 }
 
@@ -93,7 +97,8 @@ impl<S: Collector> Model for Done<S> {
     ghost invariant = { IsKept S.holds };
 }
 
-/// A stretch for which there was no memory. Its state and mail are gone.
+/// A stretch that failed, for lack of memory or since the collector refused a row. Its state and
+/// mail are gone.
 #[derive(Clone, Copy, Debug, PartialEq, Eq)]
 pub struct Lost {
     pub core: CoreId,
@@ -102,7 +107,7 @@ pub struct Lost {
 }
 
 impl Piece {
-    /// Takes the turns of the stretch. `Lost` is given only where there was no memory.
+    /// Takes the turns of the stretch. Returns `Lost` only if memory ran out.
     pub fn run(self) -> Result<Done, Lost>
         ensures done { IfOk result (IsOf self) }
         ensures lost { IfErr result
@@ -119,8 +124,9 @@ impl Piece {
         Ok(done.with(rows))
     }
 
-    /// Takes the turns of the stretch, and tells their rows to a collector, behind those that it held before. `Lost` is given only where there
-    /// was no memory, or where the collector refused a row, and then nothing is said of the collector.
+    /// Takes the turns of the stretch, and appends their rows to a collector. Returns `Lost` only
+    /// if memory ran out or the collector refused a row. The contents of the collector are then
+    /// unspecified.
     pub fn run_to<T: Collector>(self, told: &mut T) -> Result<Done<Nothing>, Lost>
         ensures told { (held : List Row) → T.holds told.old held
             → OnOk result (T.holds told.new (held ++ rows_between self.system self.core self.first self.past)) }
@@ -160,7 +166,7 @@ impl Piece {
 }
 
 impl Done<Nothing> {
-    /// The same stretch with a collector that holds its rows.
+    /// The stretch with a collector that holds its rows.
     fn with<S: Collector>(self, rows: S) -> Done<S>
         requires { S.holds rows (rows_between self.system self.core self.first self.past) }
         ensures { result ≡ self }

@@ -8,14 +8,15 @@ use mcs_system::System;
 use mcs_ticks::{CoreId, Limits, NoMemory, ThreadId};
 use std::alloc::Global;
 
-/// The delays of one core's signals, or what stands in their place, by their homes.
+/// The ticks after which a signal of one core may reach each home.
 pub(crate) type Reaches = [u64; Limits::CORES];
 
 /// More ticks than any run has.
 const NEVER: u64 = 1 << 41;
 
-/// For each maker the ticks after which a signal of it may reach each home: the delay where a thread of the maker has an item that signals a
-/// notification of the home, and else more than any run has.
+/// Returns for each maker the ticks after which a signal of it may reach each home. It is the delay
+/// if a thread of the maker signals a notification of the home in its script, and `NEVER`
+/// otherwise.
 pub(crate) fn reach_rows(alloc: Global, system: &System) -> Result<Vec<Reaches>, NoMemory>
     ensures { IfOk result (λ rows. AreReaches system.now rows.items) }
 {
@@ -32,7 +33,7 @@ pub(crate) fn reach_rows(alloc: Global, system: &System) -> Result<Vec<Reaches>,
     Ok(rows)
 }
 
-/// For each maker the delays of its signals.
+/// Returns the delays of the signals of each maker.
 fn delays_from(alloc: Global, system: &System) -> Result<Vec<Reaches>, NoMemory>
     ensures { IfOk result (λ rows. AreDelaysFrom system.now system.now.cores rows.items) }
 {
@@ -44,7 +45,7 @@ fn delays_from(alloc: Global, system: &System) -> Result<Vec<Reaches>, NoMemory>
     Ok(rows)
 }
 
-/// No script was read yet.
+/// Returns the rows before any script was read: no core reaches another.
 fn never_rows(alloc: Global, system: &System) -> Result<Vec<Reaches>, NoMemory>
     ensures { IfOk result (λ rows. AreReachesUntil system.now 0 rows.items) }
 {
@@ -56,7 +57,7 @@ fn never_rows(alloc: Global, system: &System) -> Result<Vec<Reaches>, NoMemory>
     Ok(rows)
 }
 
-/// Notes the signals of one thread more, in the row of its core.
+/// Adds the signals of one more thread to the row of its core.
 fn mark_maker(system: &System, thread: ThreadId, delays: &[Reaches], rows: &mut [Reaches])
     requires known { thread < length system.now.threads }
     requires delays { AreDelaysFrom system.now system.now.cores delays.now }
@@ -68,7 +69,7 @@ fn mark_maker(system: &System, thread: ThreadId, delays: &[Reaches], rows: &mut 
     mark_items(system, thread, &delays[maker.0], &mut rows[maker.0]);
 }
 
-/// Notes the signals of a thread's items, of which each reaches its home after the delay.
+/// Adds the signals of a thread's items: each reaches its home after the delay.
 fn mark_items(system: &System, thread: ThreadId, delays: &Reaches, row: &mut Reaches)
     requires known { thread < length system.now.threads }
     requires delays { (home : ℕ) → home < 64 →

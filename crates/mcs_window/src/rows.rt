@@ -1,4 +1,4 @@
-//! What the cores of a desk told, of which each has its own collector.
+//! The rows that the cores of a desk emitted; each core has its own collector.
 ghost use Rattle.std.specs.Prelude.{◌≡◌, ℕ, ◌-◌, ◌<◌, ◌≤◌, ◌^◌, [], min, slice_index};
 ghost use Rattle.mcs_stretch.specs.Stretch.{rows_between};
 ghost use Rattle.mcs_window.specs.Desk.{clock_of, taken_of, taken_at, amount_kept, AreTold};
@@ -9,7 +9,8 @@ use mcs_ticks::{Collector, CoreId, Row};
 use std::mem;
 
 impl<S: Collector> Desk<S> {
-    /// What a core told since that was last taken. The collector that is given takes its place, and it is empty.
+    /// Takes the rows that a core emitted since they were last taken. The empty collector that is
+    /// given takes their place.
     pub fn take(&mut self, core: CoreId, empty: S) -> S
         requires known { core < self.old.system.cores }
         requires empty { S.holds empty [] }
@@ -21,7 +22,8 @@ impl<S: Collector> Desk<S> {
         mem::replace(&mut self.told[core.0], empty)
     }
 
-    /// How much lies on the desk: the sizes of what each core told since that was last taken. At most `usize::MAX`.
+    /// The amount on the desk: the sizes of all collectors since they were last taken, at most
+    /// `usize::MAX`.
     pub fn kept(&self) -> usize
         ensures { result ≡ min (amount_kept S.amount self.now) (2 ^ 64 - 1) }
     {
@@ -34,7 +36,8 @@ impl<S: Collector> Desk<S> {
 }
 
 impl<S: Collector + Drop> Desk<S> {
-    /// What each core told since that was last taken, from core 0 on. The desk is given up.
+    /// Returns all collectors, from core 0 on, and gives up the desk. Each holds the rows of its
+    /// core since they were last taken.
     pub fn into_told(self) -> Vec<S>
         ensures { AreTold S.holds self result.items }
     {
@@ -42,8 +45,9 @@ impl<S: Collector + Drop> Desk<S> {
         told
     }
 
-    /// The same cores at the same clocks, with their loans, which tell to other collectors from now on. Each of these holds what its core told
-    /// since its moment in `taken`, which is at most the core's clock. Those that they told to before are dropped, and no memory is taken.
+    /// Returns the same cores, clocks and loans with other collectors, which get the rows from now
+    /// on. Each must hold the rows of its core since its time in `taken`, which is at most the
+    /// core's clock. The previous collectors are dropped. No memory is allocated.
     pub fn retold<T: Collector + Drop>(self, taken: Front, told: Vec<T>) -> Desk<T>
         requires in_order { (c : ℕ) → c < self.system.cores → slice_index taken c ≤ clock_of self c }
         requires told { AreTold T.holds (record self { taken = taken }) told.items }
@@ -80,7 +84,7 @@ impl<S: Collector + Drop> Desk<S> {
 }
 
 impl Desk<Vec<Row>> {
-    /// The rows of a core since they were last taken.
+    /// Takes the rows that a core emitted since they were last taken.
     pub fn take_rows(&mut self, core: CoreId) -> Vec<Row>
         requires { core < self.old.system.cores }
         ensures rows { result.items

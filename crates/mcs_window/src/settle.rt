@@ -9,14 +9,14 @@ use mcs_mail::{Mail, Mailbox};
 use mcs_ticks::NoMemory;
 use std::mem;
 
-/// Whether the clocks are the same.
 pub(crate) fn same_front(one: &Front, other: &Front) -> bool
     ensures { IsTrue result ↔ one.now ≡ other.now }
 {
     one == other
 }
 
-/// Makes room in the box of a stretch for the mail that was collected meanwhile, and in what the core told for what it told in the stretch.
+/// Reserves room for the return of a core: in its box for the mail collected meanwhile, and in its
+/// collector for the rows of the stretch.
 pub(crate) fn make_own_room<S: Append>(
     mailbox: &mut Mailbox,
     collected: &Mailbox,
@@ -32,7 +32,6 @@ pub(crate) fn make_own_room<S: Append>(
     told.make_room(more)
 }
 
-/// Takes the first mail.
 fn take_first(mailbox: &mut Mailbox) -> Option<Mail>
     ensures first { mailbox.old.mails ≡ option_to_list result ++ mailbox.new.mails }
     ensures none { IfNone result (mailbox.old.mails ≡ []) }
@@ -41,7 +40,7 @@ fn take_first(mailbox: &mut Mailbox) -> Option<Mail>
     mailbox.take_due(next)
 }
 
-/// Moves all that was collected into a box, which has room for it.
+/// Moves all collected mail into a box, which has room for it.
 fn join(mailbox: &mut Mailbox, collected: &mut Mailbox)
     requires { length collected.old.mails ≤ mailbox.old.spare }
     ensures { mailbox.new.mails ≡ put_all collected.old.mails mailbox.old.mails }
@@ -54,7 +53,8 @@ fn join(mailbox: &mut Mailbox, collected: &mut Mailbox)
     }
 }
 
-/// Puts the box of a core that comes back in the place of the one in which its mail was collected, and moves that mail into it.
+/// Replaces the box that collected mail for a lent core by the core's own box, and moves the
+/// collected mail into it.
 pub(crate) fn put_box(boxes: &mut [Mailbox], core: usize, mailbox: Mailbox)
     requires known { core < length boxes.old }
     requires room { length (slice_index_or boxes.old core mailbox).mails ≤ mailbox.spare }

@@ -9,7 +9,7 @@ use mcs_core::CoreState;
 use mcs_system::System;
 use mcs_ticks::Tick;
 
-/// Each core whose clock is before the moment goes to it: until then all cores only count ticks.
+/// Sets each clock before the moment to it. Until then all cores only count ticks.
 pub(crate) fn skip_all(system: &System, clocks: &mut [Tick], states: &mut [CoreState], moment: Tick)
     requires well_formed { IsWellFormed system.now }
     requires clocks { length clocks.old ≡ system.now.cores }
@@ -30,7 +30,8 @@ pub(crate) fn skip_all(system: &System, clocks: &mut [Tick], states: &mut [CoreS
     }
 }
 
-/// Each core goes to the moment if its clock is before it. All cores are here, and until then they only count ticks.
+/// Sets each clock before the moment to it, with the core in its slot. No core is lent, and until
+/// then all cores only count ticks.
 pub(crate) fn skip_slots(system: &System, clocks: &mut [Tick], slots: &mut [Slot], moment: Tick)
     requires well_formed { IsWellFormed system.now }
     requires clocks { system.now.cores ≤ length clocks.old }
@@ -49,7 +50,7 @@ pub(crate) fn skip_slots(system: &System, clocks: &mut [Tick], slots: &mut [Slot
     }
 }
 
-/// A core that is here goes to the moment.
+/// Moves a core that is not lent to the moment.
 fn skip_slot(system: &System, slot: &mut Slot, moment: Tick)
     requires in_time { moment ≤ 2 ^ 40 + 1 }
     requires may { MaySkip system.now moment slot.old }

@@ -10,14 +10,14 @@ use std::alloc::Global;
 use std::boxed::Box;
 use std::sync::Arc;
 
-/// What a core is lent for: the moments from its clock to before `past`, by the clocks in `front`.
+/// The loan of a core: the moments from its clock to before `past`, by the clocks in `front`.
 #[derive(Clone, Copy)]
 pub(crate) struct Loan {
     pub(crate) past: Tick,
     pub(crate) front: Front,
 }
 
-/// Where a core is.
+/// The place of a core.
 #[derive(Drop)]
 pub(crate) enum Slot {
     // On the desk, with a copy of the system for its next piece.
@@ -28,7 +28,7 @@ pub(crate) enum Slot {
     Away(Loan),
 }
 
-/// The slots at the beginning: each core is here, in its first state.
+/// Returns the initial slots: no core is lent, each is in its initial state.
 pub(crate) fn opening_slots(alloc: Global, system: &Arc<System>) -> Result<Vec<Slot>, NoMemory>
     ensures { IfOk result (λ slots. AreFresh (arc_value system.now) (arc_value system.now).cores slots.items) }
 {

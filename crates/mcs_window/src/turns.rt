@@ -1,4 +1,4 @@
-//! Turns of a core where it lies.
+//! Turns of a core in place.
 ghost use Rattle.std.specs.Prelude.{◌≡◌, [], length, slice_index_or, IfOk, OnErr};
 ghost use Rattle.mcs_mail.specs.Box.{Content};
 ghost use Rattle.mcs_system.specs.WellFormed.{IsWellFormed};
@@ -13,7 +13,8 @@ use mcs_system::System;
 use mcs_ticks::{Collector, CoreId, NoMemory, Tick};
 use std::alloc::Global;
 
-/// Turns that a core is to take, from its clock in `front` up to before `past`, or until its collector has that much.
+/// Turns that a core is to take, from its clock in `front` to before `past`, or until its collector
+/// holds `most`.
 #[derive(Clone, Copy)]
 pub(crate) struct Turns<'a> {
     pub(crate) system: &'a System,
@@ -24,7 +25,8 @@ pub(crate) struct Turns<'a> {
 }
 
 impl Turns<'_> {
-    /// The core, which is here, takes them where it lies. Answers its new clock. The signals take the place of those that there were.
+    /// Takes the turns of the core, which is not lent, in place. Returns its new clock. `signals`
+    /// is cleared and then holds the signals of these turns.
     fn take<S: Collector>(
         &self,
         slot: &mut Slot,
@@ -48,7 +50,8 @@ impl Turns<'_> {
         Err(NoMemory)
     }
 
-    /// Takes the turns, and each signal goes to its home. Where memory is refused the mail of the other cores is as it was.
+    /// Takes the turns, and puts each signal into the box of its home. If memory runs out, the mail
+    /// of the other cores stays the same.
     pub(crate) fn take_and_deliver<S: Collector>(
         &self,
         slot: &mut Slot,
@@ -70,7 +73,7 @@ impl Turns<'_> {
     }
 }
 
-/// A core whose turns were refused memory stays lent. Its mail is gone, and so is what it told.
+/// Makes a core that ran out of memory stay lent. Its mail and its rows are dropped.
 pub(crate) fn spend<S: Collector>(
     past: Tick,
     front: &Front,

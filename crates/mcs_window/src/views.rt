@@ -1,4 +1,4 @@
-//! The contexts of all cores, as a caller is shown them.
+//! Views of the contexts of all cores.
 ghost use Rattle.std.specs.Prelude.{◌≡◌, ◌<◌, IfOk, map, slice_index_or};
 ghost use Rattle.mcs_core.specs.State.{State};
 ghost use Rattle.mcs_window.specs.Desk.{AllAreHere};
@@ -14,7 +14,7 @@ use mcs_ticks::{Collector, NoMemory};
 use std::alloc::Global;
 use std::collections::VecDeque;
 
-/// What has the state of a core.
+/// A holder of the state of a core.
 pub(crate) trait Stands {
     ghost use Rattle.std.specs.Prelude.{◌≡◌, IfOk};
     ghost use Rattle.mcs_core.specs.State.{State, Fits};
@@ -22,7 +22,6 @@ pub(crate) trait Stands {
 
     ghost state: { Self → State };
 
-    /// The views of the core's contexts, in file order.
     fn views(&self, alloc: Global, system: &System) -> Result<Vec<ContextView>, NoMemory>
         requires { Fits system.now (state self.now) }
         ensures { IfOk result (λ views. views.items ≡ views_of system.now (state self.now).core) };
@@ -36,7 +35,7 @@ impl Stands for CoreState {
     }
 }
 
-/// The state of a core that is here. Of one that is lent nothing is shown.
+/// The state of a core that is not lent. A lent core shows no views.
 impl Stands for Slot {
     ghost use Rattle.mcs_window.specs.stored.Views.{state_in};
 
@@ -50,7 +49,7 @@ impl Stands for Slot {
     }
 }
 
-/// The views of each core's contexts, in file order.
+/// Returns the views of each core's contexts, in file order.
 fn views_by_core<T: Stands>(
     alloc: Global,
     system: &System,
@@ -68,7 +67,7 @@ fn views_by_core<T: Stands>(
     Ok(queues)
 }
 
-/// The views of all contexts, in file order.
+/// Returns the views of all contexts, in file order.
 pub(crate) fn all_views<T: Stands>(
     alloc: Global,
     system: &System,
@@ -91,8 +90,9 @@ pub(crate) fn all_views<T: Stands>(
 }
 
 impl<S: Collector> Desk<S> {
-    /// Where no core is lent: the contexts of all cores in file order, each once, as its core has it at its clock: it shows its whole budget
-    /// in force then, and no ticks in use unless its thread runs.
+    /// The contexts of all cores in file order, each as its core has it at its clock. Each shows
+    /// its whole budget in force then, and no ticks in use unless its thread runs. No core may be
+    /// lent.
     pub fn contexts(&self, alloc: Global) -> Result<Vec<ContextView>, NoMemory>
         requires here { AllAreHere self.now }
         ensures views { IfOk result (λ views. views.items ≡ views_at self.now.system self.now.clocks) }

@@ -178,7 +178,7 @@ waiting =
 waiting_before_2 : core_before waits_system 2 ≡ waiting
 waiting_before_2 = refl
 
--- With an empty box the order is next, though it changes no thread ..
+-- The order is next if the box is empty, though it changes no thread ..
 an_order_is_obeyed : IsNextBusy waits_system 0 2 [] waiting (Some 4)
 an_order_is_obeyed = (2, refl, omega arith, quiet, tells _ _ (row.Order 2) [] refl)
   where

@@ -1,4 +1,4 @@
--- What the contexts of worked systems show at some moments, with the ticks in use.
+-- The contexts of worked systems at some moments, with the ticks in use.
 use Rattle.std.specs.Prelude.{◌≡◌, ℕ, ◌+◌, List, [], ◌∷◌, Some, None, refl, flat_map, sum}
 use Rattle.std.specs.List.{range_with_len}
 use Rattle.mcs_refills.specs.declared.refill.Refill.{Refill}
@@ -73,8 +73,9 @@ left_by_an_order :
     changed_by 1 mixed_changes (opening_context worked.arrival_before_order_before_release_system 1) ≡ context_before worked.arrival_before_order_before_release_system 1 5
 left_by_an_order = refl
 
--- a round robin context of 3: it is charged 1 at moment 1, where its thread is preempted, and 2 at moment 4, where the slice is used up; so
--- from the full slice at first to the next one, before moment 5, it is charged its budget
+-- a round robin context of 3: it is charged 1 at moment 1, when its thread is preempted, and 2 at
+-- moment 4, when the slice is used up. It is charged its budget from the full slice at first to the
+-- next one, before moment 5
 slice_is_charged : charges_from worked.round_robin_takes_turns_system 0 0 5 ≡ 1 ∷ 2 ∷ []
 slice_is_charged = refl
 
@@ -133,7 +134,7 @@ spent_before_an_order = refl
 left_by_the_order : HasLeft ordered_at_the_end_system 0 4 2
 left_by_the_order = refl
 
--- where the order came in between, the charges from a full slice to a full one sum to neither budget
+-- if the order comes in between, the charges from a full slice to a full one sum to neither budget
 order_between : orders_within ordered_system 0 7 2 ≡ order 7 0 1 1 0 ∷ []
 order_between = refl
 

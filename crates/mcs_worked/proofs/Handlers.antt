@@ -7,8 +7,9 @@ use Rattle.mcs_system.specs.System.{System}
 use Rattle.mcs_core.specs.Clock.{schedule}
 use Rattle.mcs_worked.specs.Parts.{context, note, server, thread, source, beat, at, one_core}
 
--- Two sources interrupt at 2. The thread is woken with the badge of the first, and goes through its handler alone; the badge of the second is held,
--- and taken by the next round, which goes through the other handler. The second source has no more than one date.
+-- Two sources interrupt at 2. The thread is woken with the badge of the first, and runs only its
+-- handler; the badge of the second is held, and taken by the next round, which runs the other
+-- handler. The second source has one date.
 abbrev two_handlers_system : System
 two_handlers_system =
     record (one_core (context (codes "d") 0 9 20 0 ∷ []) (note (codes "n") 0 ∷ [])
@@ -56,8 +57,8 @@ nobodys_badge : schedule nobodys_badge_system 4 ≡
     ∷ []
 nobodys_badge = refl
 
--- L runs at the server's priority of 40 from 1 to 6, so neither H, of priority 30, nor M, of 20, stops it. What the server computes is charged to
--- whoever called it.
+-- L runs at the server's priority of 40 from 1 to 6, so neither H, of priority 30, nor M, of 20,
+-- stops it. The server's ticks are charged to its caller.
 abbrev a_server_on_its_callers_budget_system : System
 a_server_on_its_callers_budget_system =
     record (one_core (context (codes "l") 0 20 100 0 ∷ context (codes "h") 0 20 100 0 ∷ context (codes "m") 0 60 100 0 ∷ []) (server (codes "v") 0 ∷ [])
@@ -113,7 +114,7 @@ a_server_that_is_taken : schedule a_server_that_is_taken_system 22 ≡
     ∷ []
 a_server_that_is_taken = refl
 
--- A guest that computes without end is stopped by a preemption and by the end of its slice, and by nothing of its own.
+-- A guest that computes without end is stopped only by a preemption and by the end of its slice.
 abbrev a_guest_that_spins_system : System
 a_guest_that_spins_system =
     one_core (context (codes "g") 0 2 2 0 ∷ context (codes "a") 0 1 10 0 ∷ []) []

@@ -1,4 +1,4 @@
--- Two ready threads that stand in the one list the other way round than by priority.
+-- Two ready threads whose order in the one list is not that by priority.
 use Rattle.std.specs.Prelude.{◌≡◌, ◌+◌, ℕ, zero, suc, List, [], ◌∷◌, Some, None, refl, codes}
 use Rattle.std.proofs.Common.{arith}
 use Rattle.mcs_ticks.specs.Queue.{by_priority, in_one_list}

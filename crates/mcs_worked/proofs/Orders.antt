@@ -7,9 +7,9 @@ use Rattle.mcs_system.specs.System.{System}
 use Rattle.mcs_core.specs.Clock.{schedule}
 use Rattle.mcs_worked.specs.Parts.{context, note, thread, order, at, one_core, two_cores}
 
--- The running thread is charged by the configuration in force before the order is applied. The head of 3 ticks that the charge
--- leaves is less than the minimum and joins the refill at 100, so the context is not ready before 97 and the thread must wait
--- for it; the order keeps that moment.
+-- The running thread is charged by the configuration in force before the order is applied. The head
+-- of 3 ticks that the charge leaves is less than the minimum and joins the refill at 100. The
+-- thread must wait for its context until 97, and the order keeps that moment.
 abbrev order_charges_first_system : System
 order_charges_first_system =
     record (one_core (context (codes "a") 0 10 100 0 ∷ []) [] (thread (codes "A") 0 5 0 1 0 (Compute 20 ∷ []) ∷ []) (order 7 0 8 50 0 ∷ [])) { min_budget = 4 }
@@ -66,8 +66,8 @@ order_for_a_ready_thread : schedule order_for_a_ready_thread_system 5 ≡
     ∷ []
 order_for_a_ready_thread = refl
 
--- For a blocked thread it changes the context alone, too: woken at 5, the thread has the 2 ticks that the order at 3 left it, and
--- they return a new period after 5. So it is for a thread that is done and for a context without a thread, in file order.
+-- For a blocked thread, too, it changes the context alone: woken at 5, the thread has the 2 ticks
+-- that the order at 3 left it, and they return a new period after 5. This also holds for a thread that is done and for a context without a thread, in file order.
 abbrev order_for_a_blocked_thread_system : System
 order_for_a_blocked_thread_system =
     one_core (context (codes "w") 0 5 20 0 ∷ context (codes "s") 0 9 20 0 ∷ context (codes "x") 0 5 20 0 ∷ []) (note (codes "n") 0 ∷ [])
@@ -94,8 +94,8 @@ order_for_a_blocked_thread : schedule order_for_a_blocked_thread_system 9 ≡
     ∷ []
 order_for_a_blocked_thread = refl
 
--- An order at the moment at which the thread stops by itself comes after that stop, and stops nobody: here a thread that is done
--- at 2, one that blocks at 3, and one that yields at 4.
+-- An order at the moment of a thread's stop comes after that stop, and
+-- stops no thread: here a thread that is done at 2, one that blocks at 3, and one that yields at 4.
 abbrev order_after_the_stop_system : System
 order_after_the_stop_system =
     one_core (context (codes "a") 0 4 20 0 ∷ context (codes "b") 0 4 20 0 ∷ context (codes "c") 0 4 20 0 ∷ []) (note (codes "n") 0 ∷ [])
@@ -127,7 +127,7 @@ order_after_the_stop : schedule order_after_the_stop_system 21 ≡
     ∷ []
 order_after_the_stop = refl
 
--- So it is at the moment at which the budget is spent.
+-- This also holds at the moment at which the budget is exhausted.
 abbrev order_after_a_spent_budget_system : System
 order_after_a_spent_budget_system =
     one_core (context (codes "a") 0 3 10 0 ∷ []) [] (thread (codes "A") 0 5 0 1 0 (Compute 9 ∷ []) ∷ []) (order 3 0 2 8 0 ∷ [])
@@ -143,7 +143,7 @@ order_after_a_spent_budget : schedule order_after_a_spent_budget_system 12 ≡
     ∷ []
 order_after_a_spent_budget = refl
 
--- An order at 0 stands before the releases of 0.
+-- An order at 0 comes before the releases of 0.
 abbrev order_at_the_first_moment_system : System
 order_at_the_first_moment_system =
     one_core (context (codes "a") 0 5 20 0 ∷ []) [] (thread (codes "A") 0 5 0 1 0 (Compute 9 ∷ []) ∷ []) (order 0 0 3 10 0 ∷ [])
@@ -177,8 +177,9 @@ ordered_to_the_front : schedule ordered_to_the_front_system 4 ≡
     ∷ []
 ordered_to_the_front = refl
 
--- Of a slice an order leaves the lesser of what is left and the new budget: 4 were left at 2, and 3 are left then. A greater
--- budget shows first at the next full slice: at 6 two were left, and 9 are there from 8 on.
+-- An order limits what is left of a slice to the new budget: 4 were left at 2, and 3 are left then.
+-- A greater budget shows first at the next full slice: at 6 two were left, and 9 are there from 8
+-- on.
 abbrev order_for_a_slice_system : System
 order_for_a_slice_system =
     one_core (context (codes "a") 0 6 6 0 ∷ []) [] (thread (codes "A") 0 5 0 1 0 (Compute 30 ∷ []) ∷ []) (order 2 0 3 3 0 ∷ order 6 0 9 9 0 ∷ [])

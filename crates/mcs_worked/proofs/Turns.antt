@@ -12,8 +12,8 @@ use Rattle.mcs_core.specs.Clock.{schedule, world, core_at}
 use Rattle.mcs_core.specs.Quiet.{IsQuiet}
 use Rattle.mcs_worked.specs.Parts.{context, note, thread, at, one_core, two_cores}
 
--- A signal takes effect before its thread stops. The signaller's slice is spent at that very moment, so at equal priority the
--- woken thread stands before it in the ready queue and runs next.
+-- A signal takes effect before its thread stops. The signaller's slice is exhausted at that very
+-- moment, so at equal priority the woken thread is before it in the ready queue and runs next.
 abbrev wake_before_stop_system : System
 wake_before_stop_system =
     one_core (context (codes "w") 0 5 10 0 ∷ context (codes "s") 0 2 2 0 ∷ []) (note (codes "n") 0 ∷ [])
@@ -37,9 +37,10 @@ wake_before_stop : schedule wake_before_stop_system 5 ≡
     ∷ []
 wake_before_stop = refl
 
--- A thread that blocks is charged and waits before the arrivals of the moment, so a signal that arrives then wakes it at once.
--- Its context is unblocked as the charge left it: one tick may be used from 3 on, the other three from 10 on. A later wait does
--- not begin the round anew: the response counts from the start.
+-- A thread that blocks is charged and waits before the arrivals of the moment, so a signal that
+-- arrives then wakes it at once. Its context is unblocked as the charge left it: one tick may be
+-- used from 3 on, the other three from 10 on. A later wait does not restart the round: the response
+-- counts from the start.
 abbrev blocked_and_woken_at_once_system : System
 blocked_and_woken_at_once_system =
     two_cores (context (codes "w") 0 4 10 0 ∷ context (codes "s") 1 5 10 0 ∷ []) (note (codes "n") 0 ∷ [])
@@ -65,8 +66,8 @@ blocked_and_woken_at_once : schedule blocked_and_woken_at_once_system 12 ≡
     ∷ []
 blocked_and_woken_at_once = refl
 
--- Where the first item is a wait, the round begins when that wait gives its word: at 3 and, after the first round's end at 9, at
--- 12. The wait within the round leaves its beginning.
+-- If the first item is a wait, the round begins when that wait gives its word: at 3 and, after the
+-- first round's end at 9, at 12. The wait within the round leaves its beginning.
 abbrev round_begins_at_the_word_system : System
 round_begins_at_the_word_system =
     one_core (context (codes "w") 0 10 100 0 ∷ context (codes "s") 0 20 100 0 ∷ []) (note (codes "n") 0 ∷ [])

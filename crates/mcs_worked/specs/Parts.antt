@@ -19,7 +19,7 @@ abbrev pub context : List ℕ → ℕ → ℕ → ℕ → ℕ → ContextPart
 context name core budget period extra =
     record { name = name; core = core; config = record { budget = budget; period = period; extra = extra }; mode = Sporadic }
 
--- the same in bandwidth mode
+-- a context in bandwidth mode
 abbrev pub bandwidth_context : List ℕ → ℕ → ℕ → ℕ → ℕ → ContextPart
 bandwidth_context name core budget period extra =
     record { name = name; core = core; config = record { budget = budget; period = period; extra = extra }; mode = Bandwidth }
@@ -28,7 +28,7 @@ bandwidth_context name core budget period extra =
 abbrev pub note : List ℕ → ℕ → NotePart
 note name core = record { name = name; core = core; word = 0 }
 
--- the same with a word that it holds at first
+-- a notification with a word that it holds at first
 abbrev pub note_with : List ℕ → ℕ → ℕ → NotePart
 note_with name core word = record { name = name; core = core; word = word }
 
@@ -54,7 +54,7 @@ abbrev pub order : ℕ → ℕ → ℕ → ℕ → ℕ → Order
 order moment context budget period extra =
     record { moment = moment; context = context; config = record { budget = budget; period = period; extra = extra } }
 
--- a link: its maker, its home, and how long a signal of the one is under way to the other
+-- a link: its maker, its home, and the delay of a signal from the one to the other
 abbrev pub link : ℕ → ℕ → ℕ → Link
 link maker home delay = record { maker = maker; home = home; delay = delay }
 
@@ -62,7 +62,7 @@ link maker home delay = record { maker = maker; home = home; delay = delay }
 abbrev pub source : List ℕ → ℕ → ℕ → SourcePart
 source name note badge = record { name = name; note = note; badge = badge }
 
--- dates of a source: its number, the first one, the period, and how many there are, 0 for no end
+-- dates of a source: its number, the first one, the period, and their number, 0 for no end
 abbrev pub beat : ℕ → ℕ → ℕ → ℕ → Beat
 beat source first period count = record { source = source; first = first; period = period; count = count }
 
@@ -70,7 +70,7 @@ beat source first period count = record { source = source; first = first; period
 abbrev pub chain : List ℕ → ℕ → ℕ → ℕ → ℕ → ChainPart
 chain name source thread badges deadline = record { name = name; source = source; thread = thread; badges = badges; deadline = deadline }
 
--- a row: its moment, its core, and what happens
+-- a row: its moment, its core, and its event
 abbrev pub at : ℕ → ℕ → What → Row
 at moment core what = record { moment = moment; core = core; what = what }
 

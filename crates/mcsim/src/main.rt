@@ -1,4 +1,5 @@
-//! The program: it reads its words, opens the file or takes standard input, and ends with the status of what happened.
+//! The program `mcsim`. It reads its options, opens the file or takes standard input, and ends with
+//! an exit code.
 #![tactic(auto)]
 
 mod meter;
@@ -39,12 +40,13 @@ fn main(rt: HostRuntime) -> ExitCode {
     }
 }
 
-/// Whether it is shown how far the run is: on a terminal, but not where the schedule is written to one, which shows it by itself.
+/// Whether progress is shown: on a terminal, unless the schedule is written to one, which shows it
+/// too.
 fn shows_progress(rt: &HostRuntime, options: &Options) -> bool {
     rt.stderr().is_terminal() && (options.show == Show::Reports || !rt.stdout().is_terminal())
 }
 
-/// The status of a run, of whose fault a line tells.
+/// Writes the line of a run's fault to standard error, and returns the exit code.
 fn end(rt: &HostRuntime, ran: Result<(), RunFault>) -> ExitCode {
     match ran {
         Ok(()) => ExitCode::SUCCESS,
@@ -56,7 +58,7 @@ fn end(rt: &HostRuntime, ran: Result<(), RunFault>) -> ExitCode {
     }
 }
 
-/// Says why the words are not carried out: help on standard output, all else on standard error.
+/// Writes the text of a refused command line: help to standard output, all else to standard error.
 fn tell(rt: &HostRuntime, fault: &WordsFault) -> ExitCode {
     match fault {
         WordsFault::Help(text) => match rt.print(text.as_str()) {
@@ -68,7 +70,7 @@ fn tell(rt: &HostRuntime, fault: &WordsFault) -> ExitCode {
     }
 }
 
-/// The words after the program's name.
+/// Returns the arguments after the program's name.
 fn words_of(rt: &HostRuntime) -> io::Result<Vec<String>> {
     let mut words = Vec::new(rt.alloc());
     for word in env::args(rt)?.skip(1) {

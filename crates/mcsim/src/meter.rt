@@ -1,15 +1,16 @@
+//! Shows the progress of a run on a terminal.
 use mcs_cli::Gate;
 use mcs_ticks::{CoreId, Tick};
 use std::sync::{Mutex, Wait};
 use std::time::{Clock, Duration, Instant};
 
-/// It is shown how far a run is once nothing was shown for so many milliseconds.
+/// Milliseconds of a run without progress shown before the line appears.
 const FIRST: u64 = 1_000;
 
-/// And shown anew after so many.
+/// Milliseconds between two updates of the line.
 const AGAIN: u64 = 200;
 
-/// Shows how far a run is, in a line that is gone when the run has ended.
+/// Shows the progress of a run, in a line that is erased when the run ends.
 #[derive(Drop)]
 pub(crate) struct Meter<'a, R: Clock + Eprint + Wait> {
     rt: &'a R,
@@ -20,13 +21,14 @@ pub(crate) struct Meter<'a, R: Clock + Eprint + Wait> {
 /// The line of a meter.
 #[derive(Drop)]
 struct Line {
-    /// When it was last written, or the run began; None where it is not to be shown, or there is no clock.
+    /// Time of the last write, or the start of the run. `None` if the line isn't shown, or there is
+    /// no clock.
     since: Option<Instant>,
     is_shown: bool,
 }
 
 impl<'a, R: Clock + Eprint + Wait> Meter<'a, R> {
-    /// Of a run to this horizon, which shows nothing unless it is to.
+    /// Returns a meter for a run to this horizon. If `shows` is false it shows no line.
     pub(crate) fn new(rt: &'a R, horizon: Tick, shows: bool) -> Self {
         let since = if shows { Instant::now(rt).ok() } else { None };
         Meter {
@@ -39,7 +41,7 @@ impl<'a, R: Clock + Eprint + Wait> Meter<'a, R> {
         }
     }
 
-    /// The line has to go, since something else is written next.
+    /// Erases the line, since other text is written next.
     pub(crate) fn wipe(&self) {
         let mut line = self.line.lock(self.rt);
         if line.is_shown {

@@ -1,4 +1,4 @@
--- What holds of each context, and what its charges take.
+-- Properties that hold for each context, and the dates that its charges take.
 use Rattle.std.specs.Prelude.{◌≡◌, ℕ, ◌<◌, ◌≤◌, List, [], ◌∷◌, ◌++◌, length}
 use Rattle.mcs_control.specs.declared.config.Config.{Config}
 use Rattle.mcs_control.specs.declared.config.Mode.{Mode}
@@ -9,14 +9,15 @@ use Rattle.mcs_control.specs.Context.{Budget, Context, dates_in, new_context, co
 use Rattle.mcs_control.specs.Context.Budget.{Dates, Slice}
 use Rattle.mcs_control.specs.Control.{IsConfig, kind_of}
 
--- a sporadic context's dates are as many as its budget, ascend and span less than a period; of a slice at least a tick is left
--- and at most the budget
+-- a sporadic context has one date for each tick of its budget, which ascend and span less than a
+-- period; a slice has at least 1 tick and at most the budget left
 abbrev pub IsWhole : Config → Budget → Type 0
 IsWhole config (Dates dates) = AreKept config.budget config.period dates
 IsWhole config (Slice left) = (1 ≤ left) × (left ≤ config.budget)
 
--- a budget of the configuration's kind: as many dates as the budget, which ascend and span less than the period, in few refills;
--- or a slice with something left, and at most the budget
+-- a budget of the configuration's kind: one date for each tick of the budget, which ascend and span
+-- less than the period, in at most `max_refills` refills; or a slice with at least 1 tick and at
+-- most the budget left
 abbrev pub IsBudgetOf : Config → Budget → Type 0
 IsBudgetOf config (Dates dates) =
     (config.budget < config.period) × AreKept config.budget config.period dates
@@ -28,8 +29,8 @@ pub record IsContext (context : Context) : Type 0 where
   pub config : IsConfig context.config
   pub budget : IsBudgetOf context.config context.budget
 
--- a new context is in good order, a charge and unblocking, a wake and a choice leave it so, and an order makes it so by the new
--- configuration
+-- a new context is in good order; a charge, unblocking, a wake and a choice keep it so; an order
+-- makes it so under the new configuration
 abbrev pub ContextsAreKept : Type 0
 ContextsAreKept =
     ((config : Config) (mode : Mode) (at : ℕ) → IsConfig config → IsContext (new_context config mode at))
@@ -41,7 +42,7 @@ ContextsAreKept =
     × ((t : ℕ) (config : Config) (context : Context) → IsContext context → IsConfig config → kind_of config
     ≡ kind_of context.config → IsContext (context_ordered t config context))
 
--- what is done to a context: charges, and the unblocking of a wake or a choice
+-- a step of a context: a charge, or the unblocking of a wake or a choice
 abbrev pub context_stepped : Step → Context → Context
 context_stepped (Charge k min_budget) context = context_charged k min_budget context
 context_stepped (Unblock t) context = context_unblocked t context
@@ -56,7 +57,7 @@ consumed_from [] context = []
 consumed_from (step ∷ steps) context =
     used_from step context.budget ++ consumed_from steps (context_stepped step context)
 
--- where no order comes between, the date a whole budget later is at least a period later
+-- with no order between, the date a whole budget later is at least a period later
 abbrev pub ConsumedAreSpaced : Type 0
 ConsumedAreSpaced =
     (context : Context) (steps : List Step) → IsContext context → AreProper steps →

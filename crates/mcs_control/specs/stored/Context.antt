@@ -16,12 +16,12 @@ held_budget (RoundRobin slice) = Slice slice.left
 abbrev pub held : Config → Mode → Budget → context.Context
 held config mode budget = record { config = config; mode = mode; budget = held_budget budget }
 
--- the refills are unblocked at t
+-- the budget with its refills unblocked at t
 abbrev pub unblocked : ℕ → Budget → Budget
 unblocked t (Sporadic server) = Sporadic (server_unblocked t server)
 unblocked t (RoundRobin slice) = RoundRobin slice
 
--- the refills or the slice are configured as the context is
+-- the refills or the slice have the configuration of the context
 abbrev pub IsConfigured : Config → ℕ → Budget → Type 0
 IsConfigured config room (Sporadic server) =
     (server.period ≡ config.period) × (server.max_refills ≡ context.max_refills_of config) × (server.room ≡ room)

@@ -1,9 +1,9 @@
--- The contexts of a core as they are kept: each behind a pointer, with room for its refills.
+-- The contexts of a core as they are stored: each in a box, with room for its refills.
 use Rattle.std.specs.Prelude.{◌≡◌, List, [], ◌∷◌, map, Option, Some, None, option_map}
 use Rattle.std.specs.Global.{Box}
 use Rattle.mcs_control.specs.Context.{Context, WithRoom}
 
--- a context where it is kept
+-- a stored context
 abbrev pub Kept : Type 0
 Kept = Box WithRoom
 
@@ -13,7 +13,7 @@ unboxed kept = option_map (λ box. box.value) kept
 abbrev pub seen_contexts : List (Option Kept) → List (Option Context)
 seen_contexts contexts = map (λ kept. option_map (λ own. own.context) (unboxed kept)) contexts
 
--- there is room for as many refills as any configuration may ask for
+-- there is room for as many refills as any configuration may have
 abbrev pub HasRoom : Option WithRoom → Type 0
 HasRoom None = Unit {0}
 HasRoom (Some kept) = kept.room ≡ 66

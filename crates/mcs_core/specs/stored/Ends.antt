@@ -1,4 +1,5 @@
--- When the thread that runs ends its item or uses up its head, or is to give way, as long as nothing else happens on its core.
+-- When the running thread ends its item or exhausts its head, or has to give way, if its core has
+-- no other event.
 use Rattle.std.specs.Prelude.{◌≡◌, ℕ, ◌<◌, true, length, nat_lt, if◌then◌else◌, Option, Some, None, IfSome}
 use Rattle.mcs_ticks.specs.Queue.{first_of}
 use Rattle.mcs_ticks.specs.declared.queue.Queued.{Queued}
@@ -12,18 +13,19 @@ use Rattle.mcs_core.specs.stored.Sound.{has_context}
 use Rattle.mcs_system.specs.System.{System, thread_part}
 
 module _ (system : System) where
-  -- a thread of the core that has not used up the head of its context
+  -- a thread of the core that has not exhausted the head of its context
   pub record IsUnspent (core : Core) (chosen : Chosen) : Type 0 where
     pub known : chosen.thread < length core.threads
     pub part : chosen.thread < length system.threads
     pub has : has_context (thread_part system chosen.thread).context core ≡ true
     pub unspent : chosen.using < head_amount (its_context system chosen.thread core)
 
-  -- no ready thread is to run instead of the one that runs, if one does
+  -- no ready thread has to run instead of the running one, if there is one
   abbrev pub HoldsOn : Core → Type 0
   HoldsOn core = IfSome core.running (λ chosen. IsBest core (Some chosen) (first_of core.ready))
 
-  -- the first moment from this one on at which the thread that runs ends its item or uses up its head, or a ready thread is to run
+  -- the first moment from `from` on at which the running thread ends its item or exhausts its head,
+  -- or a ready thread has to run
   abbrev pub IsEnd : ℕ → Core → Option ℕ → Type 0
   IsEnd from core ends =
       IsFirst from (λ n. GoesOnAfter system n core.running core × IsBest core core.running (first_of core.ready)) ends
@@ -34,7 +36,7 @@ module _ (system : System) where
       let core = stands thread Running (with_chosen_context system t thread core) in
       record core { running = Some (record { thread = thread; using = 0 }) }
 
--- this moment, where the first ready thread has a priority above this one
+-- this moment, if the first ready thread has a priority above this one
 abbrev pub better : ℕ → ℕ → Option Queued → Option ℕ
 better priority moment None = None
 better priority moment (Some best) = if nat_lt priority best.priority then Some moment else None

@@ -1,4 +1,4 @@
--- What an item needs of its core.
+-- The conditions of an item on its core.
 use Rattle.std.specs.Prelude.{◌≡◌, ℕ, ◌<◌, length, Option, Some, None}
 use Rattle.mcs_script.specs.declared.item.Item.{Item}
 use Rattle.mcs_script.specs.declared.item.Item.TheVariants.{Compute, Signal, Wait, Yield, On, Spin, Enter, Leave}
@@ -22,7 +22,7 @@ IsNoted notes (Some (Leave server priority)) = server < notes
 IsNoted notes None = Unit {0}
 
 module _ (system : System) (c t x : ℕ) where
-  -- whom a signal wakes is free, and the thread goes on in its script after it
+  -- a thread that a signal wakes is free, and this thread still has a place in its script after it
   abbrev pub SignalsFree : Option Item → Core → Type 0
   SignalsFree (Some (Signal note badge)) core =
       WakesFree system note badge core

@@ -1,5 +1,5 @@
--- One part of a turn in the hands of the code: where and when it is taken, what a whole turn asks for, and what a part adds to the lists
--- that it was lent.
+-- One part of a turn in the code: its place and time, the conditions of a whole turn, and what a
+-- part adds to the lists that it was lent.
 use Rattle.std.specs.Prelude.{◌≡◌, ℕ, Bool, ◌+◌, ◌<◌, ◌≤◌, ◌^◌, List, ◌++◌, length, slice_index, All, IfSome, None}
 use Rattle.mcs_ticks.specs.declared.row.Row.{Row}
 use Rattle.mcs_ticks.specs.declared.row.What.{What}
@@ -20,33 +20,34 @@ use Rattle.mcs_core.specs.Turn.{stamped, Turn}
 use Rattle.mcs_core.specs.declared.log.Here.{Here}
 use Rattle.mcs_core.specs.declared.log.Log.{Log}
 
--- the delay to a core stands in the row
+-- the delay to a core is in the row
 pub record HasDelayTo (here : Here) (home : ℕ) : Type 0 where
   pub known : home < 64
   pub is : slice_index here.delays.now home ≡ delay_between here.system.now here.core home
   pub short : slice_index here.delays.now home ≤ 2 ^ 20
 
--- and so does that to the home of each notification
+-- the delays to the homes of all notifications are in the row
 abbrev pub HasDelays : Here → Type 0
 HasDelays here =
     (note : ℕ) → note < length here.system.now.notes → HasDelayTo here (note_part here.system.now note).core
 
 module _ {S : Type 0} (takes : S → Row → Bool → S → Type 0) where
-  -- the sink was given these rows, with the core and the moment, and these signals were added to the list; both are still
-  -- those that were lent
+  -- the sink was given these rows, with the core and the moment, and these signals were added to
+  -- the list; both are still those that were lent
   pub record Adds (here : Here) (told : List What) (mails : List Mail) (before after : Log S) : Type 0 where
     pub rows : Given takes before.sink.now (stamped here.core here.moment told) after.sink.now
     pub signals : after.signals.now.items ≡ before.signals.now.items ++ mails
     pub same_sink : after.sink.ghost_name ≡ before.sink.ghost_name
     pub same_signals : after.signals.ghost_name ≡ before.signals.ghost_name
 
-  -- a part that is taken here makes this turn: the core becomes the turn's, and its rows and signals are added
+  -- a part that is taken here makes this turn: the core becomes the turn's, and its rows and
+  -- signals are added
   pub record Makes (here : Here) (made : Turn) (left : Core) (before after : Log S) : Type 0 where
     pub core : left ≡ made.core
     pub adds : Adds here made.rows made.mails before after
 
--- core c of a system may take its turn at moment t, when so many quiet ticks are counted, with this row of delays of its signals, these orders
--- to come and this mail in its box
+-- core c of a system may take its turn at moment t, after `quiet` quiet ticks are counted; `row`:
+-- the delays of its signals, `orders`: its orders to come, `mails`: the mail in its box
 pub record CanTurn (system : System) (c t : ℕ) (row : List ℕ) (quiet : ℕ) (orders : List Order) (alarms : List Alarm) (mails : List Mail) (core : Core) : Type 0 where
   pub well_formed : IsWellFormed system
   pub sound : IsSound system c t Between None (counted_times system c quiet core)

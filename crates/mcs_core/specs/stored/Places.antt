@@ -1,4 +1,4 @@
--- The place of the first alarm that rings, and the blocks in which it is looked for.
+-- The place of the first alarm that rings, and the blocks in which it is searched.
 use Rattle.std.specs.Prelude.{◌≡◌, ℕ, ◌+◌, ◌*◌, ◌<◌, ◌≤◌, true, false, List, length, take, drop, get_or, set, Option, Some, None}
 use Rattle.mcs_core.specs.Alarms.{rings, rung, first_date, first_ringing, with_first_rung, no_alarm}
 use Rattle.mcs_core.specs.declared.alarm.Alarm.{Alarm}
@@ -6,7 +6,7 @@ use Rattle.mcs_core.specs.declared.alarm.Alarm.{Alarm}
 abbrev pub alarm_at : List Alarm → ℕ → Alarm
 alarm_at alarms k = get_or alarms k no_alarm
 
--- none of those before the n-th rings
+-- the alarms before the n-th do not ring
 abbrev pub AreSilent : ℕ → List Alarm → ℕ → Type 0
 AreSilent t alarms n = (k : ℕ) → k < n → rings t (alarm_at alarms k) ≡ false
 
@@ -19,7 +19,7 @@ IsFirstPlace t alarms (Some k) =
     × (with_first_rung t alarms ≡ set alarms k (rung (alarm_at alarms k)))
     × AreSilent t alarms k
 
--- a block: 64 alarms, or those that are left
+-- a block: 64 alarms, or the rest
 abbrev pub block : ℕ → List Alarm → List Alarm
 block b alarms = take 64 (drop (64 * b) alarms)
 

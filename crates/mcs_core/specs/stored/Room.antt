@@ -1,4 +1,4 @@
--- What the queues and notifications of a core have room for: all its threads.
+-- The room of the queues and notifications of a core: all its threads.
 use Rattle.std.specs.Prelude.{◌≡◌, ℕ}
 
 pub record IsRoomy (threads ready releases waiters : ℕ) : Type 0 where

@@ -1,4 +1,5 @@
--- What holds of a core for the system that it runs: where each thread stands, and what its context may be charged.
+-- The invariant of a core for its system: the place of each thread, and the possible charges of its
+-- context.
 use Rattle.std.specs.Prelude.{◌≡◌, ℕ, ◌+◌, ◌^◌, ◌<◌, ◌≤◌, Bool, true, false, ◌==◌, if◌then◌else◌, List, [], ◌∷◌, length, Option, Some, None, IsOk}
 use Rattle.std.specs.List.{AllByRecursion}
 use Rattle.mcs_control.specs.laws.Contexts.{IsWhole}
@@ -16,7 +17,8 @@ use Rattle.mcs_core.specs.Places.{times_queued, times_dated, times_waiting}
 use Rattle.mcs_core.specs.Core.{Core, thread_of, context_of, note_of, with_note}
 use Rattle.mcs_core.specs.Turn.{its_context}
 
--- how often a thread that stands so is in the ready queue, in the release queue, and among the waiters
+-- how often a thread with this standing is in the ready queue, in the release queue, and among the
+-- waiters
 abbrev pub times_ready : Standing → ℕ
 times_ready Ready = 1
 times_ready Blocked = 0
@@ -41,7 +43,7 @@ times_blocked Running = 0
 times_blocked Done = 0
 times_blocked Elsewhere = 0
 
--- whether a thread that stands so belongs to the core
+-- whether a thread with this standing belongs to the core
 abbrev pub is_here : Standing → Bool
 is_here Elsewhere = false
 is_here Blocked = true
@@ -50,7 +52,7 @@ is_here Ready = true
 is_here Running = true
 is_here Done = true
 
--- whether a thread that stands so runs or may be chosen
+-- whether a thread with this standing runs or may be chosen
 abbrev pub may_run : Standing → Bool
 may_run Ready = true
 may_run Running = true
@@ -72,19 +74,19 @@ standing_of (Some loose) x core = if loose.thread == x then loose.standing else 
 abbrev pub has_context : ℕ → Core → Bool
 has_context context core = is_own context core.contexts
 
--- where in a turn the core is: between two turns, in the end of a tick, or past it
+-- the phase of the core in a turn: between two turns, in the end of a tick, or past it
 pub data Phase : Type 0 where
   Between : Phase
   InTick : Phase
   PastTick : Phase
 
--- the ticks that the running thread has used at least
+-- the minimum of ticks that the running thread has used
 abbrev pub least_used : Phase → ℕ
 least_used Between = 0
 least_used InTick = 1
 least_used PastTick = 1
 
--- whether it may just have used up its head
+-- whether it may just have exhausted its head
 abbrev pub slack : Phase → ℕ
 slack Between = 0
 slack InTick = 1
@@ -107,14 +109,14 @@ module _ (system : System) where
   AreEarly core [] = Unit {0}
   AreEarly core (dated ∷ others) = (dated.date ≤ 2 ^ 40 → IsEarly dated.thread core) × AreEarly core others
 
-  -- a context of the core: the configuration in force passed its check, is of the kind that the context has from the
-  -- first, and the budget is kept by it
+  -- a context of the core: the configuration in force passed its check, is of the context's first
+  -- kind, and the budget is whole under it
   pub record IsContextOf (k : ℕ) (context : Context) : Type 0 where
     pub accepted : IsOk (checked system.min_budget context.config)
     pub same_kind : kind_of context.config ≡ kind_of (context_part system k).config
     pub kept : IsWhole context.config context.budget
 
-  -- the running thread: its head has come, and it has not used more than the head
+  -- the running thread: its head has come, and it has used at most the head
   pub record IsRunning (phase : Phase) (chosen : Chosen) (core : Core) : Type 0 where
     pub stands : (thread_of core chosen.thread).standing ≡ Running
     pub used : least_used phase ≤ chosen.using
@@ -125,27 +127,27 @@ module _ (system : System) where
   RunsRight phase None core = Unit {0}
   RunsRight phase (Some chosen) core = IsRunning phase chosen core
 
-  -- a thread of the core that stands in neither queue
+  -- a thread of the core that is in neither queue
   pub record IsFree (x : ℕ) (core : Core) : Type 0 where
     pub known : x < length core.threads
     pub placed : IsPlaced x core
     pub not_ready : times_queued x core.ready ≡ 0
     pub not_pending : times_dated x core.releases ≡ 0
 
-  -- such a thread, whose context may be charged so many ticks
+  -- such a thread, whose context may be charged this many ticks
   pub record CanStop (x ticks : ℕ) (core : Core) : Type 0 where
     pub free : IsFree x core
     pub some : 1 ≤ ticks
     pub in_head : ticks ≤ head_amount (its_context system x core)
     pub early : IsEarly x core
 
-  -- whom a post wakes is free when it has left the waiters
+  -- a thread that a post wakes is free when it has left the waiters
   abbrev pub WakesFree : ℕ → ℕ → Core → Type 0
   WakesFree note badge core =
       (x word : ℕ) → posted badge (note_of core note) ≡ Woke x word →
       IsFree x (with_note note (after_post (Woke x word) (note_of core note)) core)
 
--- core `number` of a system, whose release queue has dates of this moment or later alone
+-- core `number` of a system, with only dates of this moment or later in its release queue
 module _ (system : System) (number from : ℕ) where
   -- a core in this phase of a turn, with at most one thread on its way
   pub record IsSound (phase : Phase) (loose : Option Loose) (core : Core) : Type 0 where

@@ -1,4 +1,4 @@
--- Rows tell of the core's own threads and notifications.
+-- Rows name only the core's own threads and notifications.
 use Rattle.std.specs.Prelude.{◌≡◌, ℕ, ◌<◌, length}
 use Rattle.std.specs.List.{AllByRecursion}
 use Rattle.mcs_ticks.specs.declared.row.What.{What}
@@ -8,17 +8,18 @@ use Rattle.mcs_system.specs.WellFormed.{IsWellFormed}
 use Rattle.mcs_core.specs.Clock.{turn_of}
 
 module _ (system : System) (core : ℕ) where
-  -- a thread that there is, on this core
+  -- a thread of the system, on this core
   pub record IsOwnThread (thread : ℕ) : Type 0 where
     pub known : thread < length system.threads
     pub home : core_of system (thread_part system thread) ≡ core
 
-  -- a notification that there is, on this core
+  -- a notification of the system, on this core
   pub record IsOwnNote (note : ℕ) : Type 0 where
     pub known : note < length system.notes
     pub home : (note_part system note).core ≡ core
 
-  -- the thread that a row names is one of the core's, and so is the notification whose word it tells; that of a signal may be anywhere
+  -- the thread that a row names is one of the core's, and so is the notification whose word it has;
+  -- that of a signal may be anywhere
   abbrev pub IsOfOwn : What → Type 0
   IsOfOwn (row.Stop thread why charged until) = IsOwnThread thread
   IsOfOwn (row.Round thread number response) = IsOwnThread thread

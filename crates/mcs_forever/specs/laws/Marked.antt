@@ -1,4 +1,4 @@
--- What is marked tells which rows have kept up.
+-- Marks determine which rows have kept up.
 use Rattle.std.specs.Prelude.{ℕ, List}
 use Rattle.std.specs.List.{AllByRecursion}
 use Rattle.mcs_ticks.specs.declared.row.What.{What}
@@ -7,13 +7,14 @@ use Rattle.mcs_forever.specs.Later.{Shift, KeepsUp}
 use Rattle.mcs_forever.specs.Marks.{marks_of, MarkedKeepUp}
 use Rattle.mcs_forever.specs.laws.Home.{IsOfOwn}
 
--- where nothing lags that rows of any cores mark of a core's threads, all rows of that core have kept up
+-- if no date lags that rows of any cores mark for a core's threads, all rows of that core have kept
+-- up
 abbrev pub MarksTell : Type 0
 MarksTell =
     (system : System) (core : ℕ) (shift : Shift) (rows : List What) → MarkedKeepUp system core shift (marks_of system rows) →
     AllByRecursion (λ what. IsOfOwn system core what → KeepsUp system shift what) rows
 
--- and no less would do: where rows of a core have kept up, nothing lags that they mark
+-- and the condition is exact: if rows of a core have kept up, no date lags that they mark
 abbrev pub MarksAskNoMore : Type 0
 MarksAskNoMore =
     (system : System) (core : ℕ) (shift : Shift) (rows : List What) → AllByRecursion (KeepsUp system shift) rows →

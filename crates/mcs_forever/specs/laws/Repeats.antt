@@ -1,4 +1,4 @@
--- Where a group of cores recurs, all that it does comes again, without end.
+-- If a group of cores recurs, all that it does is repeated for ever.
 use Rattle.std.specs.Prelude.{◌≡◌, ℕ, ◌+◌, ◌<◌, ◌≤◌, Bool, true, false, ◌||◌, ◌&&◌, not, ◌==◌, nat_le, map}
 use Rattle.std.specs.List.{AllByRecursion}
 use Rattle.mcs_ticks.specs.declared.row.Row.{Row}
@@ -10,19 +10,21 @@ use Rattle.mcs_core.specs.Clock.{turn_of, schedule}
 use Rattle.mcs_forever.specs.Later.{later_what}
 use Rattle.mcs_forever.specs.Recurs.{Shifts, shift_of, Recurs}
 
--- each turn from then on makes the rows that it made so many ticks earlier, but later
+-- each turn from then on makes the rows that it made a period earlier, but later
 abbrev pub TurnsRepeat : Type 0
 TurnsRepeat =
     (system : System) (group : ℕ → Bool) (shifts : Shifts) (from : ℕ) → IsWellFormed system → Recurs system group shifts from →
     (t c : ℕ) → from ≤ t → c < system.cores → group c ≡ true →
     (turn_of system c (t + shifts.by)).rows ≡ map (later_what (shift_of shifts c)) (turn_of system c t).rows
 
--- a test of the rows of each core that does not ask when: what passes it does so later, too
+-- a test of the rows of each core that does not depend on the time: a row that passes it passes it
+-- later, too
 abbrev pub IsTimeless : Shifts → (ℕ → What → Bool) → Type 0
 IsTimeless shifts test =
     (c : ℕ) (what : What) → test c what ≡ true → test c (later_what (shift_of shifts c) what) ≡ true
 
--- where all rows of the group from some moment on pass such a test up to the end of the first period, all do without end
+-- if all rows of the group from some moment on pass such a test up to the end of the first period,
+-- all pass it for ever
 abbrev pub TestsAreForever : Type 0
 TestsAreForever =
     (system : System) (group : ℕ → Bool) (shifts : Shifts) (from : ℕ) → IsWellFormed system → Recurs system group shifts from →
@@ -32,7 +34,7 @@ TestsAreForever =
     (t c : ℕ) → first ≤ t → c < system.cores → group c ≡ true →
     AllByRecursion (λ what. test c what ≡ true) (turn_of system c t).rows
 
--- whether a round that ended had its response within the deadline of its thread, where that has one
+-- whether the response of a round that ended is within the deadline of its thread, if there is one
 abbrev pub is_in_time : System → What → Bool
 is_in_time system (row.Round thread number response) =
     ((thread_part system thread).deadline == 0) || nat_le response (thread_part system thread).deadline
@@ -43,7 +45,7 @@ abbrev pub IsNeverLate : System → (ℕ → Bool) → ℕ → Type 0
 IsNeverLate system group horizon =
     AllByRecursion (λ (row : Row). (not (group row.core) || is_in_time system row.what) ≡ true) (schedule system horizon)
 
--- then none ever does
+-- in that case no round ever ends late
 abbrev pub NeverLate : Type 0
 NeverLate =
     (system : System) (group : ℕ → Bool) (shifts : Shifts) (from : ℕ) → IsWellFormed system → Recurs system group shifts from →
@@ -59,7 +61,7 @@ abbrev pub EndsNoRound : System → ℕ → ℕ → ℕ → Type 0
 EndsNoRound system thread from horizon =
     AllByRecursion (λ (row : Row). (nat_le from row.moment && ends_round thread row.what) ≡ false) (schedule system horizon)
 
--- a thread of the group that ends no round over a whole period ends none again
+-- a thread of the group that ends no round over a whole period ends no round again
 abbrev pub NoRoundEndsAgain : Type 0
 NoRoundEndsAgain =
     (system : System) (group : ℕ → Bool) (shifts : Shifts) (from : ℕ) → IsWellFormed system → Recurs system group shifts from →

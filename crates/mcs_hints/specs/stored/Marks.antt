@@ -1,4 +1,4 @@
--- What is kept while hints are looked for: marks of notifications, and of contexts, and their shares.
+-- The state of the search for hints: marks of notifications and of contexts, and utilisations.
 use Rattle.std.specs.Prelude.{ℕ, Bool, true, ◌&&◌, ◌||◌, not, if◌then◌else◌, List, length, map, Option, Some, None}
 use Rattle.std.specs.List.{list_any}
 use Rattle.mcs_script.specs.declared.item.Item.{Item}
@@ -16,7 +16,7 @@ use Rattle.mcs_hints.specs.Contexts.{is_bound, share_of}
 abbrev pub mark_of : List Item → ℕ → Mark
 mark_of items note = record { waits = list_any (waits_on note) items; signals = list_any (signals note) items }
 
--- of so many notifications
+-- the marks of the first `notes` notifications
 abbrev pub marks_of : ℕ → List Item → List Mark
 marks_of notes items = map (mark_of items) (numbers notes)
 
@@ -37,7 +37,7 @@ signals_with mark = record { waits = mark.waits; signals = true }
 abbrev pub unsignalled_by : ℕ → Mark → Option Hint
 unsignalled_by note mark = if mark.waits && not mark.signals then Some (Unsignalled note) else None
 
--- of so many contexts, whether one of these threads is bound to it
+-- for each of the first `contexts` contexts, whether one of these threads is bound to it
 abbrev pub bounds_of : ℕ → List ThreadPart → List Bool
 bounds_of contexts threads = map (is_bound threads) (numbers contexts)
 

@@ -1,4 +1,4 @@
--- Buckets follow one another as their values do, and each is narrow and ends with its end.
+-- The numbers of buckets rise with their values, and each bucket is narrow and ends with its end.
 use Rattle.std.specs.Prelude.{ℕ, ◌≡◌, ◌*◌, ◌≤◌}
 use Rattle.mcs_histogram.specs.Buckets.{bucket, bucket_end}
 
@@ -10,6 +10,6 @@ EndsAreNear = (value : ℕ) → (value ≤ bucket_end value) × (64 * bucket_end
 abbrev pub EndsAreGreatest : Type 0
 EndsAreGreatest = (value other : ℕ) → (bucket (bucket_end value) ≡ bucket value) × (bucket other ≡ bucket value → other ≤ bucket_end value)
 
--- a value that is not less lies in no earlier bucket
+-- a greater value lies in the same or a later bucket
 abbrev pub BucketsRise : Type 0
 BucketsRise = (less more : ℕ) → less ≤ more → bucket less ≤ bucket more

@@ -1,4 +1,4 @@
--- What is true of the fields of every histogram.
+-- The invariant of the fields of every histogram.
 use Rattle.std.specs.Prelude.{ℕ, ◌≡◌, ◌+◌, ◌^◌, ◌<◌, List, length, sum}
 use Rattle.mcs_histogram.specs.Buckets.{bucket}
 

@@ -1,4 +1,4 @@
--- What is read before the threads, with the names that later rows name.
+-- The parts read before the threads, with the names that later rows use.
 use Rattle.std.specs.Prelude.{◌≡◌, ◌≤◌, length, map}
 use Rattle.mcs_load.specs.declared.file.Start.{Start}
 use Rattle.mcs_load.specs.Walk.{Base}

@@ -1,4 +1,4 @@
--- Steps of scripts that are read, beside what they name.
+-- Steps of scripts that were read, and what they name.
 use Rattle.std.specs.Prelude.{◌≡◌, ℕ, ◌+◌, ◌^◌, ◌<◌, ◌≤◌, List, length, All}
 use Rattle.mcs_script.specs.declared.item.Item.{Item}
 use Rattle.mcs_script.specs.declared.item.Item.TheVariants as items
@@ -25,7 +25,7 @@ IsStep notes servers core items.Spin = Unit {0}
 IsStep notes servers core (items.Enter number priority) = IsServerAt notes servers core number
 IsStep notes servers core (items.Leave number priority) = IsServerAt notes servers core number
 
--- steps of a script of this core, which goes on behind each entering
+-- steps of a script of this core. After each enter the script continues.
 pub record AreSteps (notes : List NotePart) (servers : List Server) (core : ℕ) (steps : List Item) : Type 0 where
   pub known : All (IsStep notes servers core) steps
   pub entering : GoOn steps (length steps)

@@ -1,4 +1,5 @@
--- What `Lockstep` keeps between its calls: cores that stand before one moment, and of which all rows were taken.
+-- The invariant of `Lockstep` between its calls: all cores have one clock, and all their rows were
+-- taken.
 use Rattle.std.specs.Prelude.{◌≡◌, ℕ, ◌+◌, ◌<◌, ◌≤◌, ◌^◌, false, [], length}
 use Rattle.std.specs.Arc.{arc_value}
 use Rattle.mcs_system.specs.System.{System}
@@ -11,7 +12,7 @@ use Rattle.mcs_lockstep.specs.declared.lockstep.Lockstep.TheInside.{Inside}
 abbrev pub together_of : Inside → Together
 together_of a = record { system = arc_value a.system; horizon = a.horizon; clock = a.clock; failed = a.failed }
 
--- core c stands before moment t, and has made no row since its rows were last taken
+-- the clock of core c is t, and it has made no row since its rows were last taken
 pub record IsBefore (system : System) (cores : Progress) (t c : ℕ) : Type 0 where
   pub clock_is : clock_of cores c ≡ t
   pub in_order : taken_of cores c ≤ t
@@ -24,7 +25,7 @@ pub record AreOf (system : System) (cores : Progress) : Type 0 where
   pub clocks_of : length cores.clocks ≡ system.cores
   pub taken_of : length cores.taken ≡ system.cores
 
--- each of them stands before moment t
+-- the clock of each core is t
 pub record AreBefore (system : System) (cores : Progress) (t : ℕ) : Type 0 where
   pub are_of : AreOf system cores
   pub each : (c : ℕ) → c < system.cores → IsBefore system cores t c

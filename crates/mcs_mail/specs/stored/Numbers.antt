@@ -1,4 +1,5 @@
--- Mail in a heap: by its order of delivery, and equal mail by its number, which is greater the later it was put.
+-- Mail in a heap, in order of delivery; equal mail is ordered by number. Mail that was put later
+-- has a greater number.
 use Rattle.std.specs.Prelude.{ℕ, ◌≤◌, ◌&&◌, ◌||◌, ◌==◌, nat_lt, if◌then◌else◌, Bool, List, [], ◌∷◌, sum_by}
 use Rattle.std.specs.Ordering.{nat_cmp, ordering_then}
 use Rattle.std.specs.declared.cmp.Ordering.{Ordering}
@@ -7,7 +8,8 @@ use Rattle.std.specs.BinaryHeap.{IsHeap}
 use Rattle.mcs_mail.specs.declared.mail.Mail.{Mail}
 use Rattle.mcs_mail.specs.declared.late.Numbered.{Numbered}
 
--- what contracts see: the mail in order of delivery, how many more there surely is room for, and the number of the next
+-- the view of contracts: the mail in order of delivery, the number of puts that surely fit, and the
+-- number of the next mail
 pub record LateMail : Type 0 where
   pub mails : List Mail
   pub spare : ℕ
@@ -25,11 +27,11 @@ numbered number mail =
       badge = mail.badge;
     }
 
--- .. and without
+-- .. and without it
 abbrev pub mail_of : Numbered → Mail
 mail_of x = record { arrives = x.arrives; made = x.made; maker = x.maker; note = x.note; badge = x.badge }
 
--- whether one is delivered before the other, of equal mail the one of lesser number
+-- whether one is delivered before the other; of equal mail, the one with the smaller number
 abbrev pub is_earlier : Reverse Numbered → Reverse Numbered → Bool
 is_earlier a b =
     nat_lt a.0.arrives b.0.arrives
@@ -38,12 +40,12 @@ is_earlier a b =
     || ((a.0.made == b.0.made)
     && (nat_lt a.0.maker b.0.maker || ((a.0.maker == b.0.maker) && nat_lt a.0.number b.0.number)))))
 
--- one more among these, in front of the first that it is earlier than
+-- one more among these, before the first that it is earlier than
 abbrev pub enter : Reverse Numbered → List (Reverse Numbered) → List (Reverse Numbered)
 enter x [] = x ∷ []
 enter x (y ∷ ys) = if is_earlier x y then x ∷ y ∷ ys else y ∷ enter x ys
 
--- what a heap holds, the earliest first
+-- the contents of a heap, the earliest first
 abbrev pub in_order : List (Reverse Numbered) → List (Reverse Numbered)
 in_order [] = []
 in_order (x ∷ heap) = enter x (in_order heap)
@@ -64,11 +66,11 @@ late_cmp x y =
 abbrev pub one_if : Bool → ℕ
 one_if b = if b then 1 else 0
 
--- how often a number stands among these
+-- how often a number occurs among these
 abbrev pub times : ℕ → List (Reverse Numbered) → ℕ
 times number heap = sum_by (λ x. one_if (x.0.number == number)) heap
 
--- each number below the next stands there once at most, and no other does; and it is a heap
+-- each number below `next` occurs at most once, and no other number occurs; the list is a heap
 pub record IsNumbered (heap : List (Reverse Numbered)) (next : ℕ) : Type 0 where
   pub once : (number : ℕ) → times number heap ≤ one_if (nat_lt number next)
   pub order : IsHeap late_cmp heap

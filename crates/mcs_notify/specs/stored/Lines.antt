@@ -1,4 +1,5 @@
--- Where threads wait: a line for each notification, in which each thread names the one behind it.
+-- The storage of waiting threads: a line for each notification, in which each thread names the next
+-- one.
 use Rattle.std.specs.Prelude.{◌≡◌, ℕ, zero, suc, ◌+◌, ◌-◌, ◌<◌, ◌≤◌, ◌==◌, if◌then◌else◌, List, [], ◌∷◌, length, map, set, Some, slice_index_or}
 use Rattle.mcs_ticks.specs.Queue.{first_of_greatest}
 use Rattle.mcs_ticks.specs.declared.queue.Queued.{Queued}
@@ -15,11 +16,11 @@ no_place = record { behind = 0; priority = 0 }
 abbrev pub place_of : List Place → ℕ → Place
 place_of places thread = slice_index_or places thread no_place
 
--- a thread as it waits
+-- a waiting thread with its priority
 abbrev pub queued_at : List Place → ℕ → Queued
 queued_at places thread = record { thread = thread; priority = (place_of places thread).priority }
 
--- so many threads from the first on, each named by the one before it
+-- `len` threads from `first` on, each named by the one before it
 abbrev pub waiters_from : List Place → ℕ → ℕ → List Queued
 waiters_from places first zero = []
 waiters_from places first (suc len) = queued_at places first ∷ waiters_from places (place_of places first).behind len
@@ -38,16 +39,16 @@ notes_at kept places = map (note_at places) kept
 abbrev pub seen_as : List Kept → List Place → Notifications
 seen_as kept places = record { notes = notes_at kept places; threads = length places }
 
--- the thread so many behind the first
+-- the thread k places after the first
 abbrev pub nth : List Place → ℕ → ℕ → ℕ
 nth places first zero = first
 nth places first (suc k) = nth places (place_of places first).behind k
 
--- a waiter that stands k behind the first, and the one before it
+-- a waiter k places after the first, and the one before it
 abbrev pub StandsAt : List Place → ℕ → ℕ → Waiter → Type 0
 StandsAt places first k waiter = (waiter.thread ≡ nth places first k) × (waiter.before ≡ nth places first (k - 1))
 
--- of these waiters the one of greatest priority, of those the longest waiting
+-- the waiter of maximum priority among these; at equal priority, the longest waiting
 abbrev pub IsBest : List Place → ℕ → ℕ → Waiter → Type 0
 IsBest places first len best =
     (k : ℕ) × (k < len) × StandsAt places first k best
@@ -58,21 +59,21 @@ abbrev pub with_back : ℕ → Line → Line
 with_back thread line =
     record { first = if line.len == 0 then thread else line.first; last = thread; len = line.len + 1 }
 
--- the thread behind which it enters: itself in a line with no thread
+-- the thread after which it enters; the thread itself if the line is empty
 abbrev pub before_back : ℕ → Line → ℕ
 before_back thread line = if line.len == 0 then thread else line.last
 
--- the places, where the one before names this thread as the one behind it
+-- the places after `before` names this thread as its next one
 abbrev pub named : ℕ → ℕ → List Place → List Place
 named before thread places =
     set places before (record { behind = thread; priority = (place_of places before).priority })
 
--- the places, where a thread enters a line at its back
+-- the places after a thread enters a line at its back
 abbrev pub joined : ℕ → ℕ → Line → List Place → List Place
 joined thread priority line places =
     named (before_back thread line) thread (set places thread (record { behind = thread; priority = priority }))
 
--- a line without this waiter, behind which that thread stands
+-- a line without this waiter, whose next thread is `behind`
 abbrev pub without_waiter : Waiter → ℕ → Line → Line
 without_waiter one behind line = record {
   first = if one.thread == line.first then behind else line.first;
@@ -80,7 +81,7 @@ without_waiter one behind line = record {
   len = line.len - 1;
 }
 
--- the places, where a waiter leaves its line
+-- the places after a waiter leaves its line
 abbrev pub unlinked : Waiter → List Place → List Place
 unlinked one places = named one.before (place_of places one.thread).behind places
 
@@ -90,12 +91,12 @@ BestLeaves old line thread new line' =
     (best : Waiter) × IsBest old line.first line.len best × (thread ≡ best.thread) × (new ≡ unlinked best old)
     × (line' ≡ without_waiter best (place_of old best.thread).behind line)
 
--- the last of the waiters, or this thread where there is none
+-- the last of the waiters, or `d` if there are no waiters
 abbrev pub last_or : ℕ → List Queued → ℕ
 last_or d [] = d
 last_or d (x ∷ xs) = last_or x.thread xs
 
--- how often the thread stands in a line, and in all lines
+-- how often the thread occurs in a line, and in all lines
 abbrev pub times : ℕ → List Queued → ℕ
 times thread [] = 0
 times thread (x ∷ xs) = (if x.thread == thread then 1 else 0) + times thread xs
@@ -104,11 +105,12 @@ abbrev pub times_in : ℕ → List Note → ℕ
 times_in thread [] = 0
 times_in thread (note ∷ notes) = times thread note.waiters + times_in thread notes
 
--- a notification with no word and no waiter, as it is made
+-- a new notification: word 0 and no waiters
 abbrev pub quiet : Kept
 quiet = record { word = 0; line = record { first = 0; last = 0; len = 0 } }
 
--- what is kept of the lines: each ends with its last thread, and each thread that waits is one that there is, and waits once
+-- the invariant: each line ends with its last thread; each thread that waits exists, and waits only
+-- once
 pub record IsKept (kept : List Kept) (places : List Place) : Type 0 where
   pub ends : (n : ℕ) → last_or (slice_index_or kept n quiet).line.last (note_of (notes_at kept places) n).waiters
       ≡ (slice_index_or kept n quiet).line.last

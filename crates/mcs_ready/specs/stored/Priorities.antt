@@ -6,22 +6,23 @@ use Rattle.std.specs.Int.{bit_at}
 abbrev pub has : List ℕ → ℕ → Bool
 has words priority = bit_at (slice_index words (priority / 64)) (priority % 64) == 1
 
--- the greatest priority in the set, or none where the set is empty
+-- the maximum priority of the set, or `None` if the set is empty
 abbrev pub IsGreatest : List ℕ → Option ℕ → Type 0
 IsGreatest words found =
     MatchOption found ((q : ℕ) → has words q ≡ false) (λ p. (has words p ≡ true) × ((q : ℕ) → p < q → has words q ≡ false))
 
--- the greatest one below this priority, or none where there is none
+-- the maximum one below this priority, or `None` if there is no such one
 abbrev pub IsGreatestBelow : ℕ → List ℕ → Option ℕ → Type 0
 IsGreatestBelow end words found =
     MatchOption found ((q : ℕ) → q < end → has words q ≡ false) (λ p. (has words p ≡ true) × ((q : ℕ) → p < q → q < end → has words q ≡ false))
 
--- one more than the priority, and 0 for none
+-- the priority plus 1, or 0 for `None`
 abbrev pub end_behind : Option ℕ → ℕ
 end_behind None = 0
 end_behind (Some greatest) = greatest + 1
 
--- the set ends here: no priority from here on is in it, and the one before is, where there is one
+-- the set ends here: no priority from `end` on is in it, and the one before `end` is, unless `end`
+-- is 0
 abbrev pub IsEnd : List ℕ → ℕ → Type 0
 IsEnd words end =
     (end ≤ 256) × ((q : ℕ) → end ≤ q → has words q ≡ false) × (0 < end → has words (end - 1) ≡ true)

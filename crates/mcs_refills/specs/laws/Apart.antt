@@ -1,4 +1,4 @@
--- What the refills of a server are: they ascend, neither touch nor overlap, and have the budget among them.
+-- Properties of a server's refills: they ascend, neither touch nor overlap, and sum to the budget.
 use Rattle.std.specs.Prelude.{◌≡◌, ℕ, ◌+◌, ◌<◌, ◌≤◌, List, [], ◌∷◌, length, map, sum}
 use Rattle.mcs_refills.specs.declared.refill.Refill.{Refill}
 use Rattle.mcs_refills.specs.Server.{Server, refills_of, first_moment}
@@ -14,12 +14,13 @@ abbrev pub IsBefore : Refill → List Refill → Type 0
 IsBefore refill [] = Unit {0}
 IsBefore refill (next ∷ others) = end_of refill < next.begins
 
--- each refill has at least a tick, and ends before the next one begins: they ascend, and neither touch nor overlap
+-- each refill has at least 1 tick and ends before the next one begins: they ascend, and neither
+-- touch nor overlap
 abbrev pub AreApart : List Refill → Type 0
 AreApart [] = Unit {0}
 AreApart (refill ∷ others) = (1 ≤ refill.amount) × IsBefore refill others × AreApart others
 
--- the ticks that they have among them
+-- the sum of their ticks
 abbrev pub total_amount : List Refill → ℕ
 total_amount refills = sum (map (λ (refill : Refill). refill.amount) refills)
 
@@ -29,20 +30,21 @@ last_end [] = 0
 last_end (refill ∷ []) = end_of refill
 last_end (refill ∷ next ∷ others) = last_end (next ∷ others)
 
--- refills that have a budget among them: they are apart, are at most so many, and span at most a period
+-- refills that sum to the budget: they are apart, are at most `max_refills`, and span at most a
+-- period
 pub record HaveBudget (budget period max_refills : ℕ) (refills : List Refill) : Type 0 where
   pub apart : AreApart refills
   pub all : total_amount refills ≡ budget
   pub few : length refills ≤ max_refills
   pub short : last_end refills ≤ first_moment refills + period
 
--- the refills of dates that ascend are apart, and their amounts are the number of the dates
+-- the refills of ascending dates are apart, and their amounts sum to the number of dates
 abbrev pub RefillsOfDates : Type 0
 RefillsOfDates =
     (low high : ℕ) (dates : List ℕ) → IsWithin low high dates → AreApart (refills_of dates)
     × (total_amount (refills_of dates) ≡ length dates)
 
--- so a server in good order has its budget in its refills
+-- hence the refills of a server in good order have its budget
 abbrev pub ServersHaveTheirBudgets : Type 0
 ServersHaveTheirBudgets =
     (budget : ℕ) (server : Server) → IsServer budget server

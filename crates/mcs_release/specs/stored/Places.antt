@@ -1,12 +1,13 @@
--- Where the threads that wait for a date stand: each in a place, in the order in which they entered, by a number that is in the order
--- of dates and then of places, or apart where it is the only one.
+-- The storage of threads that wait for a date. Each has a place, in the order in which they
+-- entered, and a number that orders by date and then by place. The only thread of a queue may be
+-- stored separately.
 use Rattle.std.specs.Prelude.{◌≡◌, ℕ, ◌+◌, ◌*◌, ◌/◌, ◌^◌, ◌<◌, ◌≤◌, ◌==◌, ◌⊎◌, nat_lt, if◌then◌else◌, Bool, List, [], ◌∷◌, length, slice_index_or, slice_set, Option, Some, None, option_map}
 use Rattle.mcs_ticks.specs.Soonest.{moment_of}
 use Rattle.mcs_release.specs.declared.dated.Dated.{Dated}
 use Rattle.mcs_release.specs.Release.{dated, earliest, next_date}
 use Rattle.mcs_release.specs.stored.Least.{empty, leaves, IsLeast}
 
--- the entries, without the places that are empty
+-- the entries, without the empty places
 abbrev pub entered : List (Option Dated) → List Dated
 entered [] = []
 entered (None ∷ places) = entered places
@@ -16,7 +17,7 @@ entered (Some x ∷ places) = x ∷ entered places
 abbrev pub key : ℕ → ℕ → ℕ
 key date place = date * 2 ^ 21 + place
 
--- the date of such a number; none where the place is empty
+-- the date of such a number; `None` for an empty place
 abbrev pub date_of : ℕ → Option ℕ
 date_of number = moment_of (number / 2 ^ 21)
 
@@ -30,7 +31,7 @@ places_of [] threads = []
 places_of (number ∷ numbers) [] = []
 places_of (number ∷ numbers) (thread ∷ threads) = in_place number thread ∷ places_of numbers threads
 
--- a number of this place, or none
+-- a number of this place, or the number of an empty place
 abbrev pub IsOfPlace : ℕ → ℕ → Type 0
 IsOfPlace place number = (number ≡ empty) ⊎ ((date : ℕ) × (date ≤ 2 ^ 42) × (number ≡ key date place))
 
@@ -44,7 +45,7 @@ pub record IsStored (inner : ℕ) (nodes threads : List ℕ) : Type 0 where
   pub wide : length threads ≡ 3 * inner + 1
   pub few : 3 * inner + 1 ≤ 2 ^ 21
 
--- the places from this one on are empty
+-- the places from `end` on are empty
 abbrev pub AreEmptyFrom : ℕ → List (Option Dated) → Type 0
 AreEmptyFrom end places = (place : ℕ) → end ≤ place → slice_index_or places place None ≡ None
 
@@ -57,12 +58,12 @@ pub record IsTaken (old new : List (Option Dated)) (thread : ℕ) : Type 0 where
   pub left : new ≡ slice_set old place None
   pub it : thread ≡ first.thread
 
--- the lone one, if any, and those of the places
+-- the lone thread, if any, followed by those of the places
 abbrev pub waiting : Option Dated → List (Option Dated) → List Dated
 waiting None places = entered places
 waiting (Some x) places = x ∷ entered places
 
--- beside a lone one there is no other
+-- if there is a lone thread, all places are empty
 abbrev pub IsAlone : Option Dated → List (Option Dated) → Type 0
 IsAlone None places = Unit {0}
 IsAlone (Some x) places = entered places ≡ []
@@ -70,13 +71,13 @@ IsAlone (Some x) places = entered places ≡ []
 abbrev pub one_if : Bool → ℕ
 one_if b = if b then 1 else 0
 
--- how often a thread stands among these
+-- how often a thread occurs among these
 abbrev pub times : ℕ → List Dated → ℕ
 times thread [] = 0
 times thread (x ∷ xs) = (if x.thread == thread then 1 else 0) + times thread xs
 
--- the least date is known; the places from `end` on are empty; each thread below the number that there is room for waits once at
--- most, and there are places for all
+-- the earliest date is known; the places from `end` on are empty; each thread below `room` waits at
+-- most once, and no other waits; there are more places than `room`
 pub record IsKept (soonest : Option ℕ) (lone : Option Dated) (places : List (Option Dated)) (end room : ℕ) : Type 0 where
   pub first : soonest ≡ next_date (waiting lone places)
   pub alone : IsAlone lone places

@@ -1,4 +1,4 @@
--- What is counted row by row is what the reports say of all rows.
+-- Counting row by row gives the reports of all rows.
 use Rattle.std.specs.Prelude.{◌≡◌, ℕ, true, false, List, [], ◌∷◌, map, fold}
 use Rattle.mcs_ticks.specs.declared.row.Row.{Row}
 use Rattle.mcs_system.specs.System.{System}
@@ -6,7 +6,7 @@ use Rattle.mcs_report.specs.declared.reports.ThreadReport.{ThreadReport}
 use Rattle.mcs_report.specs.Reports.{runs, stops, reports_of}
 use Rattle.mcs_report.specs.Tally.{Tally, opened_tally, added, finished}
 
--- the thread stops before it runs, if it runs again
+-- the thread stops before it runs again
 abbrev pub StopsFirst : ℕ → List Row → Type 0
 StopsFirst thread [] = Unit {0}
 StopsFirst thread (r ∷ rows) = (runs thread r.what ≡ false) × (stops thread r.what ≡ false → StopsFirst thread rows)
@@ -20,7 +20,7 @@ RunsApart thread (r ∷ rows) = (runs thread r.what ≡ true → StopsFirst thre
 abbrev pub tally_of : System → ℕ → List Row → Tally
 tally_of system horizon rows = fold added (opened_tally system horizon) rows
 
--- a report but for the ticks run
+-- a report without the ticks that it ran
 abbrev pub but_ran : ThreadReport → ThreadReport
 but_ran report = record report { ran = 0 }
 

@@ -1,4 +1,4 @@
--- Counting the rows of each core by themselves.
+-- Counting the rows of each core separately.
 use Rattle.std.specs.Prelude.{◌≡◌, ◌≢◌, ℕ, ◌+◌, ◌-◌, ◌<◌, ◌≤◌, List, length, get_or, slice_index, fold, flat_map}
 use Rattle.std.specs.List.{range_with_len}
 use Rattle.mcs_ticks.specs.declared.row.Row.{Row}
@@ -14,11 +14,12 @@ module _ (system : System) where
   abbrev pub home_of : ℕ → ℕ
   home_of thread = core_of system (thread_part system thread)
 
-  -- the clock's rows of core c at the moments from `first` to before `past`
+  -- the clock's rows of core c from time `first` to before time `past`
   abbrev pub rows_within : ℕ → ℕ → ℕ → List Row
   rows_within c first past = flat_map (rows_of system c) (range_with_len first (past - first))
 
-  -- of each core its rows before a moment of its own were counted: the account of each thread is that of the rows of its own core
+  -- each core's rows before a time per core were counted: the account of each thread is that of its
+  -- core's rows
   pub record CountsUntil (horizon : ℕ) (pasts : List ℕ) (tally : Tally) : Type 0 where
     pub horizon_is : tally.horizon ≡ horizon
     pub cores_are : tally.cores ≡ system.cores
@@ -33,7 +34,8 @@ module _ (system : System) where
       (horizon : ℕ) (pasts : List ℕ) → ((c : ℕ) → c < system.cores → slice_index pasts c ≡ 0)
       → CountsUntil horizon pasts (opened_tally system horizon)
 
-  -- the rows of a core from where it was counted to, to a later moment, may be counted next, whatever the other cores
+  -- the next rows of a core, from the point reached to a later time, may be counted next,
+  -- regardless of the other cores
   abbrev pub CountsMore : Type 0
   CountsMore =
       (horizon c past : ℕ) (pasts later : List ℕ) (tally : Tally) → c < system.cores → slice_index pasts c ≤ past
@@ -41,12 +43,12 @@ module _ (system : System) where
       → CountsUntil horizon pasts tally
       → CountsUntil horizon later (fold added tally (rows_within c (slice_index pasts c) past))
 
-  -- when all rows up to the horizon were counted, what is finished are the reports of the schedule
+  -- when all rows up to the horizon were counted, finishing gives the reports of the schedule
   abbrev pub CountsAll : Type 0
   CountsAll =
       (horizon : ℕ) (pasts : List ℕ) (tally : Tally) → ((c : ℕ) → c < system.cores → slice_index pasts c ≡ horizon + 1)
       → CountsUntil horizon pasts tally → finished tally ≡ reports_of system horizon (schedule system horizon)
 
--- so it is in every well-formed system
+-- this holds in every well-formed system
 abbrev pub CoresAreCounted : Type 0
 CoresAreCounted = (system : System) → IsWellFormed system → CountsNone system × CountsMore system × CountsAll system

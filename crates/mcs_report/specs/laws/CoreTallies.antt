@@ -1,4 +1,4 @@
--- The tallies of all cores, each of the rows of its own core.
+-- The tallies of all cores. Each has counted the rows of one core.
 use Rattle.std.specs.Prelude.{◌≡◌, ℕ, ◌+◌, ◌<◌, List, slice_index, slice_index_or, fold}
 use Rattle.mcs_ticks.specs.declared.row.Row.{Row}
 use Rattle.mcs_ticks.specs.Given.{Given}
@@ -16,26 +16,26 @@ GivenAreAddedByCore =
     (before after : CoreTally) (rows : List Row) → Given CoreCounts before rows after → after ≡ fold core_added before rows
 
 module _ (system : System) (horizon : ℕ) where
-  -- each core has its tally, of its rows before a moment of its own
+  -- each core has its tally, of its rows before a time per core
   abbrev pub AreOfCores : List ℕ → List CoreTally → Type 0
   AreOfCores pasts tallies =
       (c : ℕ) (other : CoreTally) → c < system.cores →
       slice_index_or tallies c other ≡ core_tally_of system c horizon (rows_within system c 0 (slice_index pasts c))
 
-  -- put together they are as one tally in which the rows of each core were counted by themselves
+  -- joined, they are as one tally in which the rows of each core were counted separately
   abbrev pub JoinedCount : Type 0
   JoinedCount =
       (pasts : List ℕ) (tallies : List CoreTally) → AreOfCores pasts tallies
       → CountsUntil system horizon pasts (joined system horizon tallies)
 
-  -- when all rows up to the horizon were counted, what is finished are the reports of the schedule
+  -- when all rows up to the horizon were counted, finishing gives the reports of the schedule
   abbrev pub JoinedGive : Type 0
   JoinedGive =
       (pasts : List ℕ) (tallies : List CoreTally) → ((c : ℕ) → c < system.cores → slice_index pasts c ≡ horizon + 1)
       → AreOfCores pasts tallies
       → finished (joined system horizon tallies) ≡ reports_of system horizon (schedule system horizon)
 
--- so it is in every well-formed system
+-- this holds in every well-formed system
 abbrev pub CoreTalliesGiveReports : Type 0
 CoreTalliesGiveReports =
     (system : System) → IsWellFormed system → (horizon : ℕ) → JoinedCount system horizon × JoinedGive system horizon

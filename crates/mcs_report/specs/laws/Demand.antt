@@ -1,4 +1,4 @@
--- How much schedules and their reports say that a thread ran.
+-- Bounds on how long a thread runs, in schedules and in their reports.
 use Rattle.std.specs.Prelude.{◌≡◌, ℕ, ◌<◌, ◌≤◌, List, length, get_or, sum}
 use Rattle.mcs_ticks.specs.declared.row.Row.{Row}
 use Rattle.mcs_system.specs.System.{System, thread_part}
@@ -16,13 +16,14 @@ RunsAreTicks =
     (system : System) → IsWellFormed system → (horizon thread : ℕ) →
     sum (run_lengths horizon thread (schedule system horizon)) ≡ ticks_run system thread horizon
 
--- by these rows the runs of each thread whose context no order names last no longer than it may run ..
+-- by these rows the runs of each thread whose context no order names last no longer than it may run
+-- ..
 abbrev pub RunsAreWithinDemand : System → ℕ → List Row → Type 0
 RunsAreWithinDemand system horizon rows =
     (thread : ℕ) → thread < length system.threads → IsNeverReconfigured system (thread_part system thread).context →
     sum (run_lengths horizon thread rows) ≤ demand_of system thread horizon
 
--- .. and by these reports each such thread ran no more than it may
+-- .. and by these reports each such thread ran at most as long as it may
 abbrev pub AreWithinDemand : System → ℕ → Reports → Type 0
 AreWithinDemand system horizon reports =
     (thread : ℕ) → thread < length system.threads → IsNeverReconfigured system (thread_part system thread).context →

@@ -12,7 +12,7 @@ abbrev pub SchedulesRunApart : Type 0
 SchedulesRunApart =
     (system : System) → IsWellFormed system → (horizon thread : ℕ) → RunsApart thread (schedule system horizon)
 
--- so the tally of a schedule gives its reports
+-- therefore the tally of a schedule gives its reports
 abbrev pub SchedulesAreReported : Type 0
 SchedulesAreReported =
     (system : System) → IsWellFormed system → (horizon : ℕ) →

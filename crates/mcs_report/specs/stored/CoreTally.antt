@@ -1,4 +1,4 @@
--- What an account keeps when its tally is cleared, and which rows a tally holds.
+-- The part of an account that remains when its tally is cleared, and the rows that a tally holds.
 use Rattle.std.proofs.Common.{◌++◌, ◌∷◌, [], List, true, subst, sym, ap, ◌∙◌}
 use Rattle.std.proofs.lemmas.List.Sums.{fold-append}
 use Rattle.mcs_ticks.specs.declared.row.Row.{Row}
@@ -6,11 +6,11 @@ use Rattle.mcs_report.specs.declared.account.Account.{Account}
 use Rattle.mcs_report.specs.Tally.{opened}
 use Rattle.mcs_report.specs.CoreTally.{CoreTally, core_added, opened_core_tally, HoldsRows, CoreCounts}
 
--- as it was before the first row
+-- as before the first row
 abbrev pub reopened : Account → Account
 reopened account = opened account.core account.deadline
 
--- a row more that it takes it holds behind the others
+-- a further row that it takes is held after the others
 pub holds_added : (before after : CoreTally) (held : List Row) (row : Row) → HoldsRows before held → CoreCounts before row true after
     → HoldsRows after (held ++ row ∷ [])
 holds_added before after held row holds counts =

@@ -1,4 +1,4 @@
--- How the places of threads are kept.
+-- How the indexes of threads are stored.
 use Rattle.std.specs.Prelude.{◌≡◌, ℕ, List, length, map}
 use Rattle.std.specs.List.{range_with_len}
 use Rattle.mcs_system.specs.System.{System, thread_part, core_of}

@@ -1,4 +1,4 @@
--- Cores that take their turns one by one in some order, each with its own state and box, and what that makes.
+-- Cores that take their turns one by one in some order, each with its own state and box.
 use Rattle.std.specs.Prelude.{◌≡◌, ℕ, suc, ◌<◌, List, [], ◌∷◌, ◌++◌, ◌==◌, if◌then◌else◌, filter, map, replicate, slice_index, slice_set}
 use Rattle.std.specs.List.{range_with_len}
 use Rattle.mcs_ticks.specs.declared.row.Row.{Row}
@@ -20,7 +20,7 @@ pub record Apart : Type 0 where
   pub boxes : ℕ → List Mail
   pub rows : ℕ → List Row
 
--- at number c this one, and at the others those
+-- x at number c, and f at the others
 abbrev pub with_at : {A : Type 0} → ℕ → A → (ℕ → A) → ℕ → A
 with_at c x f b = if b == c then x else f b
 
@@ -52,14 +52,14 @@ module _ (system : System) where
   after_turns apart [] = apart
   after_turns apart (c ∷ cs) = after_turns (with_turn_of apart c (turn_now apart c)) cs
 
-  -- core c is as the clock has it at the moment of its own clock
+  -- core c is as the clock has it at the moment of the core's clock
   pub record IsAsTheClock (apart : Apart) (c : ℕ) : Type 0 where
     pub state_is : apart.states c ≡ core_shown system (world system (slice_index apart.clocks c)) c
     pub box_is : apart.boxes c ≡ inbox system c (slice_index apart.clocks c) apart.clocks
     pub rows_are : apart.rows c ≡ rows_between system c 0 (slice_index apart.clocks c)
 
-  -- so it is after turns in any order that is safe by the scripts, and when all cores have taken the turn at the horizon their rows
-  -- merge into the schedule
+  -- after turns in any order that is safe by the scripts each core is as the clock has it; once all
+  -- cores have taken the turn at the horizon, their rows merge into the schedule
   abbrev pub OrdersGiveTheSchedule : Type 0
   OrdersGiveTheSchedule =
       (horizon : ℕ) (turns : List ℕ) → IsSafeByScripts system horizon (replicate system.cores 0) turns →

@@ -1,4 +1,4 @@
--- The tests of sameness answer true exactly where the parts are equal.
+-- The tests of equality are true if and only if the parts are equal.
 use Rattle.std.proofs.Common.{◌≡◌, Decides, refl, arith}
 use Rattle.std.proofs.lemmas.Bool.Decides.{nat_tests}
 use Rattle.std.specs.Cmp.Lexicographic.{pointwise_decides, bytes_decides}

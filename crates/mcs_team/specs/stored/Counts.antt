@@ -1,4 +1,4 @@
--- How much a tally has counted.
+-- The number of rows that a tally has counted.
 use Rattle.std.specs.Prelude.{◌≡◌, ℕ, true, List, ◌++◌, ◌∷◌, []}
 use Rattle.std.proofs.Common.{◌∙◌, ap, sym, refl}
 use Rattle.std.proofs.lemmas.List.Sums.{fold-append}
@@ -7,7 +7,7 @@ use Rattle.mcs_report.specs.CoreTally.{CoreTally, CoreCounts, HoldsRows}
 use Rattle.mcs_report.specs.stored.CoreTally.{holds_added}
 use Rattle.mcs_team.specs.Counts.{many_of, one_more}
 
--- a row more that is counted is behind the others
+-- a further row is counted after the others
 pub counted_more : (before after : CoreTally) (n m : ℕ) (held : List Row) (row : Row)
     → HoldsRows before held × (n ≡ many_of held) → CoreCounts before row true after × (true ≡ true → m ≡ one_more n)
     → HoldsRows after (held ++ row ∷ []) × (m ≡ many_of (held ++ row ∷ []))

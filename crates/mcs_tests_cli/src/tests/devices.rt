@@ -1,4 +1,4 @@
-//! Sources and targets in memory that fail when they are told to, and readers and writers of std that do.
+//! Sources and targets in memory that fail on request, and std readers and writers that do.
 ghost use Rattle.std.specs.Prelude.{◌≡◌, ◌||◌, false, Some, is_err};
 ghost use Rattle.std.specs.Io.{ReadsAtMost, WritesAtMost};
 ghost use Rattle.std.specs.Io.KnownBytes.{Keeps, ReadConsumes, WriteAppends};
@@ -8,7 +8,7 @@ use mcs_cli::{Source, Target};
 use std::io;
 use std::io::{ErrorKind, Read, Write};
 
-/// Gives the bytes of a slice, at most so many a call and at least one, for so many calls; each later call fails.
+/// Gives the bytes of a slice: 1 to `most` a call, for `calls` calls. Each later call fails.
 #[derive(Drop)]
 pub struct FailingSlice<'a> {
     rest: &'a [u8],
@@ -59,7 +59,7 @@ impl<'a> Source for FailingSlice<'a> {
     }
 }
 
-/// Keeps what is written, at most so many bytes a call, for so many calls; each later call fails.
+/// Keeps what is written: at most `most` bytes a call, for `calls` calls. Each later call fails.
 #[derive(Drop)]
 pub struct FailingVec {
     pub bytes: Vec<u8>,
@@ -115,7 +115,7 @@ impl Target for FailingVec {
     }
 }
 
-/// A reader or a writer of which some calls in a row have a fault, after so many that have none.
+/// A reader or writer. After `calls` calls without a fault, the next `times` calls have one.
 #[derive(Drop)]
 pub struct Faulty<D> {
     pub inner: D,

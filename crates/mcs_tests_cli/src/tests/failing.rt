@@ -1,3 +1,4 @@
+//! Each read and each write of a run fails once, or is interrupted.
 use super::devices::{FailingSlice, FailingVec, Faulty};
 use super::worked::{REPORTED, WORKED, to_twenty};
 use mcs_cli::{FromRead, IntoWrite, Open, Options, RunFault, Show, Source, Target, run};
@@ -8,7 +9,7 @@ use std::sync::Wait;
 use std::test::Fail;
 use std::thread::Threads;
 
-/// The number of reads that a run makes, each of which fails once: then nothing is written.
+/// Returns the number of reads of a run. Each of them fails once, and then no output is written.
 fn reads(
     rt: &(impl Threads + Wait + Sync + Abort),
     alloc: Global,
@@ -37,7 +38,7 @@ fn reads(
     Ok(0)
 }
 
-/// A text is read a byte a call, or whole; the last read finds its end.
+/// A text is read one byte a call, or whole. The last read finds its end.
 #[test]
 fn each_read_fails(rt: HostRuntime) -> Result<(), Fail> {
     for (file, want) in WORKED.as_slice() {
@@ -47,7 +48,8 @@ fn each_read_fails(rt: HostRuntime) -> Result<(), Fail> {
     Ok(())
 }
 
-/// The number of writes and flushes that a run makes, each of which fails once: then a first part is written.
+/// Returns the number of writes and flushes of a run. Each fails once, and then a first part is
+/// written.
 fn writes(
     rt: &(impl Threads + Wait + Sync + Abort),
     alloc: Global,
@@ -77,9 +79,10 @@ fn writes(
     Ok(0)
 }
 
-/// A text is written a byte a call, or in its pieces. Each of these ends with the row, or with two cores with the moment of a core, that makes it as
-/// long as 1, 2, 4 and so on bytes: of the first system's rows 14, 10, 27, 14, 38, 44 and 19 bytes, of the second's moments 24, 17, 17, 51, 35, 35 and
-/// 35. The last call is the flush.
+/// A text is written one byte a call, or in pieces. The pieces must reach 1, 2, 4 and so on bytes.
+/// Each ends with the row that does so or, for two cores, with the time of a core that does so. The
+/// first system's rows have 14, 10, 27, 14, 38, 44 and 19 bytes, the second's times 24, 17, 17, 51,
+/// 35, 35 and 35. The last call is the flush.
 #[test]
 fn each_write_fails(rt: HostRuntime) -> Result<(), Fail> {
     for team in [false, true] {
@@ -94,8 +97,8 @@ fn each_write_fails(rt: HostRuntime) -> Result<(), Fail> {
     Ok(())
 }
 
-/// Rows that are counted too are written one by one, in pieces of 14, 10, 27, 14, 38 and 44 bytes. The reports follow the last rows in
-/// the last piece.
+/// Rows that are also counted are written one by one, in pieces of 14, 10, 27, 14, 38 and 44 bytes.
+/// The reports follow the last rows in the last piece.
 #[test]
 fn each_write_of_rows_and_reports_fails(rt: HostRuntime) -> Result<(), Fail> {
     let (file, rows) = WORKED[0];
@@ -136,7 +139,7 @@ const FAULTS: [(ErrorKind, usize, bool); 3] = [
     (ErrorKind::Other, 1, true),
 ];
 
-/// The text is read in two calls, and in two it is written and flushed.
+/// The text is read in two calls. It is written and flushed in two calls.
 #[test]
 fn what_is_interrupted_is_read_again(rt: HostRuntime) -> Result<(), Fail> {
     let (file, want) = WORKED[0];
@@ -172,7 +175,7 @@ fn what_is_interrupted_is_read_again(rt: HostRuntime) -> Result<(), Fail> {
     Ok(())
 }
 
-/// The first row is written in the first call; the seventh writes the last one, and the eighth flushes.
+/// The first call writes the first row, the seventh the last one, and the eighth flushes.
 #[test]
 fn what_is_interrupted_is_written_again(rt: HostRuntime) -> Result<(), Fail> {
     let (file, want) = WORKED[0];

@@ -1,3 +1,4 @@
+//! The texts and exit codes of faults.
 use mcs_cli::RunFault;
 use mcs_control::ControlFault;
 use mcs_load::{FaultKind, Key, LoadFault, Section, Spot};
@@ -31,7 +32,7 @@ fn faults_have_a_line_and_a_status(rt: HostRuntime) -> Result<(), Fail> {
     is_told(&rt, alloc, memory, "mcsim: no memory", 4)
 }
 
-/// places, each with a fault that may lie there
+/// places, each with a fault that may be there
 static PLACES: [(FaultKind, (Section, usize, Key, usize), &str); 6] = [
     (
         FaultKind::NotToml,
@@ -73,7 +74,7 @@ fn faults_of_a_file_have_a_line_and_a_status(rt: HostRuntime) -> Result<(), Fail
     Ok(())
 }
 
-/// each fault of a file, in its words
+/// each fault of a file, with its text
 static KINDS: [(FaultKind, &str); 22] = [
     (FaultKind::NotToml, "not TOML"),
     (FaultKind::UnknownKey, "unknown key"),

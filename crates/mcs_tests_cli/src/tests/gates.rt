@@ -1,3 +1,4 @@
+//! Calls of a gate during a run.
 use super::worked::{WORKED, to_twenty};
 use mcs_cli::{FromRead, Gate, IntoWrite, Show, run};
 use mcs_ticks::{CoreId, Tick};
@@ -23,7 +24,7 @@ impl Gate for Pieces {
     fn reached(&self, _moment: Tick) {}
 }
 
-/// With two workers each of the two cores is lent at least once. With one no piece is lent.
+/// Two workers lend each of the two cores at least once. One worker lends no piece.
 #[test]
 fn a_gate_is_told_of_the_pieces_of_a_run(rt: HostRuntime) -> Result<(), Fail> {
     let (file, want) = WORKED[1];

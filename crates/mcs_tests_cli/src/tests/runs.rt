@@ -1,3 +1,4 @@
+//! Runs of files and of the input.
 ghost use Rattle.std.specs.Prelude.{◌≡◌, false};
 
 use mcs_cli::{FromRead, IntoWrite, Open, Options, RunFault, Show, Source, run, run_with};
@@ -18,7 +19,7 @@ context = [{ name = \"a\", core = 0, budget = 2, period = 5 }]
 thread = [{ name = \"A\", context = \"a\", priority = 5, rounds = 1, script = [\"compute 5\"] }]
 ";
 
-/// What that system does up to moment 6, and what is reported of it.
+/// The schedule of `SPENT` up to time 6, and its reports.
 const TO_SIX: &str = "\
 0 0 release A
 0 0 run A
@@ -38,7 +39,7 @@ fn to_six(file: Option<String>) -> Options {
     }
 }
 
-/// What was written, and behind it the line of the fault.
+/// Returns what was written, followed by the line of the fault.
 fn told(alloc: Global, written: &[u8], ended: Result<(), RunFault>) -> Result<String, Fail> {
     let text = str::from_utf8(written).unwrap_or("bytes that are no text");
     let told = match ended {
@@ -48,7 +49,7 @@ fn told(alloc: Global, written: &[u8], ended: Result<(), RunFault>) -> Result<St
     Ok(told)
 }
 
-/// What is written where a file is named, or else the input run, and behind it the line of the fault.
+/// Returns the output of a named file, or of the input, followed by the line of the fault.
 fn written_with(
     rt: &(impl Files + Threads + Wait + Sync),
     alloc: Global,
@@ -60,7 +61,7 @@ fn written_with(
     told(alloc, target.into_inner().as_slice(), ended)
 }
 
-/// No file has the first name, and the second is that of a folder.
+/// The first file doesn't exist, and the second is a folder.
 #[test]
 fn files_that_are_not_read(rt: HostRuntime) -> Result<(), Fail> {
     for name in ["no_folder/no_file.toml", "."] {
@@ -78,7 +79,7 @@ fn the_input_is_run(rt: HostRuntime) -> Result<(), Fail> {
     Ok(())
 }
 
-/// What is written of the system that a source gives, and behind it the line of the fault.
+/// Returns the output of the system that a source gives, followed by the line of the fault.
 fn written<S: Source>(
     rt: &(impl Threads + Wait + Sync),
     alloc: Global,

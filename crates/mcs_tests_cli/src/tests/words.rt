@@ -1,8 +1,9 @@
+//! Command lines that are taken, and those that are refused.
 use mcs_cli::{WordsFault, options};
 use std::alloc::{AllocError, Global};
 use std::test::Fail;
 
-/// What words are answered: the file, the horizon, the workers and what is shown, or the text of their fault.
+/// Returns file, horizon, workers and what is shown, or the text of the fault.
 fn answer(alloc: Global, words: &[String]) -> Result<String, AllocError> {
     match options(alloc, words) {
         Ok(options) => {
@@ -17,7 +18,7 @@ fn answer(alloc: Global, words: &[String]) -> Result<String, AllocError> {
     }
 }
 
-/// What the words of a line, with a space between two of them, are answered.
+/// Returns the result for a line of words, separated by white space.
 fn answer_to(alloc: Global, line: &str) -> Result<String, AllocError> {
     let mut words = Vec::new(alloc);
     for word in line.split_whitespace() {
@@ -45,7 +46,7 @@ fn words_are_taken(rt: HostRuntime) -> Result<(), Fail> {
     Ok(())
 }
 
-/// Each line is not understood, and its text says what is wrong.
+/// Each line is refused, and its text names what is wrong.
 static REFUSED: [(&str, &str); 12] = [
     ("--workers 65", "65"),
     ("--workers 0", "0"),

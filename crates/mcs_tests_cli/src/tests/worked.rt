@@ -1,9 +1,9 @@
-//! Worked systems, and what is written of them.
+//! Worked systems, and their output.
 
 use mcs_cli::{Options, Show};
 use mcs_ticks::Tick;
 
-/// Two systems, and the schedule of each up to moment 20.
+/// Two systems, and the schedule of each up to time 20.
 pub static WORKED: [(&str, &str); 2] = [
     (
         "\
@@ -78,13 +78,13 @@ script = [\"compute 1\", \"signal n 1\", \"signal n 2\", \"signal n 4\"]
     ),
 ];
 
-/// What is reported of the first of them up to moment 20.
+/// The reports of the first system up to time 20.
 pub const REPORTED: &str = "\
 thread A ran 5 rounds 1 least 11 greatest 11 total 11 late 0 spent 2 throttled 6 longest 3
 core 0 busy 5 idle 15
 ";
 
-/// The options of a run up to moment 20, by two workers or by one.
+/// Returns the options of a run up to time 20, with two workers or with one.
 pub fn to_twenty(show: Show, team: bool) -> Options {
     Options {
         file: None,

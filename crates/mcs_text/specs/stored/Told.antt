@@ -1,4 +1,4 @@
--- Told lines hold each row more that they take.
+-- The lines hold each further row that they take.
 use Rattle.std.specs.Prelude.{List, [], ◌∷◌, ◌++◌, true}
 use Rattle.std.proofs.Common.{◌∙◌, ap, sym, subst, arith, length-append}
 use Rattle.std.proofs.lemmas.List.Sums.{fold-append}

@@ -1,4 +1,4 @@
--- What `Cores` does over all its calls, and the turns that its cores take, in their order.
+-- The moves of `Cores` over all its calls, and the turns that its cores take, in their order.
 use Rattle.std.specs.Prelude.{◌≡◌, ◌≢◌, ℕ, ◌+◌, ◌-◌, ◌<◌, ◌≤◌, nat_le, false, List, [], ◌∷◌, ◌++◌, filter, flat_map, replicate}
 use Rattle.std.specs.List.{range_with_len}
 use Rattle.mcs_system.specs.System.{System, TakesTime, delay_between}
@@ -10,8 +10,8 @@ use Rattle.mcs_window.specs.Progress.{Progress, clock_of, opening_progress, adva
 use Rattle.mcs_window.specs.declared.fault.StepFault.{StepFault}
 use Rattle.mcs_stretch.specs.laws.BySignals.{IsSafeBySignals}
 
--- a move of cores: a core takes the turn at its clock, or those up to before a moment, all clocks before a moment are set to it, rows of a
--- core are taken, or memory is refused
+-- a move of `Cores`: one turn of a core (`Step`) or its turns up to before a moment (`Advance`);
+-- all earlier clocks set to a moment (`Skip`); rows taken (`TakeRows`); memory ran out (`Fail`)
 pub data Move : Type 0 where
   Step : (core : ℕ) → Move
   Advance : (core to : ℕ) → Move
@@ -19,7 +19,7 @@ pub data Move : Type 0 where
   TakeRows : (core : ℕ) → Move
   Fail : Move
 
--- what the cores are after a move
+-- the cores after a move
 abbrev pub after_move : Progress → Move → Progress
 after_move progress (Step c) = stepped progress c
 after_move progress (Advance c to) = advanced progress c to
@@ -35,7 +35,7 @@ after_moves progress (move ∷ moves) = after_moves (after_move progress move) m
 abbrev pub cores_by : Progress → ℕ → List ℕ
 cores_by progress t = filter (λ c. nat_le (clock_of progress c) t) (range_with_len 0 progress.system.cores)
 
--- the turns of a move, each as the number of its core: those of idle time by moment, then core
+-- the turns of a move, each as the number of its core; turns of idle time by moment, then core
 abbrev pub turns_of : Progress → Move → List ℕ
 turns_of progress (Step c) = c ∷ []
 turns_of progress (Advance c to) = replicate (to - clock_of progress c) c
@@ -43,12 +43,13 @@ turns_of progress (Skip moment) = flat_map (cores_by progress) (range_with_len 0
 turns_of progress (TakeRows c) = []
 turns_of progress Fail = []
 
--- written out in order of the moves
+-- the turns of all moves, in order of the moves
 abbrev pub turns_in : Progress → List Move → List ℕ
 turns_in progress [] = []
 turns_in progress (move ∷ moves) = turns_of progress move ++ turns_in (after_move progress move) moves
 
--- core c goes on up to a moment before which no signal arrives that another core still makes, and memory was never refused
+-- core c may advance up to a moment: no signal that another core still makes arrives before it, and
+-- memory never ran out
 pub record MayAdvance (progress : Progress) (c to : ℕ) : Type 0 where
   pub whole : progress.failed ≡ false
   pub known : c < progress.system.cores
@@ -56,12 +57,12 @@ pub record MayAdvance (progress : Progress) (c to : ℕ) : Type 0 where
   pub in_time : to ≤ progress.horizon + 1
   pub reached : NothingArrivesBefore progress.system c to progress.clocks
 
--- all clocks come up to a moment at most one past the horizon, and memory was never refused
+-- all earlier clocks may be set to a moment, at most one past the horizon, and memory never ran out
 pub record MaySkipTo (progress : Progress) (moment : ℕ) : Type 0 where
   pub whole : progress.failed ≡ false
   pub in_time : moment ≤ progress.horizon + 1
 
--- the cores make the move
+-- the cores may make the move
 abbrev pub MayMove : Progress → Move → Type 0
 MayMove progress (Step c) = IsReady progress c
 MayMove progress (Advance c to) = MayAdvance progress c to
@@ -78,7 +79,7 @@ IsByDelays progress (Skip moment) = Unit {0}
 IsByDelays progress (TakeRows c) = Unit {0}
 IsByDelays progress Fail = Unit {0}
 
--- or than the scripts allow
+-- an advance goes no further than the scripts allow
 abbrev pub IsByScripts : Progress → Move → Type 0
 IsByScripts progress (Step c) = Unit {0}
 IsByScripts progress (Advance c to) = IsFarByScripts progress.system progress.clocks c to
@@ -86,7 +87,7 @@ IsByScripts progress (Skip moment) = Unit {0}
 IsByScripts progress (TakeRows c) = Unit {0}
 IsByScripts progress Fail = Unit {0}
 
--- each move is so where it is made
+-- each move satisfies P in the progress before it
 abbrev pub Each : (Progress → Move → Type 0) → Progress → List Move → Type 0
 Each P progress [] = Unit {0}
 Each P progress (move ∷ moves) = P progress move × Each P (after_move progress move) moves
@@ -94,14 +95,15 @@ Each P progress (move ∷ moves) = P progress move × Each P (after_move progres
 abbrev pub AreMade : Progress → List Move → Type 0
 AreMade = Each MayMove
 
--- where each advance goes as far as the delays allow, the turns written out in order of the moves are a safe order
+-- if each advance goes no further than the delays allow, the turns in order of the moves are a safe
+-- order
 abbrev pub CoreMovesAreASafeOrder : Type 0
 CoreMovesAreASafeOrder =
     (system : System) (horizon : ℕ) (moves : List Move) → TakesTime system →
     let opening = opening_progress system horizon in
     AreMade opening moves → Each IsByDelays opening moves → IsSafe system horizon opening.clocks (turns_in opening moves)
 
--- where each goes as far as the scripts allow, they are an order that is safe by the scripts
+-- if each advance goes no further than the scripts allow, that order is safe by the scripts
 abbrev pub CoreMovesAreSafeByScripts : Type 0
 CoreMovesAreSafeByScripts =
     (system : System) (horizon : ℕ) (moves : List Move) → TakesTime system →
@@ -109,7 +111,7 @@ CoreMovesAreSafeByScripts =
     AreMade opening moves → Each IsByScripts opening moves →
     IsSafeByScripts system horizon opening.clocks (turns_in opening moves)
 
--- whatever the moves, they are an order that is safe by the signals, and they bring each core to its clock
+-- for all moves, that order is safe by the signals, and it brings each core to its clock
 abbrev pub CoreMovesAreSafeBySignals : Type 0
 CoreMovesAreSafeBySignals =
     (system : System) (horizon : ℕ) (moves : List Move) → TakesTime system →
@@ -119,12 +121,12 @@ CoreMovesAreSafeBySignals =
     IsSafeBySignals system horizon opening.clocks turns
     × ((after_moves opening moves).clocks ≡ clocks_after opening.clocks turns)
 
--- these moves lead from the one to the other
+-- these moves lead from the first progress to the second
 pub record IsBy (before after : Progress) (moves : List Move) : Type 0 where
   pub made : AreMade before moves
   pub after_is : after ≡ after_moves before moves
 
--- what the clauses of the calls say of them, as moves
+-- the contracts of the calls, as moves
 pub record CallsAreMoves (before after : Progress) : Type 0 where
   pub step : (c : ℕ) → IsReady before c → after ≡ stepped before c → IsBy before after (Step c ∷ [])
   pub step_refused : (fault : StepFault) → after ≡ after_fault fault before →
@@ -138,11 +140,11 @@ pub record CallsAreMoves (before after : Progress) : Type 0 where
       IsBy before after (Skip moment ∷ [])
   pub rows_taken : (c : ℕ) → c < before.system.cores → after ≡ with_taken before c → IsBy before after (TakeRows c ∷ [])
 
--- each call of cores is moves
+-- each call of `Cores` is a list of moves
 abbrev pub CoreCallsAreMoves : Type 0
 CoreCallsAreMoves = (before after : Progress) → CallsAreMoves before after
 
--- and so are calls one after another
+-- consecutive calls are consecutive moves
 abbrev pub MovesJoin : Type 0
 MovesJoin =
     (before between after : Progress) (first second : List Move) → IsBy before between first → IsBy between after second →

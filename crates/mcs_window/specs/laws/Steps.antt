@@ -1,4 +1,4 @@
--- What a desk does over all its calls, and the turns that it takes, in their order.
+-- The steps of a desk over all its calls, and the turns that it takes, in their order.
 use Rattle.std.specs.Prelude.{◌≡◌, ◌≢◌, ℕ, ◌+◌, ◌-◌, ◌<◌, ◌≤◌, nat_le, false, Option, Some, None, List, [], ◌∷◌, ◌++◌, filter, flat_map, length, replicate, slice_index}
 use Rattle.std.specs.List.{range_with_len}
 use Rattle.mcs_system.specs.System.{System, TakesTime}
@@ -8,9 +8,16 @@ use Rattle.mcs_stretch.specs.Idle.{AreSet}
 use Rattle.mcs_window.specs.Desk.{Table, clock_of, past_of, loan_of, opening_table, MayLend, AllAreHere, lent_to, settled_at, taken_at, with_lost}
 use Rattle.mcs_window.specs.declared.slot.Loan.{Loan}
 
--- a step of the desk: a core is lent up to before a moment, what it is lent for is settled, a piece is lost, rows of a core are taken, all
--- clocks before a moment are set to it, a core takes its turns on the desk itself, up to before a moment, or it is refused memory there
--- and is lost: it stays lent for good, and what it told is gone
+-- a step of the desk:
+--
+-- - `Lend`: a core is lent up to before a moment
+-- - `Settle`: a lent core comes back
+-- - `Forfeit`: a piece is lost
+-- - `TakeRows`: rows of a core are taken
+-- - `Skip`: all earlier clocks are set to a moment
+-- - `Go`: a core takes its turns on the desk itself, up to before a moment
+-- - `Spend`: a core runs out of memory there and is lost: it stays lent for good, and its rows are
+--   gone
 pub data Step : Type 0 where
   Lend : (core past : ℕ) → Step
   Settle : (core : ℕ) → Step
@@ -25,7 +32,7 @@ abbrev pub settled_loan : Table → ℕ → Option Loan → Table
 settled_loan table c None = table
 settled_loan table c (Some loan) = settled_at table c loan.past
 
--- what the desk is after a step
+-- the desk after a step
 abbrev pub after_step : Table → Step → Table
 after_step table (Lend c past) = lent_to table c past
 after_step table (Settle c) = settled_loan table c (loan_of table c)
@@ -51,7 +58,8 @@ turns_of_loan table c (Some loan) = turns_until table c loan.past
 abbrev pub cores_by : Table → ℕ → List ℕ
 cores_by table t = filter (λ c. nat_le (clock_of table c) t) (range_with_len 0 table.system.cores)
 
--- the turns of a step, each as the number of its core: a loan's are taken when it is settled, and those of idle time by moment, then core
+-- the turns of a step, each as the number of its core: those of a loan when it is settled, those of
+-- idle time by moment, then core
 abbrev pub turns_of : Table → Step → List ℕ
 turns_of table (Lend c past) = []
 turns_of table (Settle c) = turns_of_loan table c (loan_of table c)
@@ -61,19 +69,19 @@ turns_of table (Skip moment later) = flat_map (cores_by table) (range_with_len 0
 turns_of table (Go c past) = turns_until table c past
 turns_of table (Spend c past) = []
 
--- written out in order of the steps
+-- the turns of all steps, in order of the steps
 abbrev pub turns_in : Table → List Step → List ℕ
 turns_in table [] = []
 turns_in table (step ∷ steps) = turns_of table step ++ turns_in (after_step table step) steps
 
--- all cores are on the desk, and their clocks are set to a moment at most one past the horizon
+-- no core is lent, and all earlier clocks may be set to a moment, at most one past the horizon
 pub record MaySkipTo (table : Table) (moment : ℕ) (later : List ℕ) : Type 0 where
   pub here : AllAreHere table
   pub in_time : moment ≤ table.horizon + 1
   pub many : table.system.cores ≤ length later
   pub set : AreSet table.system table.clocks moment later
 
--- core c is on the desk, and goes on as far as the scripts allow
+-- core c is on the desk, and runs as far as the scripts allow
 pub record MayGoTo (table : Table) (c past : ℕ) : Type 0 where
   pub known : c < table.system.cores
   pub here : loan_of table c ≡ None
@@ -88,7 +96,7 @@ pub record MayLendTo (table : Table) (c past : ℕ) : Type 0 where
   pub ahead : clock_of table c ≤ past
   pub in_time : past ≤ past_of table c
 
--- the desk takes the step
+-- the desk may take the step
 abbrev pub MayTake : Table → Step → Type 0
 MayTake table (Lend c past) = MayLendTo table c past
 MayTake table (Settle c) = (c < table.system.cores) × (loan_of table c ≢ None)
@@ -135,14 +143,14 @@ abbrev pub AreClocksAfter : Table → List ℕ → Type 0
 AreClocksAfter table turns =
     (c : ℕ) → c < table.system.cores → clock_of table c ≡ slice_index (clocks_after (replicate table.system.cores 0) turns) c
 
--- where no core takes turns on the desk itself, the turns written out in order of the steps are a safe order
+-- if no core takes turns on the desk itself, the turns in order of the steps are a safe order
 abbrev pub DeskStepsAreASafeOrder : Type 0
 DeskStepsAreASafeOrder =
     (system : System) (horizon : ℕ) (steps : List Step) → TakesTime system → system.cores ≤ 64 →
     AreTaken (opening_table system horizon) steps → NoneGoes steps →
     IsSafe system horizon (replicate system.cores 0) (turns_in (opening_table system horizon) steps)
 
--- whatever the steps, they are an order that is safe by the scripts, and they bring each core to its clock
+-- for all steps, that order is safe by the scripts, and it brings each core to its clock
 abbrev pub DeskStepsAreSafeByScripts : Type 0
 DeskStepsAreSafeByScripts =
     (system : System) (horizon : ℕ) (steps : List Step) → TakesTime system → system.cores ≤ 64 →
@@ -151,8 +159,8 @@ DeskStepsAreSafeByScripts =
     IsSafeByScripts system horizon (replicate system.cores 0) turns
     × AreClocksAfter (after_steps (opening_table system horizon) steps) turns
 
--- also among turns that cores take on the desk itself, the turns of each loan that is settled are safe in the first sense, by the clocks
--- that the desk then has
+-- also among turns that cores take on the desk itself, the turns of each settled loan are safe in
+-- the first sense, by the clocks that the desk then has
 abbrev pub SettledLoansAreSafe : Type 0
 SettledLoansAreSafe =
     (system : System) (horizon : ℕ) (steps : List Step) (c : ℕ) → TakesTime system → system.cores ≤ 64 →

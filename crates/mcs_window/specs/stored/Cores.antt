@@ -1,4 +1,5 @@
--- What `Cores` keeps between its calls: each core stands as the clock has it at the moment of its own clock.
+-- The invariant of `Cores` between its calls: each core has, at its clock, the state of the global
+-- clock.
 use Rattle.std.specs.Prelude.{◌≡◌, ℕ, ◌+◌, ◌<◌, ◌≤◌, ◌^◌, max, false, List, [], length, slice_index, slice_index_or, Vec}
 use Rattle.std.specs.Arc.{arc_value}
 use Rattle.std.specs.declared.alloc.Global.{Global}
@@ -26,14 +27,14 @@ progress_of a =
       failed = a.failed;
     }
 
--- a core at its clock, by the clocks of all: nothing that another core has still to make arrives before it, and the core has its state
--- and its inbox
+-- a core at its clock, by the clocks of all: its state, its inbox, and no signal that another core
+-- has yet to make arrives before its clock
 pub record IsHere (system : System) (core clock : ℕ) (clocks : List ℕ) (state : State) (box : List Mail) : Type 0 where
   pub reached : NothingArrivesBefore system core clock clocks
   pub state_is : StandsAt system core clock state
   pub box_is : box ≡ inbox system core clock clocks
 
--- each core is so
+-- each core is at its clock
 abbrev pub AreHere : System → List ℕ → List State → List Content → Type 0
 AreHere system clocks states boxes =
     (core : ℕ) (state : State) (box : Content) → core < system.cores →
@@ -46,19 +47,20 @@ AreAt system clocks states =
     (core : ℕ) (state : State) → core < system.cores →
     StandsAt system core (slice_index clocks core) (slice_index_or states core state)
 
--- the moment until which the cores below this number are idle, or `past` where that comes first
+-- the moment until which the cores below this number are idle, at most `past`
 pub record AreIdleBelow (system : System) (clocks : List ℕ) (past many moment : ℕ) : Type 0 where
   pub in_time : moment ≤ past
   pub idle : (core : ℕ) → core < many → IsIdle system clocks moment core
   pub busy : moment < past → ¬ ((core : ℕ) → core < many → IsIdle system clocks (moment + 1) core)
 
--- the clocks of the cores below this number that were before the moment are set to it, and the others stay
+-- the earlier clocks of the cores below this number are set to the moment, and the other clocks
+-- stay
 pub record AreSetBelow (clocks : List ℕ) (moment many : ℕ) (later : List ℕ) : Type 0 where
   pub many_are : length later ≡ length clocks
   pub done : (core : ℕ) → core < many → slice_index later core ≡ max (slice_index clocks core) moment
   pub left : (core : ℕ) → many ≤ core → slice_index later core ≡ slice_index clocks core
 
--- and each core below this number has gone there
+-- each core below this number has moved there with its clock
 pub record AreSkipped (system : System) (clocks : List ℕ) (states : List State) (moment many : ℕ) (later : List ℕ)
     (after : List State) : Type 0 where
   pub clocks_are : AreSetBelow clocks moment many later
@@ -71,14 +73,15 @@ pub record AreWhole (system : System) (clocks : List ℕ) (states : List State) 
   pub here : AreHere system clocks states boxes
   pub no_signals : signals ≡ []
 
--- no clock is later than one past the horizon, and what each core told are the rows since the last taking
+-- no clock is later than one past the horizon, and each core's rows are those since they were last
+-- taken
 pub record AreSince {S : Type 0} (holds : S → List Row → Type 0) (system : System) (horizon : ℕ) (clocks taken : List ℕ)
     (told : List S) : Type 0 where
   pub in_time : (c : ℕ) → c < system.cores → slice_index clocks c ≤ horizon + 1
   pub in_order : (c : ℕ) → c < system.cores → slice_index taken c ≤ slice_index clocks c
   pub told_are : AreToldBetween holds system taken clocks told
 
--- the clocks, and the rows since the last taking
+-- the clocks, and the rows since they were last taken
 pub record AreKept (system : System) (horizon : ℕ) (clocks taken : List ℕ) (rows : List (Vec Row Global)) : Type 0 where
   pub clocks_of : length clocks ≡ system.cores
   pub taken_of : length taken ≡ system.cores

@@ -1,4 +1,4 @@
--- Signals that are put into the inboxes of their homes.
+-- Delivery of signals to the inboxes of their homes.
 use Rattle.std.specs.Prelude.{◌≡◌, ◌≢◌, ◌⊎◌, ℕ, ◌+◌, ◌<◌, ◌≤◌, List, [], filter, length, slice_index_or, Vec, vec_len, vec_capacity}
 use Rattle.std.specs.declared.alloc.Global.{Global}
 use Rattle.mcs_ticks.specs.declared.row.Row.{Row}
@@ -8,13 +8,13 @@ use Rattle.mcs_system.specs.System.{System}
 use Rattle.mcs_stretch.specs.Inbox.{is_home}
 
 module _ (system : System) where
-  -- each box has got the signals for its core, in the order in which they are given
+  -- each box has got the signals for its core, in the order of the list
   pub record AreDelivered (signals : List Mail) (before after : List Content) : Type 0 where
     pub many : length after ≡ length before
     pub each : (c : ℕ) (x : Content) → c < length before → (slice_index_or after c x).mails
         ≡ put_all (filter (is_home system c) signals) (slice_index_or before c x).mails
 
-  -- how many of the signals are for this core
+  -- the number of signals for this core
   abbrev pub count_for : ℕ → List Mail → ℕ
   count_for c signals = length (filter (is_home system c) signals)
 
@@ -29,12 +29,12 @@ pub record AreSameMail (before after : List Content) : Type 0 where
   pub each : (c : ℕ) (x : Content) → c < length before
       → (slice_index_or after c x).mails ≡ (slice_index_or before c x).mails
 
--- in the place of the box of core c is this one with the mail that was there
+-- the box of core c is replaced by `mailbox`, joined by the mail that was there
 pub record IsJoined (c : ℕ) (mailbox : Content) (before after : List Content) : Type 0 where
   pub many : length after ≡ length before
   pub own : (x : Content) → (slice_index_or after c x).mails ≡ put_all (slice_index_or before c x).mails mailbox.mails
   pub others : (b : ℕ) (x : Content) → b ≢ c → slice_index_or after b x ≡ slice_index_or before b x
 
--- there is room for that many more rows, or there are none, so that another list can take the place of this one
+-- there is room for that many more rows, or the list is empty, so that another list can replace it
 abbrev pub HasRoomFor : Vec Row Global → ℕ → Type 0
 HasRoomFor rows more = (rows.items ≡ []) ⊎ (vec_len rows + more ≤ vec_capacity rows)

@@ -1,4 +1,5 @@
--- What each core has at the beginning: its first state, an empty box, no rows, and the delays of the signals to it.
+-- The beginning of each core: its initial state, an empty box, no rows, and the delays of the
+-- signals to it.
 use Rattle.std.specs.Prelude.{◌≡◌, ℕ, ◌<◌, List, [], length, slice_index, slice_index_or, Vec}
 use Rattle.std.specs.declared.alloc.Global.{Global}
 use Rattle.mcs_ticks.specs.declared.row.Row.{Row}
@@ -7,7 +8,7 @@ use Rattle.mcs_system.specs.System.{System, delay_between}
 use Rattle.mcs_core.specs.State.{State, Fits, opening_state}
 use Rattle.mcs_window.specs.Desk.{AreEmpty}
 
--- the first states of the cores below this number
+-- the initial states of the cores below this number
 pub record AreOpening (system : System) (many : ℕ) (states : List State) : Type 0 where
   pub many_are : length states ≡ many
   pub each : (c : ℕ) (x : State) → c < many → slice_index_or states c x ≡ opening_state system c

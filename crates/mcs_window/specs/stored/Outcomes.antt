@@ -1,4 +1,5 @@
--- What a stretch that was run keeps: what its turns made, and a collector that holds their rows.
+-- The invariant of a stretch that was run: the outcome of its turns, and a collector that holds
+-- their rows.
 use Rattle.std.specs.Prelude.{List}
 use Rattle.std.specs.Arc.{arc_value}
 use Rattle.mcs_ticks.specs.declared.row.Row.{Row}

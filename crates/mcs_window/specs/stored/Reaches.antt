@@ -17,13 +17,14 @@ home_signalled system (Some (Enter server priority)) = None
 home_signalled system (Some (Leave server priority)) = None
 home_signalled system None = None
 
--- ticks that are no less than the delay, and that are the delay where the maker's threads signal the home by their scripts
+-- at least the delay, and equal to it if the maker's threads signal the home by their scripts
 pub record IsReach (system : System) (maker home : ℕ) (said : Type 0) (reach : ℕ) : Type 0 where
   pub least : delay_between system maker home ≤ reach
   pub most : reach ≤ 2 ^ 41
   pub is_delay : said → reach ≡ delay_between system maker home
 
--- a signal of the maker's threads for the home, by the scripts of the threads below number n and the items of thread n below number i
+-- a signal of the maker's threads for the home, by the scripts of the threads below number n and
+-- the items of thread n below number i
 pub record SignalsUntil (system : System) (maker home n i : ℕ) : Type 0 where
   pub signal : Signals system maker home
   pub early : (signal.thread < n) ⊎ ((signal.thread ≡ n) × (signal.place < i))
@@ -33,7 +34,7 @@ abbrev pub AreReachesOf : System → ℕ → ℕ → ℕ → List ℕ → Type 0
 AreReachesOf system maker n i row =
     (home : ℕ) → home < 64 → IsReach system maker home (SignalsUntil system maker home n i) (slice_index row home)
 
--- of each maker, by the scripts of the threads below number n
+-- for each maker, by the scripts of the threads below number n
 pub record AreReachesUntil (system : System) (n : ℕ) (rows : List (List ℕ)) : Type 0 where
   pub many_are : length rows ≡ system.cores
   pub each : (maker : ℕ) (x : List ℕ) → maker < system.cores → AreReachesOf system maker n 0 (slice_index_or rows maker x)

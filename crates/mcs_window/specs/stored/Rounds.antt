@@ -4,7 +4,7 @@ use Rattle.mcs_window.specs.Desk.{Table, AllAreHere}
 use Rattle.mcs_window.specs.stored.Slots.{HoldsAt}
 use Rattle.mcs_window.specs.declared.calendar.Calendar.{Calendar}
 
--- nothing is lent or lost, and the calendar holds
+-- no core is lent, none was lost, and the calendar holds
 pub record AreReady (table : Table) (calendar : Calendar) : Type 0 where
   pub sound : table.lost ≡ false
   pub here : AllAreHere table

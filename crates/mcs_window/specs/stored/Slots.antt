@@ -1,5 +1,5 @@
--- What a desk keeps between its calls: each core that is not lent stands as the clock has it, and for each that is lent there lie the
--- signals that were made for it since.
+-- The invariant of a desk between its calls. Each core that is not lent has, at its clock, the
+-- state of the global clock; the box of each lent core has the signals made for it since.
 use Rattle.std.specs.Prelude.{◌≡◌, ◌≢◌, ℕ, ◌+◌, ◌-◌, ◌<◌, ◌≤◌, ◌^◌, false, Bool, Option, Some, None, List, [], map, length, slice_index, slice_index_or, slice_set}
 use Rattle.std.specs.Arc.{arc_value}
 use Rattle.mcs_mail.specs.declared.mail.Mail.{Mail}
@@ -40,7 +40,8 @@ table_of a =
       loans = map slot_loan a.slots.items;
     }
 
--- the loan of a core, and the signals that the cores made for it since the front, by the clocks of all
+-- the loan of a core, and the signals that the cores made for it since the front, by the clocks of
+-- all
 pub record IsAway (system : System) (horizon core : ℕ) (clocks : List ℕ) (loan : Loan) (box : List Mail) : Type 0 where
   pub in_order : slice_index clocks core ≤ loan.past
   pub in_time : loan.past ≤ horizon + 1
@@ -54,7 +55,7 @@ IsPlaced system horizon core clocks box (Here spare state) =
     (arc_value spare ≡ system) × IsHere system core (slice_index clocks core) clocks state.value box
 IsPlaced system horizon core clocks box (Away loan) = IsAway system horizon core clocks loan box
 
--- each core is so
+-- each core is in its place
 abbrev pub ArePlaced : System → ℕ → List ℕ → List Slot → List Content → Type 0
 ArePlaced system horizon clocks slots boxes =
     (core : ℕ) (slot : Slot) (box : Content) → core < system.cores →
@@ -85,17 +86,18 @@ pub record AreFresh (system : System) (many : ℕ) (slots : List Slot) : Type 0 
   pub many_are : length slots ≡ many
   pub each : (c : ℕ) (x : Slot) → c < many → IsFresh system c (slice_index_or slots c x)
 
--- the slot of core c, which is here, at moment t
+-- core c is not lent and has its state at moment t
 abbrev pub StandsIn : System → ℕ → ℕ → Slot → Type 0
 StandsIn system c t (Here spare state) = (arc_value spare ≡ system) × StandsAt system c t state.value
 StandsIn system c t (Away loan) = ⊥
 
--- every core is here, at its clock
+-- no core is lent, and each has its state at its clock
 abbrev pub AllStand : System → List ℕ → List Slot → Type 0
 AllStand system clocks slots =
     (c : ℕ) (x : Slot) → c < system.cores → StandsIn system c (slice_index clocks c) (slice_index_or slots c x)
 
--- the core of the slot is here and only counts ticks until the moment, and it has gone there
+-- the core of the slot is not lent and only counts ticks until the moment (`MaySkip`), and it has
+-- moved there (`HasSkipped`)
 abbrev pub MaySkip : System → ℕ → Slot → Type 0
 MaySkip system moment (Here spare state) =
     Fits system state.value
@@ -113,14 +115,15 @@ HasSkipped system moment (Here spare state) (Here other after) =
 HasSkipped system moment (Here spare state) (Away loan) = ⊥
 HasSkipped system moment (Away loan) slot = ⊥
 
--- the cores below number `many` have gone to the moment, where their clocks were before it
+-- the cores below number `many` with earlier clocks have moved to the moment
 pub record HaveSkipped (system : System) (clocks : List ℕ) (moment many : ℕ) (later : List ℕ) (slots : List Slot) :
     Type 0 where
   pub clocks_are : AreSetBelow clocks moment many later
   pub many_are : length slots ≡ system.cores
   pub stand : AllStand system later slots
 
--- core c, which is here with this mail at its clock in `front`, may take its turns up to before `past`
+-- core c, which is not lent and has this mail at its clock in `front`, may take its turns up to
+-- before `past`
 pub record MayGo (system : System) (c past : ℕ) (front : List ℕ) (slot : Slot) (box : List Mail) : Type 0 where
   pub known : c < system.cores
   pub stands : StandsIn system c (slice_index front c) slot
@@ -129,7 +132,7 @@ pub record MayGo (system : System) (c past : ℕ) (front : List ℕ) (slot : Slo
   pub in_time : past ≤ 2 ^ 40 + 1
   pub reached : NothingArrivesBefore system c past front
 
--- such a core has taken its turns up to before `to`, and told their rows
+-- such a core has taken its turns up to before `to`, and emitted their rows
 pub record HasGone {S : Type 0} (takes : S → Row → Bool → S → Type 0) (system : System) (c past : ℕ) (front : List ℕ)
     (before : S) (slot : Slot) (box : List Mail) (after : S) (signals : List Mail) (to : ℕ) : Type 0 where
   pub later : slice_index front c < to
@@ -147,25 +150,27 @@ pub record HasGoneAndSent {S : Type 0} (takes : S → Row → Bool → S → Typ
   pub gone : HasGone takes system c past front before slot left.mails after signals to
   pub delivered : AreDelivered system signals (slice_set boxes c left) full
 
--- the mail of the other cores is as it was
+-- the mail of the other cores is unchanged
 pub record AreSameBut (c : ℕ) (before after : List Content) : Type 0 where
   pub many : length after ≡ length before
   pub each : (b : ℕ) (x : Content) → b < length before → b ≢ c
       → (slice_index_or after b x).mails ≡ (slice_index_or before b x).mails
 
--- of the cores below number n that are not lent core c has the least clock, and of those with that clock the least number
+-- core c has the minimum clock of the cores below number n that are not lent, and of those with
+-- that clock the lowest number
 pub record IsEarliestBelow (table : Table) (n c : ℕ) : Type 0 where
   pub below : c < n
   pub here : loan_of table c ≡ None
   pub least : (k : ℕ) → k < n → loan_of table k ≡ None → clock_of table c ≤ clock_of table k
   pub first : (k : ℕ) → k < c → loan_of table k ≡ None → clock_of table c < clock_of table k
 
--- the earliest of the cores below number n that are not lent, or None where all of them are lent
+-- the earliest of the cores below number n that are not lent, or `None` if all of them are lent
 abbrev pub IsEarliest : Table → ℕ → Option ℕ → Type 0
 IsEarliest table n None = (k : ℕ) → k < n → loan_of table k ≢ None
 IsEarliest table n (Some c) = IsEarliestBelow table n c
 
--- by the clocks each core only counts ticks until the moment that the calendar has for it; nothing is said of one that is stale
+-- each core only counts ticks until the moment that the calendar has for it, unless the calendar is
+-- stale
 abbrev pub HoldsAt : Table → Calendar → Type 0
 HoldsAt table calendar =
     calendar.stale ≡ false → (c : ℕ) → c < table.system.cores →

@@ -1,4 +1,4 @@
--- The views of each core, of which those of the first contexts were dealt out.
+-- The views of each core, after those of the first contexts were dealt out.
 use Rattle.std.specs.Prelude.{◌≡◌, ℕ, ◌<◌, true, None, List, [], drop, map, length, slice_index_or}
 use Rattle.std.specs.List.{range_with_len}
 use Rattle.std.specs.declared.alloc.Global.{Global}
@@ -11,7 +11,7 @@ use Rattle.mcs_window.specs.Views.{view_in}
 use Rattle.mcs_window.specs.declared.slot.Slot.{Slot}
 use Rattle.mcs_window.specs.declared.slot.Slot.TheVariants.{Here, Away}
 
--- one that stands where a state must be named and none is meant
+-- a placeholder for a state that is not there
 abbrev pub no_state : State
 no_state =
     record {
@@ -37,7 +37,7 @@ pub record AreQueued (system : System) (states : List State) (dealt : ℕ)
       ≡ views_from system dealt (slice_index_or states c x).core.running
       (drop dealt (slice_index_or states c x).core.contexts)
 
--- the views of the cores below this number, of which none was dealt out
+-- the views of the cores below this number, before any was dealt out
 pub record AreBegun (system : System) (states : List State) (begun : ℕ)
     (queues : List (VecDeque ContextView Global)) : Type 0 where
   pub many : length queues ≡ begun

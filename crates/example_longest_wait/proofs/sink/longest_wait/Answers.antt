@@ -3,7 +3,7 @@ use Rattle.std.specs.Arc.{arc_value}
 use Rattle.example_longest_wait.proofs.Chains.{counted}
 use Rattle.example_longest_wait.proofs.sink.longest_wait.Goals as goal
 
--- src/sink.rt:51:1
+-- the sink has counted the schedule's rows
 pub returns : goal.returns
 returns g c =
     counted (record { thread = c.args.thread; longest = 0 }) c.simulate_to.new.sink

@@ -3,7 +3,7 @@ use Rattle.std.specs.Io.KnownBytes.{Appends}
 use Rattle.std.proofs.KnownBytes.{Appends-kept}
 use Rattle.mcs_cli.proofs.streams.write_text.Goals as goal
 
--- where the flush fails, the whole text is written
+-- if the flush fails, the whole text is written
 pub returns-then-is_err-clause-prefix : goal.returns-then-is_err-clause-prefix
 returns-then-is_err-clause-prefix g c =
     let held = g.T.Target.contents in

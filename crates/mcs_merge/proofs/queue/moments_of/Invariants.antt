@@ -1,4 +1,4 @@
--- The moments that are read so far are those of the first rows, or 0 where there is none.
+-- The moments that are read so far are those of the first rows, or 0 for a missing row.
 use Rattle.std.proofs.Common.{◌≡◌, ℕ, ◌<◌, slice_index, slice_get, IfNone, IfSome}
 use Rattle.mcs_merge.proofs.queue.moments_of.Given as goal
 

@@ -19,7 +19,7 @@ next-view system running n m (context ∷ contexts) (suc k) l e =
     ap (λ views. own_view system n running context ++ views) (next-view system running (suc n) m contexts k (omega arith) (omega arith))
     ∙ sym (append_assoc (own_view system n running context) (views_from system (suc n) running (take k contexts)) (own_view system m running (get_or contexts k None)))
 
--- what it shows, where the core holds it and where not
+-- the view, if the core holds it and if not
 shown-some : (system : System) (running : Option Chosen) (n : ℕ) (context : Option Context) (view : ContextView) →
     option_map (view_of n (using_of system n running)) context ≡ Some view → own_view system n running context ≡ view ∷ []
 shown-some system running n None view e = cc

@@ -1,0 +1,148 @@
+#!/usr/bin/env python3
+"""Checks the table of wrong bodies, checks/proofs/edits.csv, which `edits.py --table` writes as it tries them.
+
+The table has a row for each edit of crates/*/must-fail and crates/*/edits that was tried: its crate, its name, what came of it, the CPU seconds, the
+goal that refused it, and the digest of the sources on which it was tried. The digest sums src, specs and proofs of the crate and of those
+below it, without lines that are a comment alone. A row is stale if the sources have another digest now, or the edit has another text.
+
+A row fails if the prover did not refuse the edit for a goal, and if its edit is gone. Stale rows and edits without a row are counted; with --release
+they fail too. The last line is 'N passed, M failed'."""
+from __future__ import annotations
+
+import csv
+import functools
+import hashlib
+import os
+import pathlib
+import re
+import sys
+import tempfile
+from collections.abc import Iterable, Sequence
+from typing import NamedTuple
+
+sys.dont_write_bytecode = True
+sys.path[0] = str(pathlib.Path(__file__).resolve().parents[2])
+from checks import common
+from checks.common import TOP, Count
+
+TABLE = TOP / 'checks' / 'proofs' / 'edits.csv'
+PLACES = ('edits', 'must-fail')
+# what may come of an edit that shows what a contract catches
+REFUSED = ('refused', 'gave up')
+COMMENT = re.compile(rb'\s*(//|--)')
+
+
+class Row(NamedTuple):
+    """What came of an edit, and on which sources."""
+
+    crate: str
+    edit: str
+    verdict: str
+    seconds: str
+    goal: str
+    digest: str
+
+    @property
+    def name(self) -> str:
+        return f'{self.crate}/{self.edit}'
+
+
+def goal_of(why: str) -> str:
+    """The goal that a refusal names, without its place in a file."""
+    return re.sub(r'^\S+:\d+:\d+: (error: )?', '', why).strip()
+
+
+def below(crates: str) -> dict[str, list[str]]:
+    """The crates of crates.txt, each with the libraries that it names."""
+    return {name: needs.split() for name, needs in re.findall(r'^([a-z]\w*)[^:\n]*:(.*)$', crates, re.M)}
+
+
+def cone(crate: str, known: dict[str, list[str]]) -> list[str]:
+    """A crate and those below it that stand here, by name."""
+    found, left = set(), [crate]
+    while left:
+        name = left.pop()
+        if name in known and name not in found:
+            found.add(name)
+            left += known[name]
+    return sorted(found)
+
+
+def without_comments(text: bytes) -> bytes:
+    """The lines of a source that are no comment alone."""
+    return b'\n'.join(line for line in text.split(b'\n') if not COMMENT.match(line))
+
+
+def files_of(crate: pathlib.Path) -> list[pathlib.Path]:
+    folders = [crate / folder for folder in ('src', 'specs', 'proofs')]
+    return sorted(path for folder in folders for path in folder.rglob('*') if path.suffix in ('.rt', '.antt'))
+
+
+@functools.lru_cache(maxsize=None)
+def own_digest(crate: pathlib.Path) -> str:
+    """The digest of a crate's own sources."""
+    parts = [os.fsencode(path.relative_to(crate)) + b'\0' + without_comments(path.read_bytes()) for path in files_of(crate)]
+    return hashlib.sha256(b'\0\0'.join(parts)).hexdigest()
+
+
+class Sources:
+    """The crates of a checkout, and the digests of what an edit of a crate is tried on."""
+
+    def __init__(self, top: pathlib.Path) -> None:
+        self.top = top
+        self.known = below((top / 'crates.txt').read_text())
+
+    def edits(self) -> dict[str, pathlib.Path]:
+        """The file of each edit, by crate and name."""
+        found = [edit for place in PLACES for edit in self.top.glob(f'crates/*/{place}/*.edit')]
+        return {f'{edit.parent.parent.name}/{edit.stem}': edit for edit in sorted(found)}
+
+    def digest(self, crate: str, edit: pathlib.Path) -> str:
+        """The digest of an edit, its crate and those below that, in 16 digits."""
+        sums = [own_digest(self.top / 'crates' / name) for name in cone(crate, self.known)]
+        return hashlib.sha256(' '.join(sums).encode() + edit.read_bytes()).hexdigest()[:16]
+
+
+def read(table: pathlib.Path) -> dict[str, Row]:
+    """The rows of a table by crate and edit; none if there is no table."""
+    if not table.is_file():
+        return {}
+    with table.open(newline='') as file:
+        return {row.name: row for row in (Row(**each) for each in csv.DictReader(file))}
+
+
+def write(table: pathlib.Path, rows: Iterable[Row]) -> None:
+    """Writes a table in order of crate and edit, whole or not at all."""
+    with tempfile.NamedTemporaryFile('w', newline='', dir=table.parent, delete=False) as file:
+        writer = csv.writer(file, lineterminator='\n')
+        writer.writerow(Row._fields)
+        writer.writerows(sorted(rows))
+    os.chmod(file.name, 0o644)
+    os.replace(file.name, table)
+
+
+def judged(rows: dict[str, Row], sources: Sources, is_release: bool) -> Count:
+    """Counts the rows that stand, and names what fails."""
+    count = Count()
+    edits = sources.edits()
+    stale = sorted(name for name, row in rows.items() if name in edits and row.digest != sources.digest(row.crate, edits[name]))
+    missing = sorted(edits.keys() - rows.keys())
+    for name, row in sorted(rows.items()):
+        count.expect(f'{name}: there is no such edit; edits.py --table drops its row', name in edits)
+        count.expect(f'{name}: {row.verdict}: {row.goal}', row.verdict in REFUSED)
+    print(f'{len(edits)} edits, {len(rows) - len(stale)} tried on these sources, {len(stale)} stale, {len(missing)} not tried')
+    if is_release:
+        for name in stale + missing:
+            count.expect(f'{name}: not tried on these sources', False)
+    return count
+
+
+def main(words: Sequence[str]) -> None:
+    parser = common.asking(__doc__)
+    parser.add_argument('--release', action='store_true', help='fail if a row is stale or an edit has none')
+    asked = parser.parse_args(words)
+    judged(read(TABLE), Sources(TOP), asked.release).end()
+
+
+if __name__ == '__main__':
+    main(sys.argv[1:])
