@@ -37,6 +37,7 @@ LEFT_OUT = '..'
 # tools that run a program by themselves: the first mcsim, the second mcscheck
 ANALYSES = ' --analyse'
 SEARCHES = (' --least ', ' --greatest ')
+SWEEP = 'tools/sweep '
 # scripts of examples that ask the second for data frames, by Debian's Python
 FRAMES = ('examples/python/responses.py ',)
 DEBIAN_PYTHON = '/usr/bin/python3'
@@ -156,14 +157,14 @@ def has_pandas() -> bool:
 
 def missing(block: str, has_checker: bool) -> str | None:
     """What a block of commands needs and is not there, if anything."""
-    if not has_checker and (gives_a_verdict(block) or wants_pandas(block)):
+    if not has_checker and (gives_a_verdict(block) or SWEEP in block or wants_pandas(block)):
         return 'mcscheck'
     return 'the package pandas of Python' if wants_pandas(block) and not has_pandas() else None
 
 
 def runs_a_system(block: str) -> bool:
     """Whether a block of commands runs a program with a file, or with a text in the block."""
-    runs = PROGRAM in block or ANALYSES in block or gives_a_verdict(block) or wants_pandas(block)
+    runs = any(word in block for word in (PROGRAM, ANALYSES, SWEEP)) or gives_a_verdict(block) or wants_pandas(block)
     return runs and any(source in block for source in SOURCES) and WRITES not in block
 
 

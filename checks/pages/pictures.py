@@ -20,7 +20,7 @@ from checks import common
 from checks.common import TOP, Count
 
 VIEWER = TOP / 'docs' / 'VIEWER.md'
-PAGES = [TOP / 'README.md', VIEWER, *sorted((TOP / 'examples').glob('*.md'))]
+PAGES = [TOP / 'README.md', VIEWER, TOP / 'docs' / 'MODELLING.md', *sorted((TOP / 'examples').glob('*.md'))]
 BLOCK = re.compile(r'^```sh\n(.*?)^```', re.M | re.S)
 NOT_RUN = ('gtkwave ', 'tools/live ')
 COMMAND = re.compile(r'`(tools/view [^`\n]* -o (examples/pictures/[^`\s]+\.svg))`')

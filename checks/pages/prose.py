@@ -25,29 +25,7 @@ from checks import common
 from checks.common import TOP, Count
 
 # pages and crates that are not rewritten yet
-EXEMPT = frozenset('''
-    docs/KERNEL.md
-    docs/LEFT_OUT.md
-    docs/MODELLING.md
-    docs/WAYS_IN.md
-    examples/README.md
-    examples/car_gateway.md
-    examples/driver_beside_a_loop.md
-    examples/lock_and_inversion.md
-    examples/mode_change_by_orders.md
-    examples/motor_controller.md
-    examples/overload_is_counted.md
-    examples/overrun_is_isolated.md
-    examples/pipeline_over_four_cores.md
-    examples/refills_too_few.md
-    examples/responses_in_pandas.md
-    examples/server_core_of_three_clients.md
-    examples/sizing_a_budget.md
-    examples/storm_of_interrupts.md
-    examples/three_rate_monotonic_tasks.md
-    examples/two_budgets_back_to_back.md
-    examples/yield_ends_a_round.md
-'''.split())
+EXEMPT: frozenset[str] = frozenset()
 # written by a script, of comments that are held where they stand
 GENERATED = ('docs/BELIEVE.md',)
 CHANGES = 'CHANGELOG.md'
