@@ -20,7 +20,20 @@ from checks.program.verdicts import System
 
 # the clock ticks at 0, 10, .., and signals a tick later; the loop is woken at 2, 12, .., has ended its round 2 ticks later, and waits a tick after that
 SYSTEMS = TOP / 'examples' / 'systems'
-LOOP = (SYSTEMS / 'loop_and_its_clock.toml').read_text()
+LOOP = '''# A loop of 2 ticks, woken every 10 by a clock thread on another core.
+version = 1
+cores = 2
+delay = 1
+context = [
+    { name = "loop", core = 0, budget = 4, period = 10 },
+    { name = "clock", core = 1, budget = 1, period = 10 },
+]
+note = [{ name = "tick", core = 0 }]
+thread = [
+    { name = "Loop", context = "loop", priority = 9, deadline = 5, script = ["wait tick", "compute 2"] },
+    { name = "Clock", context = "clock", priority = 9, script = ["signal tick 1"] },
+]
+'''
 LATE = LOOP.replace('deadline = 5', 'deadline = 1')
 # whose clock has a third thing to do, behind its one round
 DONE = LOOP.replace('priority = 9, script', 'priority = 9, rounds = 1, script')
