@@ -1,9 +1,9 @@
 """A search for the point with the maximum value, where nothing is known of the values.
 
-It tries starting points first. Then it climbs, from the best of them and after that from random
-points: it changes one coordinate a step, takes the best of a few changes, and ends when no
-coordinate brings more. Points come in batches whose size depends on nothing, so that the same seed
-gives the same points however many are tried at once. No point is tried twice."""
+It tries starting points first, then random ones. After that each step takes one of the best points
+so far and changes one coordinate, at times a few, or mixes two of them. Points come in batches of
+one size, so that the same seed gives the same points however many are tried at once. No point is
+tried twice."""
 from __future__ import annotations
 
 import random
@@ -19,10 +19,16 @@ Evaluate = Callable[[list[Point]], list[Value]]
 
 # points that are tried at once
 BATCH = 8
-# random points in a row that were all known, after which there are taken to be no others
+# batches in a row without a new point, after which all points are taken to be known
 STALE = 200
-# of the starting points at most this part of all tries
-STARTS = 3
+# parts of all tries that are starting points at most, and random points
+STARTS, DRAWN = 5, 10
+# the number of best points from which steps are made
+ELITE = 12
+# shares of steps that mix two points, and that change one coordinate; the others change 2 to FEW
+MIXED, SINGLE, FEW = 0.2, 0.5, 3
+# half, for a choice of two, and the share of changes that take an end
+HALF, ENDS = 0.5, 0.1
 
 
 def order(value: Value) -> int:
@@ -43,7 +49,13 @@ class Climb:
         self.sizes, self.starts, self.tries = list(sizes), list(starts), tries
         self.random = random.Random(seed)
         self.known: dict[Point, Value] = {}
-        self.best: Optional[Point] = None
+        # the best points, the best first; of two alike the one that was tried first
+        self.elite: list[Point] = []
+        self.open = [place for place, size in enumerate(self.sizes) if size > 1]
+
+    @property
+    def best(self) -> Optional[Point]:
+        return self.elite[0] if self.elite else None
 
     def value(self, point: Point) -> int:
         return order(self.known[point])
@@ -52,81 +64,59 @@ class Climb:
     def left(self) -> int:
         return self.tries - len(self.known)
 
-    def of(self, points: Sequence[Point]) -> Batches:
+    def of(self, points: Iterable[Point]) -> Batches:
         """Has the values of points, except of those that are known and of those above the number
         of tries."""
         new = list(dict.fromkeys(point for point in points if point not in self.known))
         for batch in batches(new[:self.left]):
             for point, value in zip(batch, (yield batch)):
                 self.known[point] = value
-                if self.best is None or order(value) > self.value(self.best):
-                    self.best = point
+                self.keep(point)
+
+    def keep(self, point: Point) -> None:
+        """Gives a point its place among the best, if it has one."""
+        place = len(self.elite)
+        while place > 0 and self.value(self.elite[place - 1]) < self.value(point):
+            place -= 1
+        self.elite.insert(place, point)
+        del self.elite[ELITE:]
 
     def run(self) -> Batches:
         """Gives batches of points and takes their values."""
         yield from self.of(self.starts[:max(1, self.tries // STARTS)])
-        number = 0
-        while self.left > 0:
-            begin = self.start(number)
-            if begin is None:
-                return
-            yield from self.of([begin])
-            yield from self.climb(begin)
-            number += 1
-
-    # ---- where a climb begins
-
-    def start(self, number: int) -> Optional[Point]:
-        """The best point, and then in turn random points and the best with some coordinates drawn
-        again; nothing if all points seem to be known."""
-        if number == 0 and self.best is not None:
-            return self.best
-        for _ in range(STALE):
-            is_near = self.best is not None and number % 2 == 0
-            point = self.redrawn(self.best) if is_near and self.best else self.drawn()
-            if point not in self.known:
-                return point
-        return None
+        yield from self.of([self.drawn() for _ in range(max(BATCH, self.tries // DRAWN))])
+        stale = 0
+        while self.left > 0 and stale < STALE:
+            before = len(self.known)
+            yield from self.of([self.step() for _ in range(BATCH)])
+            stale = stale + 1 if len(self.known) == before else 0
 
     def drawn(self) -> Point:
         return tuple(self.random.randrange(size) for size in self.sizes)
 
-    def redrawn(self, point: Point) -> Point:
-        """The point with each second coordinate, by chance, drawn again."""
-        return tuple(self.random.randrange(size) if self.random.random() < 0.5 else own for own, size in zip(point, self.sizes))
+    def step(self) -> Point:
+        """Another point: one of the best with a coordinate changed, or a few, or mixed with
+        another one of them."""
+        chance = self.random.random()
+        point = self.elite[0] if self.random.random() < HALF else self.random.choice(self.elite)
+        if chance < MIXED:
+            other = self.random.choice(self.elite)
+            return tuple(own if self.random.random() < HALF else its for own, its in zip(other, point))
+        many = 1 if chance < MIXED + SINGLE else self.random.randint(2, FEW)
+        changed = list(point)
+        for place in self.random.sample(self.open, min(many, len(self.open))):
+            changed[place] = self.changed(point[place], self.sizes[place])
+        return tuple(changed)
 
-    # ---- one climb
-
-    def climb(self, point: Point) -> Batches:
-        """Changes a coordinate a step until a whole round over them brings no more."""
-        is_better = True
-        while is_better and self.left > 0:
-            is_better = False
-            for place in self.shuffled():
-                if self.left <= 0:
-                    return
-                changed = [(*point[:place], own, *point[place + 1:]) for own in self.near(point[place], self.sizes[place])]
-                yield from self.of(changed)
-                reached = max((one for one in changed if one in self.known), key=self.value, default=point)
-                # one that is as good is taken too: a plateau is left in this way
-                is_better = is_better or self.value(reached) > self.value(point)
-                if self.value(reached) >= self.value(point):
-                    point = reached
-
-    def shuffled(self) -> list[int]:
-        places = [place for place, size in enumerate(self.sizes) if size > 1]
-        self.random.shuffle(places)
-        return places
-
-    def near(self, own: int, size: int) -> list[int]:
-        """A few other values of a coordinate: all if there are few, else those beside it, one at
-        a random power of two on either side, the ends, and random ones."""
-        if size <= BATCH + 1:
-            return [value for value in range(size) if value != own]
-        step = 2 ** self.random.randrange(1, size.bit_length())
-        wanted = [own - 1, own + 1, own - step, own + step, 0, size - 1]
-        wanted += [self.random.randrange(size) for _ in range(BATCH - len(wanted))]
-        return [value for value in dict.fromkeys(wanted) if 0 <= value < size and value != own]
+    def changed(self, own: int, size: int) -> int:
+        """Another value of a coordinate: any one, an end, or one at a power of two."""
+        chance = self.random.random()
+        if chance < HALF:
+            return self.random.randrange(size)
+        if chance < HALF + ENDS:
+            return self.random.choice((0, size - 1))
+        away = self.random.choice((-1, 1)) * 2 ** self.random.randrange(size.bit_length())
+        return max(0, min(size - 1, own + away))
 
 
 def exhaust(points: Iterable[Point]) -> Batches:
