@@ -157,8 +157,8 @@ class Answer:
         if self.trials.point is None:
             return [f'{self.thread}: no job of it was activated in any run up to {self.horizon}', f'{self.tried()}{self.refused()}']
         late = f', deadline {self.deadline}, slack {self.deadline - (best.value or 0)}' if self.deadline else ''
-        lines = [f'{self.thread}: worst response found {self.value_text()}{late}']
-        lines.append(f'with {" ".join(self.search.space.said(self.trials.point))}; as in the file {self.as_in_file()}')
+        lines = [f'{self.thread}: worst response found {self.value_text()}{late} (as the file stands: {self.as_in_file()})']
+        lines.append(f'with {" ".join(self.search.space.said(self.trials.point))}')
         lines.append(f'{self.tried()}{self.refused()}: {self.worth()}')
         lines += [self.analysed(), self.shown()]
         return lines

@@ -89,8 +89,8 @@ class Case(unittest.TestCase):
 class Answers(Case):
     def test_the_worst_of_all(self) -> None:
         told = self.ran('--vary', 'source.s.start=30..38', '--all')
-        self.assertEqual((told.status, told.stdout), (5, """B: worst response found 20, deadline 18, slack -2
-with source.s.start=37; as in the file 13
+        self.assertEqual((told.status, told.stdout), (5, """B: worst response found 20, deadline 18, slack -2 (as the file stands: 13)
+with source.s.start=37
 All 9 combinations were tried, 1 of them refused, the first source.s.start=34: out of range at source 2: exhaustive, so no response of these systems up to 100 is longer
 response-time analysis: none, since B does not wait for one source with one date in its period
 job 3, activated 50, ended 70; -o FILE writes this system
@@ -98,7 +98,7 @@ job 3, activated 50, ended 70; -o FILE writes this system
 
     def test_a_job_that_does_not_end(self) -> None:
         lines = self.ran('--vary', 'source.s.start=36,39').stdout.splitlines()
-        self.assertEqual(lines[0], 'B: worst response found 22 or more, deadline 18, slack -4')
+        self.assertEqual(lines[0], 'B: worst response found 22 or more, deadline 18, slack -4 (as the file stands: 13)')
         self.assertEqual(lines[-1], 'the job had not ended at the horizon; -o FILE writes this system')
 
     def test_a_deadline_that_is_met(self) -> None:
@@ -147,7 +147,7 @@ class Faults(Case):
     def test_a_table_of_ranges(self) -> None:
         table = self.folder / 'work.toml'
         table.write_text('source.s.start = "30..37"\nthread.A.script.2 = [4, 5]\n')
-        self.assertIn('with source.s.start=37 thread.A.script.2=4;', self.ran('--ranges', table).stdout)
+        self.assertIn('with source.s.start=37 thread.A.script.2=4\n', self.ran('--ranges', table).stdout)
         table.write_text('source.s.start = 1.5\n')
         self.expect(f'work.toml: source.s.start: {ranges.ALLOWED}', '--ranges', table)
 
@@ -174,7 +174,7 @@ class Interrupted(Case):
         self.assertEqual(told.status, 130)
         self.assertEqual(told.stderr, 'worst: interrupted after 3 of 9 runs: worst 15 with source.s.start=32; the same command goes on\n')
         (self.folder / 'asked').unlink()
-        self.assertEqual(self.ran(*words, '-o', file).stdout.splitlines()[0], 'B: worst response found 20, deadline 18, slack -2')
+        self.assertEqual(self.ran(*words, '-o', file).stdout.splitlines()[0], 'B: worst response found 20, deadline 18, slack -2 (as the file stands: 13)')
         # the file itself, those that were left, and the worst once more
         self.assertEqual(self.asked(), [30, 33, 34, 35, 36, 37, 38, 37])
 
