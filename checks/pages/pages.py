@@ -36,6 +36,7 @@ LEFT_OUT = '..'
 # tools that run a program by themselves: the first mcsim, the second mcscheck
 ANALYSES = ' --analyse'
 SEARCHES = (' --least ', ' --greatest ')
+WORST, COMPARE = 'tools/worst ', 'tools/compare '
 # scripts of examples that ask the second for data frames, by Debian's Python
 FRAMES = ('examples/python/responses.py ',)
 DEBIAN_PYTHON = '/usr/bin/python3'
@@ -57,7 +58,7 @@ LEFT = re.compile(r'(sweep: \d+ values? (is|are) left at most, .*\n)?')
 SOURCES = ('.toml', '.csv', '<<', '--random')
 # a block that writes files is run elsewhere
 WRITES = ' -o '
-GUIDE_NAMES = ('CI.md', 'FOREVER.md', 'FORMAT.md', 'KERNEL.md', 'LEFT_OUT.md', 'MODELLING.md', 'SWEEPS.md', 'WAYS_IN.md')
+GUIDE_NAMES = ('CI.md', 'FOREVER.md', 'FORMAT.md', 'KERNEL.md', 'LEFT_OUT.md', 'MODELLING.md', 'SWEEPS.md', 'WAYS_IN.md', 'WORST.md')
 GUIDES = [TOP / 'docs' / name for name in GUIDE_NAMES]
 # pages with blocks beside those that a command wrote
 SHOW_OTHERS = tuple(pathlib.Path(name) for name in ('README.md', 'examples/README.md', 'docs/CI.md', 'docs/FORMAT.md', 'docs/WAYS_IN.md'))
@@ -98,7 +99,7 @@ def is_search(block: str) -> bool:
 
 
 def gives_a_verdict(block: str) -> bool:
-    return CHECKER in block or is_search(block)
+    return CHECKER in block or is_search(block) or WORST in block
 
 
 def status_of(block: str, written: Sequence[str]) -> int:
@@ -151,7 +152,7 @@ def missing(block: str, has_checker: bool) -> str | None:
 
 def runs_a_system(block: str) -> bool:
     """Whether a block of commands runs a program with a file, or with a text in the block."""
-    runs = PROGRAM in block or ANALYSES in block or gives_a_verdict(block) or wants_pandas(block)
+    runs = any(word in block for word in (PROGRAM, ANALYSES, COMPARE)) or gives_a_verdict(block) or wants_pandas(block)
     return runs and any(source in block for source in SOURCES) and WRITES not in block
 
 

@@ -71,7 +71,7 @@ class Beside:
 def beside(known: System, ours: Side, trace: Trace, given: tuple[Optional[float], Optional[float], Optional[float]], share: float) -> Beside:
     """Fits a trace to a schedule and compares both where both have something."""
     raw = comparing.side_of(trace)
-    fit = Fitting(ours, raw).fit(*given)
+    fit = Fitting(ours.begins(), raw.begins()).fit(*given)
     theirs = raw.scaled(fit.unit, fit.offset)
     begin = max(ours.ends[0], theirs.ends[0]) - fit.tolerance
     until = min(ours.ends[1], theirs.ends[1])
@@ -230,7 +230,7 @@ def main() -> int:
     columns = Columns(*(getattr(words, column) for column in Columns._fields))
     trace = measured.Reader(words.trace, known, measured.words_of(columns, words.events, words.name, words.idle, known)).read()
     offset = None if words.offset is None else words.offset - float(trace.first)
-    if not Fitting(ours, comparing.side_of(trace)).names:
+    if not ours.begins().keys() & comparing.side_of(trace).begins().keys():
         raise Fault(f'{words.trace}: no thread runs for some time both in it and in the schedule')
     found = beside(known, ours, trace, (words.unit, offset, words.tolerance), words.percent / 100)
     for what, many in trace.passed_over.items():

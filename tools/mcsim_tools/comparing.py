@@ -22,10 +22,10 @@ SPREAD = 1.4826
 OF_MEDIAN = 1.2533
 # how many spreads, and ticks at least, two times may lie apart that are the same
 SPREADS, LEAST_TOLERANCE = 6.0, 1.0
-# runs at the beginning of each thread by which an offset is tried
-TRIED = 40
-# runs over which a unit is estimated, and rounds in which the fit is refined
-LAG, REFINED = 8, 4
+# runs at the beginning of each thread by which a unit and an offset are tried
+TRIED = 20
+# over how many runs a unit is estimated, and rounds in which the fit is refined
+LAGS, REFINED = (1, 8), 4
 # standard errors above which run times differ, and jobs by which that is told at least
 ERRORS, FEWEST = 5.0, 4
 
@@ -120,6 +120,10 @@ def side_of(trace: Trace) -> Side:
 # ---- unit and offset
 
 
+# when each thread began to run
+Begins = Mapping[str, Sequence[float]]
+
+
 class Fit(NamedTuple):
     """A trace's time is the offset plus the unit times a tick; how much of both agrees, and within
     how many ticks two times are the same."""
@@ -136,23 +140,24 @@ def near(times: Sequence[float], wanted: float) -> Optional[float]:
     return min(times[max(0, place - 1):place + 1], key=lambda time: abs(time - wanted), default=None)
 
 
-def unit_of(ours: Mapping[str, Sequence[float]], theirs: Mapping[str, Sequence[float]]) -> float:
-    """The unit, by the times that some runs of a thread take in both."""
-    ratios = []
-    for name in ours.keys() & theirs.keys():
+def units_of(ours: Mapping[str, Sequence[float]], theirs: Mapping[str, Sequence[float]]) -> list[float]:
+    """Units that may be the right one: by what some runs of each thread take in both."""
+    found = []
+    for name in sorted(ours.keys() & theirs.keys()):
         own, other = ours[name], theirs[name]
-        lag = min(LAG, min(len(own), len(other)) - 1)
-        if lag > 0:
-            gaps = [[after - time for time, after in zip(times, times[lag:])] for times in (own, other)]
-            ratios += [statistics.median(gaps[1]) / statistics.median(gaps[0])] * min(map(len, gaps))
-    return statistics.median(ratios) if ratios else 1.0
+        for lag in LAGS:
+            lag = min(lag, len(own) - 1, len(other) - 1)
+            if lag > 0:
+                gaps = [[after - time for time, after in zip(times, times[lag:])] for times in (own, other)]
+                found.append(statistics.median(gaps[1]) / statistics.median(gaps[0]))
+    return sorted(set(found)) or [1.0]
 
 
 class Fitting:
     """Fits the unit and the offset of a trace."""
 
-    def __init__(self, ours: Side, theirs: Side) -> None:
-        self.ours, self.theirs = ours.begins(), theirs.begins()
+    def __init__(self, ours: Begins, theirs: Begins) -> None:
+        self.ours, self.theirs = ours, theirs
         self.names = sorted(self.ours.keys() & self.theirs.keys())
 
     def pairs(self, unit: float, offset: float, within: float) -> list[tuple[float, float]]:
@@ -166,15 +171,13 @@ class Fitting:
                     found.append((tick, time))
         return found
 
-    def offset(self, unit: float) -> float:
-        """The offset under which the first runs agree best."""
-        tried = [self.theirs[name][0] - unit * tick for name in self.names for tick in self.ours[name][:TRIED]]
-        first = {name: times[:TRIED] for name, times in self.theirs.items()}
-        whole, self.theirs = self.theirs, first
-        try:
-            return max(tried, key=lambda offset: (self.score(unit, offset), -abs(offset)))
-        finally:
-            self.theirs = whole
+    def begun(self, units: Sequence[float], offset: Optional[float]) -> tuple[float, float]:
+        """The unit and the offset under which the first runs agree best."""
+        first = Fitting(self.ours, {name: times[:TRIED] for name, times in self.theirs.items()})
+        tried = [(unit, offset) for unit in units] if offset is not None else [
+            (unit, self.theirs[name][0] - unit * tick) for unit in units for name in self.names for tick in self.ours[name][:TRIED]
+        ]
+        return max(tried, key=lambda one: (first.score(*one), -abs(one[1])))
 
     def score(self, unit: float, offset: float) -> float:
         pairs = self.pairs(unit, offset, LEAST_TOLERANCE)
@@ -182,8 +185,7 @@ class Fitting:
 
     def fit(self, unit: Optional[float], offset: Optional[float], tolerance: Optional[float]) -> Fit:
         is_unit, is_offset = unit is not None, offset is not None
-        unit = unit_of(self.ours, self.theirs) if unit is None else unit
-        offset = self.offset(unit) if offset is None else offset
+        unit, offset = self.begun([unit] if unit is not None else units_of(self.ours, self.theirs), offset)
         for _ in range(REFINED):
             pairs = self.pairs(unit, offset, LEAST_TOLERANCE)
             if len(pairs) < 2:
@@ -224,12 +226,12 @@ def parting(core: int, ours: Sequence[Spell], theirs: Sequence[Spell], tolerance
         is_same = a.name == b.name and abs(a.begin - b.begin) <= tolerance
         if is_same and (abs(a.end - b.end) <= tolerance or max(a.end, b.end) > until):
             i, j = i + 1, j + 1
+        elif is_same:
+            return Parting(min(a.end, b.end), core, i, j, f'{a.name} runs until {a.end:g} in the schedule, and until {b.end:.1f} in the trace')
         elif a.end - a.begin <= tolerance:
             i += 1
         elif b.end - b.begin <= tolerance:
             j += 1
-        elif is_same:
-            return Parting(min(a.end, b.end), core, i, j, f'{a.name} runs until {a.end:g} in the schedule, and until {b.end:.1f} in the trace')
         else:
             return Parting(min(a.begin, b.begin), core, i, j, f'the schedule runs {a.name} from {a.begin:g} on, and the trace {b.name} from {b.begin:.1f} on')
     rest = [spell for spell in (*ours[i:i + 1], *theirs[j:j + 1]) if spell.end - spell.begin > tolerance and spell.begin + tolerance < until]
