@@ -13,6 +13,7 @@ The bound that the tool itself tells has to be that of the analysis of the tasks
 from __future__ import annotations
 
 import contextlib
+import functools
 import random
 import sys
 import pathlib
@@ -28,13 +29,15 @@ sys.path.insert(0, str(TOP / 'tools'))
 from mcsim_tools import climbing, ranges, tasks, workers, worst
 from mcsim_tools.climbing import Climb, Point
 from mcsim_tools.ranges import Space
-from mcsim_tools.tasks import Form, Task
+from mcsim_tools.tasks import Form
 from mcsim_tools.trying import Question
 
 RUNS = 500
 WANTED = 0.95
-# of a system with servers: runs of the search, and of the plain random one
-FEW, MANY = 200, 2000
+# runs in a system with servers, unless --runs gives more
+FEW = 200
+# a plain random search makes so many times the runs
+TIMES = 10
 # combinations of a small set
 SMALL = 1500
 BLIND = 'found from random points alone'
@@ -83,7 +86,7 @@ def searched(checker: str, trial: Trial, batches: climbing.Batches) -> Found:
 def opened(form: Form) -> Space:
     """The system of tasks, with all offsets left open but that of the first task."""
     tables = form.tables()
-    texts = [text for text in ranges.phases_of(tables)][1:]
+    texts = ranges.phases_of(tables)[1:]
     return Space(tables, [ranges.choice_of(text, tables, 0) for text in texts])
 
 
@@ -110,10 +113,13 @@ def try_tasks(checker: str, seed: str, number: int) -> tuple[Found, Found, Optio
     """What the search finds, and that which begins at random points; the bound, and that of the tool."""
     rng = random.Random(f'{seed} tasks {number}')
     trial = set_of(rng, number % 2 == 1, (3, 7), (10, 300))
-    found = searched(checker, trial, Climb(trial.space.sizes, trial.space.corners(), RUNS, number).run())
+    found = searched(checker, trial, worst.climb(trial.space, RUNS, number).run())
     drawn = tuple(rng.randrange(size) for size in trial.space.sizes)
     blind = searched(checker, trial, Climb(trial.space.sizes, [drawn], RUNS, number).run())
-    return found, blind, trial.bound, worst.bound_of(trial.space, trial.thread)[0]
+    # timers that are threads of other cores are no sources, and have no bound
+    has_bound = 'source' in trial.space.tables or not number % 2
+    told = worst.bound_of(trial.space, trial.thread)[0] if has_bound else trial.bound
+    return found, blind, trial.bound, told
 
 
 def try_small(checker: str, seed: str, number: int) -> tuple[int, Optional[int], str]:
@@ -152,7 +158,7 @@ def system_with_servers(rng: random.Random) -> dict[str, Any]:
     return tables
 
 
-def try_servers(checker: str, seed: str, number: int) -> tuple[Found, Found]:
+def try_servers(runs: int, checker: str, seed: str, number: int) -> tuple[Found, Found]:
     """What the search finds, and a plain random search of ten times as many runs."""
     rng = random.Random(f'{seed} servers {number}')
     tables = system_with_servers(rng)
@@ -161,8 +167,8 @@ def try_servers(checker: str, seed: str, number: int) -> tuple[Found, Found]:
         texts.append('source.t0.at=jitter 9')
     space = Space(tables, [ranges.choice_of(text, tables, 1000) for text in texts])
     trial = Trial(space, 't0', 1000)
-    found = searched(checker, trial, Climb(space.sizes, space.corners(), FEW, number).run())
-    drawn = (tuple(rng.randrange(size) for size in space.sizes) for _ in range(MANY))
+    found = searched(checker, trial, worst.climb(space, runs, number).run())
+    drawn = (tuple(rng.randrange(size) for size in space.sizes) for _ in range(TIMES * runs))
     return found, searched(checker, trial, climbing.exhaust(drawn))
 
 
@@ -193,9 +199,9 @@ def look_at_small(checker: str, seed: str, many: int, count: Count) -> None:
     print(f'small sets: {many}')
 
 
-def look_at_servers(checker: str, seed: str, many: int, count: Count) -> None:
+def look_at_servers(checker: str, seed: str, many: int, runs: int, count: Count) -> None:
     more = same = 0
-    for number, (found, other) in enumerate(on_all(try_servers, checker, seed, many)):
+    for number, (found, other) in enumerate(on_all(functools.partial(try_servers, runs), checker, seed, many)):
         more += found.value > other.value
         same += found.value == other.value
         count.expect(f'servers {number} of seed {seed}: {found.value} in {found.runs} runs, {other.value} by {other.runs} random ones', found.value >= other.value)
@@ -206,6 +212,7 @@ def main() -> None:
     parser = common.asking_random(__doc__, 40, 'sets')
     parser.add_argument('--small', type=int, help='how many small sets (default: a tenth of --sets)')
     parser.add_argument('--servers', type=int, help='how many systems with servers (default: a tenth of --sets)')
+    parser.add_argument('--runs', type=int, default=FEW, help='runs of a search in them (default: %(default)s)')
     words = parser.parse_args()
     program = common.built_program(words.program)
     checker = common.checker_of(program)
@@ -216,7 +223,7 @@ def main() -> None:
     tenth = max(1, words.sets // 10)
     look_at_tasks(str(checker), str(words.seed), words.sets, count)
     look_at_small(str(checker), str(words.seed), tenth if words.small is None else words.small, count)
-    look_at_servers(str(checker), str(words.seed), tenth if words.servers is None else words.servers, count)
+    look_at_servers(str(checker), str(words.seed), tenth if words.servers is None else words.servers, words.runs, count)
     count.end()
 
 

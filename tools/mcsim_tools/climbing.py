@@ -1,13 +1,14 @@
 """A search for the point with the maximum value, where nothing is known of the values.
 
-It tries starting points first, then random ones. After that each step takes one of the best points
-so far and changes one coordinate, at times a few, or mixes two of them. Points come in batches of
-one size, so that the same seed gives the same points however many are tried at once. No point is
+It tries starting points first, then random ones, of which some have given coordinates. After that
+each step takes one of the best points so far and changes one coordinate, at times a few, or mixes
+two of them. At the end most steps go through the points around the best one. Points come in batches
+of one size, so that the same seed gives the same points however many are tried at once. No point is
 tried twice."""
 from __future__ import annotations
 
 import random
-from collections.abc import Callable, Generator, Iterable, Iterator, Sequence
+from collections.abc import Callable, Generator, Iterable, Iterator, Mapping, Sequence
 from itertools import islice
 from typing import Optional
 
@@ -21,8 +22,10 @@ Evaluate = Callable[[list[Point]], list[Value]]
 BATCH = 8
 # batches in a row without a new point, after which all points are taken to be known
 STALE = 200
-# parts of all tries that are starting points at most, and random points
-STARTS, DRAWN = 5, 10
+# parts of all tries that are starting points at most, random points, and at the end of the search
+STARTS, DRAWN, LAST = 8, 10, 3
+# points of a batch that are around the best one at the end
+AROUND = 6
 # the number of best points from which steps are made
 ELITE = 12
 # shares of steps that mix two points, and that change one coordinate; the others change 2 to FEW
@@ -45,8 +48,10 @@ def batches(points: Iterable[Point], size: int = BATCH) -> Iterator[list[Point]]
 class Climb:
     """A search under way: the values of the points that were tried, and the best of them."""
 
-    def __init__(self, sizes: Sequence[int], starts: Sequence[Point], tries: int, seed: int) -> None:
+    def __init__(self, sizes: Sequence[int], starts: Sequence[Point], tries: int, seed: int, likely: Mapping[int, int] = {}) -> None:
         self.sizes, self.starts, self.tries = list(sizes), list(starts), tries
+        # values of coordinates that half of the random points have
+        self.likely = likely
         self.random = random.Random(seed)
         self.known: dict[Point, Value] = {}
         # the best points, the best first; of two alike the one that was tried first
@@ -88,11 +93,28 @@ class Climb:
         stale = 0
         while self.left > 0 and stale < STALE:
             before = len(self.known)
-            yield from self.of([self.step() for _ in range(BATCH)])
+            around = self.around() if self.left < self.tries // LAST else []
+            yield from self.of([*around, *(self.step() for _ in range(BATCH - len(around)))])
             stale = stale + 1 if len(self.known) == before else 0
 
     def drawn(self) -> Point:
-        return tuple(self.random.randrange(size) for size in self.sizes)
+        likely = self.likely if self.random.random() < HALF else {}
+        return tuple(likely.get(place, self.random.randrange(size)) for place, size in enumerate(self.sizes))
+
+    def around(self) -> list[Point]:
+        """A few points that are not known, each a change of one coordinate of the best by a power
+        of two, the smallest ones first."""
+        best, found = self.elite[0], list[Point]()
+        for power in range(max(self.sizes).bit_length()):
+            moves = [(place, sign * 2**power) for place in self.open for sign in (-1, 1)]
+            self.random.shuffle(moves)
+            for place, away in moves:
+                point = (*best[:place], best[place] + away, *best[place + 1:])
+                if 0 <= point[place] < self.sizes[place] and point not in self.known:
+                    found.append(point)
+            if len(found) >= AROUND:
+                break
+        return found[:AROUND]
 
     def step(self) -> Point:
         """Another point: one of the best with a coordinate changed, or a few, or mixed with
@@ -114,8 +136,8 @@ class Climb:
         if chance < HALF:
             return self.random.randrange(size)
         if chance < HALF + ENDS:
-            return self.random.choice((0, size - 1))
-        away = self.random.choice((-1, 1)) * 2 ** self.random.randrange(size.bit_length())
+            return (size - 1) * self.random.randrange(2)
+        away: int = self.random.choice((-1, 1)) * 2 ** self.random.randrange(size.bit_length())
         return max(0, min(size - 1, own + away))
 
 

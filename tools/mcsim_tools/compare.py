@@ -32,7 +32,7 @@ from collections.abc import Sequence
 from dataclasses import dataclass
 from typing import Optional
 
-from . import comparing, frame, measured, options, output, source, system, tables
+from . import comparing, frame, measured, output, source, system, tables
 from .comparing import Compared, Fit, Fitting, Job, Parting, Side, Spell
 from .faults import Fault
 from .measured import Columns, Trace

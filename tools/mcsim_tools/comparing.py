@@ -137,7 +137,8 @@ class Fit(NamedTuple):
 def near(times: Sequence[float], wanted: float) -> Optional[float]:
     """The nearest of rising times."""
     place = bisect.bisect(times, wanted)
-    return min(times[max(0, place - 1):place + 1], key=lambda time: abs(time - wanted), default=None)
+    beside = times[max(0, place - 1):place + 1]
+    return min(beside, key=lambda time: abs(time - wanted)) if beside else None
 
 
 def units_of(ours: Mapping[str, Sequence[float]], theirs: Mapping[str, Sequence[float]]) -> list[float]:
@@ -174,8 +175,9 @@ class Fitting:
     def begun(self, units: Sequence[float], offset: Optional[float]) -> tuple[float, float]:
         """The unit and the offset under which the first runs agree best."""
         first = Fitting(self.ours, {name: times[:TRIED] for name, times in self.theirs.items()})
-        tried = [(unit, offset) for unit in units] if offset is not None else [
-            (unit, self.theirs[name][0] - unit * tick) for unit in units for name in self.names for tick in self.ours[name][:TRIED]
+        tried = [
+            (unit, self.theirs[name][0] - unit * tick if offset is None else offset)
+            for unit in units for name in self.names for tick in self.ours[name][:TRIED]
         ]
         return max(tried, key=lambda one: (first.score(*one), -abs(one[1])))
 
@@ -185,7 +187,7 @@ class Fitting:
 
     def fit(self, unit: Optional[float], offset: Optional[float], tolerance: Optional[float]) -> Fit:
         is_unit, is_offset = unit is not None, offset is not None
-        unit, offset = self.begun([unit] if unit is not None else units_of(self.ours, self.theirs), offset)
+        unit, offset = self.begun(units_of(self.ours, self.theirs) if unit is None else [unit], offset)
         for _ in range(REFINED):
             pairs = self.pairs(unit, offset, LEAST_TOLERANCE)
             if len(pairs) < 2:

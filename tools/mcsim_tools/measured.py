@@ -117,11 +117,15 @@ class Reader:
         said = self.cell(cells, columns.event) if columns.event in self.places else RUN
         kind = self.words.events.get(said)
         if kind is None:
-            return self.pass_over(f'event {said}')
+            self.pass_over(f'event {said}')
+            return None
         name = self.cell(cells, columns.thread)
         name = self.words.names.get(name, name)
         if kind == INTERRUPT:
-            return Row(self.cells.line_num, time, 0, kind, name) if name in self.system.sources else self.pass_over(f'source {name}')
+            if name in self.system.sources:
+                return Row(self.cells.line_num, time, 0, kind, name)
+            self.pass_over(f'source {name}')
+            return None
         core = self.core(self.cell(cells, columns.core), self.system.threads[name].core if name in self.system.threads else None)
         if name in self.system.threads and core is not None:
             return Row(self.cells.line_num, time, core, kind, name)

@@ -343,6 +343,15 @@ class Space:
                 starts.append(tuple(itertools.chain.from_iterable(end if other is choice else own for other, own in self.parts(first))))
         return list(dict.fromkeys(starts))
 
+    def longest(self) -> dict[int, int]:
+        """The coordinates that are times of computation, each with its greatest value."""
+        found, begin = {}, 0
+        for choice in self.choices:
+            if choice.is_time:
+                found[begin] = choice.sizes[0] - 1
+            begin += len(choice.sizes)
+        return found
+
     def moments(self) -> list[int]:
         """When jobs may come together: once all that is left open has begun, at a date of each
         source whose start is given."""

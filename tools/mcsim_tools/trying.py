@@ -3,7 +3,6 @@ from __future__ import annotations
 
 import contextlib
 import json
-import pathlib
 import subprocess
 from collections.abc import Callable, Iterator, Sequence
 from dataclasses import dataclass

@@ -46,6 +46,11 @@ RUNS = 500
 MOST_RUNS = 10**6
 
 
+def climb(space: Space, runs: int, seed: int) -> Climb:
+    """The search through a space."""
+    return Climb(space.sizes, space.corners(), runs, seed, space.longest())
+
+
 class Reached(Exception):
     """The bound of the analysis was reached: no run can give more."""
 
@@ -76,7 +81,7 @@ class Search:
     def batches(self) -> climbing.Batches:
         if self.is_whole:
             return climbing.exhaust(self.space.all())
-        return Climb(self.space.sizes, self.space.corners(), self.runs, self.seed).run()
+        return climb(self.space, self.runs, self.seed).run()
 
     def seen(self, point: Point) -> Seen:
         return self.question.seen(self.space.tables_of(point))
