@@ -58,6 +58,8 @@ CHECKS = (
     Check('program', 'rules'),
     Check('program', 'readers'),
     Check('program', 'analyses'),
+    Check('program', 'worst'),
+    Check('program', 'compare'),
     Check('program', 'engines'),
     Check('program', 'refused_runs'),
     Check('proofs', 'early', tries_program=False),

@@ -98,7 +98,8 @@ def lines_of(found: Beside, trace: Trace) -> list[str]:
 
 
 def number(value: Optional[float]) -> str:
-    return '-' if value is None else f'{value:.1f}'.removesuffix('.0')
+    # what is rounded to 0 has no sign
+    return '-' if value is None else f'{round(value, 1) + 0.0:.1f}'.removesuffix('.0')
 
 
 def cells_of(one: Compared) -> list[str]:
@@ -202,7 +203,7 @@ def positive(text: str) -> float:
 def asked() -> argparse.Namespace:
     words = Options(__doc__)
     words.reads('system', metavar='SYSTEM', help='the file of the system')
-    words.reads('trace', metavar='TRACE.csv', help='the measured trace')
+    words.reads('trace', metavar='TRACE.csv', help='the measured trace, - for standard input')
     words.add_argument('--horizon', type=source.moment, default=source.HORIZON, metavar='N', help='the last time of the schedule (default: %(default)s)')
     for column in Columns._fields:
         words.add_argument(f'--{column}', default=column, metavar='COLUMN', help=f'the column of the {column} (default: {column})')

@@ -324,7 +324,13 @@ class Space:
         return edited
 
     def said(self, point: Point) -> list[str]:
-        return [choice.said(own) for choice, own in self.parts(point)]
+        """What is chosen, but for what is as in the file."""
+        return [choice.said(own) for choice, own in self.parts(point) if self.is_other(choice, own)] or ['the values of the file']
+
+    def is_other(self, choice: Choice, own: Point) -> bool:
+        edited = copy.deepcopy(self.tables)
+        choice.put(edited, own)
+        return edited != self.tables
 
     def text_of(self, point: Point, head: Sequence[str] = ()) -> str:
         return writing.system_text(self.tables_of(point), head)
@@ -378,5 +384,7 @@ class Space:
 
 def known_thread(name: str, tables: Tables) -> None:
     names = [row['name'] for row in tables.get('thread', [])]
+    if name not in names and name in [row['name'] for row in tables.get('chain', [])]:
+        raise Fault(f'--of {name}: a chain: mcscheck does not report latencies, so only threads are searched')
     if name not in names:
         raise Fault(f'--of {name}: there is no thread {name!r}: {named.known(name, names)}')

@@ -4,9 +4,9 @@ worst SYSTEM --of THREAD --phases [--times PERCENT] --horizon N
 
 Searches for the worst response time of a thread over what is left open in a system: offsets and
 phases, execution times, bursts and jitter of interrupts. It begins with the critical instant and
-with the corners of the ranges, then climbs from random points, one change a step. It tells the
-worst response that it found, the values that give it, and the command that shows why; -o writes
-the system with these values. What it tells is a response of a run, so the worst case is that or
+with the corners of the ranges, goes on with random points, and then changes one value or a few of
+the best ones. It tells the worst response that it found, the values that give it, and the command
+that shows why; -o writes the system with these values. What it tells is a response of a run, so the worst case is that or
 more. It is never a bound, but for --all: then no response of these systems up to N is longer.
 
 A PLACE is one of `tools/sweep`, such as thread.NAME.script.K, source.NAME.start or

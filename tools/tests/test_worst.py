@@ -220,8 +220,9 @@ class Ranges(unittest.TestCase):
     def test_the_critical_instant(self) -> None:
         # both at 45, the latest beginning: r at 45, and s at 35, a period before; the longest times first
         space = self.space('source.r.start=45..64', 'source.s.start=35..44', 'thread.A.script.2=3..5')
-        self.assertEqual(space.said(space.corners()[0]), ['source.r.start=45', 'source.s.start=35', 'thread.A.script.2=5'])
+        self.assertEqual(space.said(space.corners()[0]), ['source.r.start=45', 'source.s.start=35'])
         self.assertEqual(space.said(space.corners()[1]), ['source.r.start=45', 'source.s.start=35', 'thread.A.script.2=3'])
+        self.assertEqual(self.space('source.s.start=20..40').said((10,)), ['the values of the file'])
 
     def test_the_critical_instant_with_jitter(self) -> None:
         # the first date of r is late by 4, so its start is 4 before that of the others
