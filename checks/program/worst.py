@@ -6,7 +6,8 @@ half of them with a timer each: the response-time analysis has the exact worst c
 has to find it, in at least 95 % of the sets and in at most 500 runs each. Small sets of tasks with
 offsets left open, of which all combinations are tried: each has to show the worst case. Systems
 with passive servers, sporadic and bandwidth contexts, and jitter: the search has to find at least
-what a plain random search of ten times as many runs finds.
+what a plain random search of ten times as many runs finds in three of four, and nowhere less than
+nine tenths of it.
 
 How many sets a search finds that does not begin at the critical instant is told, and no failure.
 The bound that the tool itself tells has to be that of the analysis of the tasks."""
@@ -38,6 +39,8 @@ WANTED = 0.95
 FEW = 200
 # a plain random search makes so many times the runs
 TIMES = 10
+# the part of what that finds which the search finds at least, and in which part of the systems all
+LEAST, MOSTLY = 0.9, 0.75
 # combinations of a small set
 SMALL = 1500
 BLIND = 'found from random points alone'
@@ -204,12 +207,14 @@ def look_at_servers(checker: str, seed: str, many: int, runs: int, count: Count)
     for number, (found, other) in enumerate(on_all(functools.partial(try_servers, runs), checker, seed, many)):
         more += found.value > other.value
         same += found.value == other.value
-        count.expect(f'servers {number} of seed {seed}: {found.value} in {found.runs} runs, {other.value} by {other.runs} random ones', found.value >= other.value)
-    print(f'servers: {more} of {many} above ten times as many random runs, {same} the same')
+        what = f'servers {number} of seed {seed}: {found.value} in {found.runs} runs, {other.value} by {other.runs} random ones'
+        count.expect(what, found.value >= LEAST * other.value)
+    print(f'servers: {more} of {many} above {TIMES} times as many random runs, {same} the same')
+    count.expect(f'{more + same} of {many} is less than {MOSTLY:.0%}', more + same >= MOSTLY * many)
 
 
 def main() -> None:
-    parser = common.asking_random(__doc__, 40, 'sets')
+    parser = common.asking_random(__doc__, 30, 'sets')
     parser.add_argument('--small', type=int, help='how many small sets (default: a tenth of --sets)')
     parser.add_argument('--servers', type=int, help='how many systems with servers (default: a tenth of --sets)')
     parser.add_argument('--runs', type=int, default=FEW, help='runs of a search in them (default: %(default)s)')

@@ -165,8 +165,7 @@ class Answer:
         lines = [f'{self.thread}: worst response found {self.value_text()}{late} (as the file stands: {self.as_in_file()})']
         lines.append(f'with {" ".join(self.search.space.said(self.trials.point))}')
         lines.append(f'{self.tried()}{self.refused()}: {self.worth()}')
-        lines += [self.analysed(), self.shown()]
-        return lines
+        return [*lines, self.analysed(), *self.shown()]
 
     def as_in_file(self) -> str:
         base = self.search.base
@@ -195,16 +194,18 @@ class Answer:
             return f'response-time analysis: at most {bound}, which is less: please report this as a defect'
         return f'response-time analysis: at most {bound}, so {bound - value} more may exist'
 
-    def shown(self) -> str:
+    def shown(self) -> list[str]:
         """How to see why."""
         if self.job is None:
-            job, why = 'the job had not ended at the horizon', ''
+            job, why, span = 'the job had not ended at the horizon', '', ''
         else:
             number, activated, end = self.job
             job, why = f'job {number}, activated {activated}, ended {end}', f' --why {self.thread} {number}'
+            span = f' --from {activated} --to {end}'
         if self.path is None:
-            return f'{job}; -o FILE writes this system'
-        return f'{job}: mcscheck {self.path} --horizon {self.horizon}{why}'
+            return [f'{job}; -o FILE writes this system']
+        asked = f'{self.path} --horizon {self.horizon}'
+        return [f'{job}: mcscheck {asked}{why}', f'picture: tools/view {asked}{span} -o {self.path.with_suffix(".html")}']
 
 
 # ---- options

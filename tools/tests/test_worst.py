@@ -114,7 +114,10 @@ job 3, activated 50, ended 70; -o FILE writes this system
         told = self.ran('--vary', 'source.s.start=30..38', '-o', file)
         made = tomllib.loads(file.read_text())
         self.assertEqual(made, {**tables(), 'source': [tables()['source'][0], {**tables()['source'][1], 'start': 37}]})
-        self.assertEqual(told.stdout.splitlines()[-1], 'job 3, activated 50, ended 70: mcscheck worst.toml --horizon 100 --why B 3')
+        self.assertEqual(told.stdout.splitlines()[-2:], [
+            'job 3, activated 50, ended 70: mcscheck worst.toml --horizon 100 --why B 3',
+            'picture: tools/view worst.toml --horizon 100 --from 50 --to 70 -o worst.html',
+        ])
         self.assertFalse((self.folder / 'worst.toml.part').exists())
 
     def test_workers_change_nothing(self) -> None:
@@ -137,6 +140,10 @@ class Faults(Case):
 
     def test_a_thread_that_is_none(self) -> None:
         self.expect('--of D: there is no thread \'D\': there are A, B', '--of', 'D', '--phases')
+
+    def test_a_chain(self) -> None:
+        self.file.write_text(SYSTEM + 'chain = [{ name = "e", source = "s", thread = "B" }]\n')
+        self.expect('--of e: a chain: mcscheck does not report latencies, so only threads are searched', '--of', 'e', '--phases')
 
     def test_too_many_for_all(self) -> None:
         self.expect('--all: 100,000,000 combinations, of at most 1,000,000', '--vary', 'source.s.start=1..10000', '--vary', 'source.r.start=1..10000', '--all')
