@@ -1,22 +1,22 @@
 """compare SYSTEM TRACE.csv --horizon N [--unit U] [--offset T] [--take FILE]
 
-Lays a measured trace beside the schedule of a system. It tells the unit and the offset of the
-trace's times, for each thread its jobs, run times and responses in both, and the first time at
+Lays a measured trace beside the schedule of a system. It reports the unit and the offset of the
+trace's times; for each thread its jobs, run times and worst job in both; and the first time at
 which both part, with the runs before it.
 
 TRACE.csv has a line for each switch: a time, a core, and the thread that runs from then on. The
 first line names the columns: time, core, thread and event, or what --time, --core, --thread and
 --event say. Without a column of events each line is a switch; else events are run, stop, wake and
 interrupt, or what --events says. Threads have the names of SYSTEM, or those of --name. An empty
-name, idle or swapper is an idle core, and so is whoever else runs.
+name, idle, swapper and a thread that SYSTEM does not have are an idle core.
 
 Times are decimal numbers that never fall. --unit says how many of them a tick is, and --offset the
-time of tick 0; what is not given is fitted to the times at which threads begin to run. Two times
-are the same within --tolerance ticks (default: what the fit shows, and 1 at least).
+time of tick 0. The tool fits what you don't give to the times at which threads begin to run. Two
+times are the same within --tolerance ticks (default: by the spread of the fit, and 1 at least).
 
-A job begins with the thread's first tick, or with its wake if the trace has wakes, and ends when
-the thread stops by itself: the core is then idle, or a thread of lower priority runs. Run times of a
-thread differ if their means do by more than --percent, and by more than chance.
+A job begins with the wake of its thread if the trace has wakes, else with its first tick. It ends
+when the thread stops without a preemption: the core is then idle, or runs a lower priority. Run
+times of a thread differ if the median of the differences is above --percent and above chance.
 
 --take writes what the trace saw as a table of ranges for tools/worst: the execution times of each
 script with one `compute`, and the arrivals of interrupts as comments.
@@ -90,7 +90,8 @@ def beside(known: System, ours: Side, trace: Trace, given: tuple[Optional[float]
 def lines_of(found: Beside, trace: Trace) -> list[str]:
     fit = found.fit
     zero = trace.first + decimal.Decimal(fit.offset)
-    lines = [f'a tick is {fit.unit:.6g} units of the trace, and tick 0 is at {zero:.1f}; {fit.matched:.1%} of its runs begin within {comparing.LEAST_TOLERANCE:g} tick of the schedule\'s']
+    near = f'within {comparing.LEAST_TOLERANCE:g} tick of the schedule\'s'
+    lines = [f'a tick is {fit.unit:.6g} units of the trace, and tick 0 is at {zero:.1f}; {fit.matched:.1%} of its runs begin {near}']
     if fit.matched < POOR:
         lines.append('few runs agree, so this fit may be wrong: --unit and --offset give another one')
     lines += ['', *table_of(found), '']
@@ -183,18 +184,15 @@ def range_of(jobs: Sequence[Job], cost: int) -> str:
 # ---- options
 
 
-def decimal_number(text: str) -> float:
-    try:
-        found = float(text)
-    except ValueError:
-        found = math.nan
-    if not math.isfinite(found):
+def exact(text: str) -> decimal.Decimal:
+    found = measured.decimal_of(text)
+    if found is None:
         raise argparse.ArgumentTypeError(f'{text!r} is no decimal number')
     return found
 
 
 def positive(text: str) -> float:
-    found = decimal_number(text)
+    found = float(exact(text))
     if found <= 0:
         raise argparse.ArgumentTypeError(f'{text!r} is no decimal number above 0')
     return found
@@ -211,7 +209,7 @@ def asked() -> argparse.Namespace:
     words.add_argument('--name', action='append', default=[], metavar='TRACE=THREAD', help='the thread or source of SYSTEM that has another name in the trace')
     words.add_argument('--idle', action='append', default=[], metavar='NAME', help='a name of the trace for a core that runs nothing')
     words.add_argument('--unit', type=positive, metavar='U', help='how many units of the trace a tick is (default: fitted)')
-    words.add_argument('--offset', type=decimal_number, metavar='T', help='the time of tick 0 in the trace (default: fitted)')
+    words.add_argument('--offset', type=exact, metavar='T', help='the time of tick 0 in the trace (default: fitted)')
     words.add_argument('--tolerance', type=positive, metavar='TICKS', help='times as far apart are the same (default: fitted, and 1 at least)')
     words.add_argument('--percent', type=positive, default=PERCENT, metavar='P', help='run times whose means are as close are the same (default: %(default)s)')
     words.add_argument('--program', default=source.default_program(), metavar='PATH', help='the program to run (default: %(default)s)')
@@ -230,7 +228,7 @@ def main() -> int:
         raise Fault(f'{words.system}: no thread runs up to {words.horizon}')
     columns = Columns(*(getattr(words, column) for column in Columns._fields))
     trace = measured.Reader(words.trace, known, measured.words_of(columns, words.events, words.name, words.idle, known)).read()
-    offset = None if words.offset is None else words.offset - float(trace.first)
+    offset = None if words.offset is None else float(words.offset - trace.first)
     if not ours.begins().keys() & comparing.side_of(trace).begins().keys():
         raise Fault(f'{words.trace}: no thread runs for some time both in it and in the schedule')
     found = beside(known, ours, trace, (words.unit, offset, words.tolerance), words.percent / 100)

@@ -22,8 +22,8 @@ SPREAD = 1.4826
 OF_MEDIAN = 1.2533
 # how many spreads, and ticks at least, two times may lie apart that are the same
 SPREADS, LEAST_TOLERANCE = 6.0, 1.0
-# runs at the beginning of each thread by which a unit and an offset are tried
-TRIED = 20
+# runs at the beginning of a thread by which a unit and an offset are tried, and of how many threads
+TRIED, THREADS = 20, 6
 # over how many runs a unit is estimated, and rounds in which the fit is refined
 LAGS, REFINED = (1, 8), 4
 # standard errors above which run times differ, and jobs by which that is told at least
@@ -172,12 +172,14 @@ class Fitting:
                     found.append((tick, time))
         return found
 
-    def begun(self, units: Sequence[float], offset: Optional[float]) -> tuple[float, float]:
-        """The unit and the offset under which the first runs agree best."""
-        first = Fitting(self.ours, {name: times[:TRIED] for name, times in self.theirs.items()})
+    def begun(self, unit: Optional[float], offset: Optional[float]) -> tuple[float, float]:
+        """The unit and the offset under which the first runs of a few threads agree best."""
+        names = sorted(self.names, key=lambda name: -len(self.theirs[name]))[:THREADS]
+        first = Fitting({name: self.ours[name] for name in names}, {name: self.theirs[name][:TRIED] for name in names})
         tried = [
-            (unit, self.theirs[name][0] - unit * tick if offset is None else offset)
-            for unit in units for name in self.names for tick in self.ours[name][:TRIED]
+            (one, self.theirs[name][0] - one * tick if offset is None else offset)
+            for one in (units_of(first.ours, first.theirs) if unit is None else [unit])
+            for name in names for tick in self.ours[name][:TRIED]
         ]
         return max(tried, key=lambda one: (first.score(*one), -abs(one[1])))
 
@@ -187,7 +189,7 @@ class Fitting:
 
     def fit(self, unit: Optional[float], offset: Optional[float], tolerance: Optional[float]) -> Fit:
         is_unit, is_offset = unit is not None, offset is not None
-        unit, offset = self.begun(units_of(self.ours, self.theirs) if unit is None else [unit], offset)
+        unit, offset = self.begun(unit, offset)
         for _ in range(REFINED):
             pairs = self.pairs(unit, offset, LEAST_TOLERANCE)
             if len(pairs) < 2:

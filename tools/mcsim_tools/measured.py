@@ -63,6 +63,15 @@ class Trace:
     passed_over: dict[str, int]
 
 
+def decimal_of(text: str) -> Optional[decimal.Decimal]:
+    """The decimal number that a text is, if it is one that is not too great."""
+    try:
+        found = decimal.Decimal(text)
+    except decimal.InvalidOperation:
+        return None
+    return found if found.is_finite() and abs(found) <= FAR else None
+
+
 class Reader:
     """Reads a trace; faults name a line of it."""
 
@@ -141,11 +150,8 @@ class Reader:
 
     def time(self, text: str) -> float:
         """The time since the first row; rows may not go back."""
-        try:
-            found = decimal.Decimal(text)
-        except decimal.InvalidOperation:
-            found = decimal.Decimal('NaN')
-        if not found.is_finite() or abs(found) > FAR:
+        found = decimal_of(text)
+        if found is None:
             raise self.fault(f'the time {text!r} is no number')
         if self.first is None:
             self.first = found

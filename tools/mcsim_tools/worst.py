@@ -2,12 +2,12 @@
 worst SYSTEM --of THREAD --ranges FILE --horizon N [--all]
 worst SYSTEM --of THREAD --phases [--times PERCENT] --horizon N
 
-Searches for the worst response time of a thread over what is left open in a system: offsets and
-phases, execution times, bursts and jitter of interrupts. It begins with the critical instant and
-with the corners of the ranges, goes on with random points, and then changes one value or a few of
-the best ones. It tells the worst response that it found, the values that give it, and the command
-that shows why; -o writes the system with these values. What it tells is a response of a run, so the worst case is that or
-more. It is never a bound, but for --all: then no response of these systems up to N is longer.
+Searches for the worst response time of a thread over what you leave open in a system: offsets and
+phases, execution times, bursts and jitter of interrupts. The search begins with the critical
+instant and the ends of all ranges, then tries random points, and then changes one value or a few of
+the best points. It reports the worst response found, the values that give it, and the command that
+shows why; -o writes the system with these values. The response is that of a run: the worst case is
+this or more. Only --all covers every combination, and then no response up to N is longer.
 
 A PLACE is one of `tools/sweep`, such as thread.NAME.script.K, source.NAME.start or
 thread.NAME.start. A RANGE is A..B, A..B:STEP, or a list with commas. source.NAME.at takes
@@ -16,8 +16,8 @@ in the first W ticks of each period. FILE is TOML with a line PLACE = "RANGE" ea
 open the start of each source, and of each thread that waits for nothing first, over a period;
 --times each `compute`, from PERCENT of its number to all of it.
 
-The same options and the same --seed give the same answer, however many runs are made at once. A
-search with -o that was interrupted goes on where it was: what is done stands in FILE.part.
+Equal options give equal answers, and --jobs changes nothing. If a search with -o was interrupted,
+the same command continues it: FILE.part keeps the runs until all are done.
 
 The exit code is 5 if the worst response is above the deadline of the thread, or if no job of it
 was activated."""
@@ -219,11 +219,11 @@ def asked() -> argparse.Namespace:
     words.reads('--ranges', metavar='FILE', help='what is left open, as a table')
     words.add_argument('--phases', action='store_true', help='leaves open when each source and each thread begins')
     percent = options.number('no share of 1 to 100 percent', 1, 100)
-    words.add_argument('--times', type=percent, metavar='PERCENT', help='leaves open each time of computation, from this share of it on')
+    words.add_argument('--times', type=percent, metavar='PERCENT', help='leaves open each execution time, from this share of it on')
     words.add_argument('--horizon', type=source.moment, default=source.HORIZON, metavar='N', help='the last time of each run (default: %(default)s)')
     runs = options.number(f'no number of runs, of 1 to {MOST_RUNS}', 1, MOST_RUNS)
     words.add_argument('--runs', type=runs, default=RUNS, metavar='N', help='how many runs there are at most (default: %(default)s)')
-    words.add_argument('--all', action='store_true', help=f'tries all combinations, of which there are at most {MOST_RUNS}')
+    words.add_argument('--all', action='store_true', help=f'tries all combinations, at most {MOST_RUNS}')
     words.add_argument('--seed', type=options.number('no seed', 0, 2**63 - 1), default=1, metavar='S', help='the seed of the search (default: %(default)s)')
     jobs = options.number(f'no number of jobs, of 1 to {workers.MOST_JOBS}', 1, workers.MOST_JOBS)
     words.add_argument('--jobs', type=jobs, default=workers.processors(), metavar='N', help='how many runs at once (default: all processors, here %(default)s)')
@@ -251,9 +251,10 @@ def longest(space: Space) -> Point:
 
 def bound_of(space: Space, thread: str) -> tuple[Optional[int], str]:
     """The bound of the analysis for all points, or why there is none."""
-    other = next((choice.text for choice in space.choices if not choice.is_time and choice.aligned(0, {}) is None or not isinstance(choice, ranges.Numbers)), None)
-    if other:
-        return None, f'{other} is left open'
+    for choice in space.choices:
+        is_start = isinstance(choice, ranges.Numbers) and choice.period > 0
+        if not choice.is_time and not is_start:
+            return None, f'{choice.text} is left open'
     try:
         return bounding.bound(space.tables_of(longest(space)), thread), ''
     except NoBound as reason:
