@@ -1,14 +1,12 @@
 #!/usr/bin/env python3
-"""Tells whether tools/compare finds planted differences in traces with noise, and none where there
-is none.
+"""Checks that tools/compare finds planted differences in traces with noise, and no others.
 
-Each trace is made from the schedule of a random system of two cores with timers: each switch gets
-a random noise, a unit and an offset that the tool is not told. A third of the traces is of a
-system in which the computations of one thread are longer by 5 %, a third of one in which two
-threads of a core have swapped their priorities, and a third of one in which one interrupt is lost.
-For each of them a trace of the system as it is has to show no difference. Where a computation is
-longer, the tool has to name its thread; where an interrupt is lost or priorities are swapped, it
-has to tell where both part, and not before the first time at which both schedules do."""
+Each trace is made from the schedule of a random system of two cores with timers. Each switch gets
+a random noise, and the tool is not told the unit and the offset. In a third of the traces one
+thread computes for 5 % longer, in a third two threads of a core have swapped priorities, and in a
+third one interrupt is lost. A trace of the system itself has to show no difference. If a thread
+computes for longer, the tool has to name it and no other. If priorities are swapped or an interrupt
+is lost, it has to report where both part, and not before both schedules do."""
 from __future__ import annotations
 
 import collections

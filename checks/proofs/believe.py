@@ -1,5 +1,5 @@
 #!/usr/bin/env python3
-"""Tells whether docs/BELIEVE.md has the definitions on which the headline rests, all of them and no others; with --write, writes them there.
+"""Checks that docs/BELIEVE.md has all definitions that the headline rests on, and no others; with --write, writes them.
 
 The page begins with the contracts of a few calls (ROOTS). From the names that their clauses cite it goes on to the definitions of specs/ that stand
 behind these names, to the types and traits of src/ that they speak of, and so on to the last. They are written in an order in which each stands behind

@@ -1,4 +1,4 @@
--- What was found of all rows of a run.
+-- The findings of all rows of a run.
 use Rattle.std.proofs.Common.{◌≡◌, ◌∙◌, [], Bool, false, ℕ, List, Option, IfErr, IfOk, sym, subst}
 use Rattle.std.specs.Prelude.{Result, Ok, Err, IfSome}
 use Rattle.mcs_ticks.specs.declared.row.Row.{Row}

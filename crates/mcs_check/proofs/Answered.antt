@@ -1,4 +1,4 @@
--- What is written of a round that is asked about, worked by hand.
+-- Explanations of rounds, worked by hand.
 use Rattle.std.specs.Prelude.{◌≡◌, ◌++◌, ℕ, List, [], ◌∷◌, Some, None, codes, refl}
 use Rattle.std.specs.Fmt.{digits}
 use Rattle.serde_json.proofs.OnLiterals.{serde_json_on_literals}

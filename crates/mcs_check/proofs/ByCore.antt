@@ -1,4 +1,4 @@
--- What each core finds in its own rows is together what is found in all rows.
+-- The findings of the cores in their rows are together the findings in all rows.
 use Rattle.std.proofs.Common.{◌≡◌, ◌∙◌, ℕ, zero, suc, ◌+◌, ◌-◌, ◌<◌, ◌≤◌, Bool, true, false, not, cond, nat_lt, nat_le, ◌==◌, List, [], ◌∷◌, ◌++◌, map, filter, flat_map, Option, Some, None, append-nil, ap, arith, nat_cmp, refl, subst, sym}
 use Rattle.std.specs.List.{range_with_len}
 use Rattle.std.specs.List.Sorted.{IsSortedByKey, IsStableByKey}
@@ -106,7 +106,7 @@ module _ (system : System) (allowed : List Bool) where
   abbrev all_news : List Row → List Row → List Found
   all_news past rows = told_in system allowed past rows
 
-  -- what is told is what is found, but for what is allowed
+  -- the reported findings are all findings but the allowed ones
   one-told : (m c : ℕ) (f : Option Finding) → found_at m c (told_of allowed f) ≡ told allowed (found_at m c f)
   one-told m c None = refl
   one-told m c (Some f) = grind arith
@@ -132,7 +132,7 @@ module _ (system : System) (allowed : List Bool) where
       one-later t r.moment r.core (told_of allowed (finding system past r.moment r.what)) (all_news (r ∷ past) rows) from.0
       (told-in-order t (r ∷ past) rows from.1 order.1) (told-in-order r.moment (r ∷ past) rows order.0 order.1)
 
-  -- of rows that answer a test alike, all or nothing is kept
+  -- a test that is the same for all rows keeps all findings or no finding
   module _ (test : ℕ → ℕ → Bool) where
     abbrev kept : List Found → List Found
     kept found = filter (λ (f : Found). test f.moment f.core) found
@@ -170,7 +170,7 @@ module _ (system : System) (allowed : List Bool) where
         ∙ ap (λ xs. xs ++ kept (all_news (past_of past rows) more)) (none-kept past rows h)
         ∙ all-kept (past_of past rows) more k
 
-  -- what a core tells of its rows is split at a moment
+  -- the findings of a core are split at a time
   module _ (c from to end : ℕ) (l : from ≤ to) (k : to ≤ end) where
     abbrev earlier : List Row
     earlier = rows_between system c from to
@@ -205,7 +205,7 @@ module _ (system : System) (allowed : List Bool) where
   none-by_cores zero a = refl
   none-by_cores (suc n) a = none-by_cores n (a + 1)
 
-  -- what is told of a moment is told core by core
+  -- the findings of one time come core by core
   turns-apart : (t n a : ℕ) (past : List Row) → by_cores a n (all_news past (turns system t a n)) ≡ all_news past (turns system t a n)
   turns-apart t zero a past = refl
   turns-apart t (suc n) a past =
@@ -282,7 +282,7 @@ module _ (system : System) (well : IsWellFormed system) where
 module _ (system : System) (well : IsWellFormed system) (come-home : (t : ℕ) → ComeHome system [] (clock system t).rows)
     (on-core : (c t : ℕ) → c < system.cores → rows_on c (clock system t).rows ≡ rows_between system c 0 t) (watched : CoresAreWatched) where
   module _ (allowed : List Bool) where
-    -- what a core tells is what is told of its rows among all
+    -- the findings of a core are those of its rows among all
     told-whole : (c t : ℕ) → c < system.cores → told_on system allowed c 0 t ≡ found_on c (told_in system allowed [] (clock system t).rows)
     told-whole c t known =
         ap (told_in system allowed []) (sym (on-core c t known))
@@ -310,7 +310,7 @@ module _ (system : System) (well : IsWellFormed system) (come-home : (t : ℕ) �
           (λ c _ k. filter-comm (λ (f : Found). f.moment == t) (λ (f : Found). f.core == c) all)
           ∙ moments-apart system allowed t (to - from) from (before_of system from)
 
-      -- a stable sort by moment of what all cores tell is what is told of all rows
+      -- the findings of all cores, sorted stably by time, are those of all rows
       pub told-sorted : (sorted : List Found) → IsSortedByKey (λ (f : Found). f.moment) nat_cmp sorted → IsStableByKey (λ (f : Found). f.moment) nat_cmp (told_on_all system allowed from to) sorted → sorted ≡ all
       told-sorted sorted up stable =
           stably-sorted (told_on_all system allowed from to) sorted all from up stable

@@ -117,7 +117,7 @@ unended-next system past horizon n part core finding before now whole l is home 
 abbrev pub IsUnused : System → CoreWatch → Type 0
 IsUnused system own = (own.watch ≡ watch_of system []) × (own.counts ≡ no_counts) × (own.found.items ≡ []) × (own.rows ≡ 0)
 
--- and for so many cores
+-- the same for n cores
 pub record AreUnused (system : System) (many : ℕ) (watches : List CoreWatch) : Type 0 where
   pub many_are : length watches ≡ many
   pub each : (c : ℕ) (x : CoreWatch) → c < many → IsUnused system (slice_index_or watches c x)
@@ -169,7 +169,7 @@ module _ (system : System) (allowed : List Bool) where
             (subst (λ n. HoldsOwn system allowed from (Some (slice_index_or watches c w)) (rows_between system c n (slice_index clocks c))) (sym (zero_at 64 c)) (its.many, λ order. its.seen));
       }
 
-  -- what is told of a core's own rows before a moment is let go of
+  -- the findings of a core before a time are dropped
   pub watched-since : (from to c end : ℕ) (own next : CoreWatch) → from ≤ to → IsWatched system allowed from c end own → next.watch ≡ own.watch → next.counts ≡ own.counts → next.rows ≡ own.rows
       → next.found.items ≡ since to own.found.items → IsWatched system allowed to c end next
   watched-since from to c end own next l is watch counts rows found =
@@ -261,7 +261,7 @@ module _ (system : System) (allowed : List Bool) where
             let from : clock_of told c ≡ clock_of before.desk c = ap (λ (t : Table). clock_of t c) told_is in omega arith;
       }
 
-  -- where all turns were taken all is told
+  -- when all turns were taken, all findings are passed on
   pub all-reached : (from : ℕ) (went : Table) (taken : Cores) → went.system ≡ system → IsFinished went → HasTaken system allowed from went taken → taken.reached ≡ went.horizon + 1
   all-reached from went taken system_is finished has =
       let cores : went.system.cores ≡ system.cores = ap (λ (s : System). s.cores) system_is in
@@ -269,7 +269,7 @@ module _ (system : System) (allowed : List Bool) where
       let most = has.in_time in omega arith
 
   module _ (well : IsWellFormed system) where
-    -- what is taken out of a core, and what is told of it
+    -- the state that is taken out of a core, and its findings
     pub taken-out : (from at core end : ℕ) (own last : CoreWatch) → from ≤ at → at ≤ end → HoldsOwn system allowed from (Some own) (rows_between system core 0 end)
         → last.watch ≡ own.watch → last.counts ≡ own.counts → last.rows ≡ own.rows → last.found.items ≡ since at own.found.items
         → IsWatched system allowed at core end last × (until at own.found.items ≡ told_on system allowed core from at)
@@ -320,7 +320,7 @@ module _ (system : System) (allowed : List Bool) where
           ];
         }
 
-  -- turns that are left, and one more where not all is told
+  -- turns that are left, and one more unless all findings are passed on
   abbrev pub rounds_left : ℕ → Cores → ℕ
   rounds_left horizon cores = turns_left cores.desk + cond (nat_le cores.reached horizon) 1 0
 
@@ -365,7 +365,7 @@ module _ (system : System) (allowed : List Bool) where
       ∙ ap (λ n. fold (λ counts c. together counts (counts_on system allowed c t)) no_counts (range_with_len 0 n)) are.many_are
       ∙ counts-together system well (come-home system well) (on-core system well) watched allowed t
 
-  -- where all turns were taken, all clocks are at the end
+  -- when all turns were taken, all clocks are at the end
   pub ended : (horizon : ℕ) (cores : Cores) → IsReady system allowed horizon cores → horizon < cores.reached
       → AreWatched system allowed cores.reached (replicate system.cores (horizon + 1)) cores.watches.items
   ended horizon cores ready over =

@@ -1,4 +1,4 @@
--- What cores count of their own rows is together what is counted of all rows.
+-- The counts of the cores over their rows are together the counts over all rows.
 use Rattle.std.proofs.Common.{◌≡◌, ◌∙◌, ◌++◌, ◌∷◌, [], ℕ, zero, suc, ◌+◌, ◌-◌, ◌<◌, ◌≤◌, length, get_or, Bool, true, false, cond, if◌then◌else◌, nat_lt, ◌==◌, List, Option, Some, None, fold, append_assoc, ap, arith, refl, subst, sym}
 use Rattle.std.specs.List.{range_with_len}
 use Rattle.std.proofs.lemmas.Bool.{cond_both, eq-eqb}
@@ -96,7 +96,7 @@ unfolding total
 total-zero zero a = refl
 total-zero (suc n) a = rw (total-zero n (a + 1)) refl
 
--- those of one core, where it is none of them, and where it is one
+-- the count of one core, if it is not among them and if it is
 total-none : (d : ℕ) (v : Counts) (n a : ℕ) → d < a → total (λ c. cond (d == c) v no_counts) n a ≡ no_counts
 unfolding total
 total-none d v zero a l = refl
@@ -230,7 +230,7 @@ module _ (system : System) (allowed : List Bool) where
   tally-is rows = counts-so-far system allowed [] rows ∙ counts-in [] rows no_counts ∙ ap capped_all (none-plus (tally [] rows))
 
   module _ (watched : CoresAreWatched) where
-    -- of a row more, a core counts what all count, where it is its own, and else nothing
+    -- a core counts one more row as all rows do if the row is on it, and else counts 0
     tally-on : (c : ℕ) (done : List Row) (r : Row) (rows : List Row) → ComeHome system [] (done ++ r ∷ [])
         → tally (rows_on c (past_of [] done)) (rows_on c (r ∷ rows)) ≡ plus (cond (r.core == c) (one (past_of [] done) r) no_counts) (tally (rows_on c (r ∷ past_of [] done)) (rows_on c rows))
     unfolding tally

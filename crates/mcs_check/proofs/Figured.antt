@@ -35,7 +35,7 @@ system =
       chains = [];
     }
 
--- what it came to in 20 ticks, of which it ran 5, where this is told of its rounds
+-- the figures of 20 ticks in which the thread ran 5, with these figures of its rounds
 abbrev came_to : ℕ → Rounds → Option Margin → Option Signals → Figures
 came_to deadline rounds margin signals =
     record {
@@ -69,7 +69,7 @@ missed_row : thread_line format.Csv system 0 missed
 unfolding system digits
 missed_row = refl
 
--- three rounds of different responses, of which one is missed and none late, and signals
+-- three rounds of different responses, one missed and none late, and signals
 abbrev three_rounds : Rounds
 three_rounds =
     record { ended = 3; greatest = Some 9; fiftieth = Some 4; ninetieth = Some 8; ninety_ninth = Some 9; missed = 1; late = 0 }

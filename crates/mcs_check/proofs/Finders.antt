@@ -1,4 +1,4 @@
--- What a finder has told and counted after rows.
+-- The lines and counts of a finder after rows.
 use Rattle.std.proofs.Common.{◌≡◌, ◌∙◌, ◌++◌, ◌∷◌, [], ℕ, Bool, true, false, List, Option, refl, ap, sym, subst}
 use Rattle.mcs_ticks.specs.declared.row.Row.{Row}
 use Rattle.mcs_ticks.specs.Given.{Given, GivenUntil, GivenSome}
@@ -118,7 +118,7 @@ module _ {W P : Type 0} (contents : W → Option (List ℕ)) (failed : W → Boo
           told.3,
         )
 
-    -- the first line waits and nothing is counted at first
+    -- at first the first line waits, and all counts are 0
     module _ (last : Finder W P) (rows : List Row) (order : InOrder [] rows)
         (headed : first.seen.now.text.items ≡ head_text how asked) (watch_is : first.seen.now.watch ≡ watch_of system []) (none : first.seen.now.counts ≡ no_counts)
         (table_is : first.seen.now.table ≡ kept_table asked system horizon []) where

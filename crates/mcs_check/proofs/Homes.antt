@@ -32,7 +32,7 @@ all-append : (P : Row → Type 0) (rows more : List Row) → AllByRecursion P ro
 all-append P [] more here there = there
 all-append P (r ∷ rows) more here there = (here.0, all-append P rows more here.1 there)
 
--- a row of another thread, and one that tells of another notification
+-- a row of another thread, and one of another notification
 other-subject : (x : ℕ) (what : What) → IsOther x what → subject what ≡ Some x → ⊥
 other-subject x what other e = grind (arith, nat_tests)
 

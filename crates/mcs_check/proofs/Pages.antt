@@ -20,7 +20,7 @@ use Rattle.mcs_check.specs.stored.Found.{told_by, told_in}
 use Rattle.mcs_check.specs.stored.Pages.{founds_text, PutsLines, PutsSome}
 use Rattle.mcs_check.specs.stored.Rows.{failed_after, lines_in, shown_found, told_at, told_line}
 
--- the lines of what is told of rows
+-- the lines of the findings of rows
 module _ (how : Format) (system : System) (allowed : List Bool) where
   one-told : (moment core : ℕ) (f : Option Finding) → founds_text how system (found_at moment core f) ≡ told_line how system (shown_found moment core f)
   one-told moment core None = refl

@@ -1,4 +1,4 @@
--- What is told of a system, by what there is of the round that is asked about.
+-- The output for a system, by whether the round that is asked about exists.
 use Rattle.std.proofs.Common.{◌≡◌, ◌∙◌, ℕ, Bool, false, List, [], Option, Some, None, refl, ap, sym, subst}
 use Rattle.std.specs.Prelude.{Result, Ok, Err, option_map}
 use Rattle.std.specs.Io.KnownBytes.{Appends, Keeps}
@@ -40,7 +40,7 @@ module _ (options : Options) (question : List ℕ × List ℕ) (system : System)
       → why_text options.format system options.horizon question ≡ round_text options.format system span (schedule system options.horizon)
   text-is span there = ap (answer_text options.format system options.horizon) there
 
-  -- nothing is told where there is no memory, no such thread or no such round
+  -- no byte is written if memory ran out, or if there is no such thread or round
   pub memory-told : (a : Option (List ℕ)) (failed : Bool) (f : RunFault) → f ≡ run.Sim NoMemory → IsTold a a failed options question system (Err (Run f))
   memory-told a failed f is = subst (λ f. IsTold a a failed options question system (Err (Run f))) (sym is) (0, Appends-nil a)
 
@@ -77,7 +77,7 @@ module _ (options : Options) (question : List ℕ × List ℕ) (system : System)
         → IsTold a b failed options question system (Ok done)
     span-told done is = (ap (λ o. is_there o) there, subst (Appends a b) (sym (text-is span there)) is)
 
--- what is told of a system that was read
+-- the output for a system that was read
 module _ (a b : Option (List ℕ)) (failed : Bool) (options : Options) (question : List ℕ × List ℕ)
     (read_old read_new : Option (List ℕ)) (given_old given_new : ℕ) (read_failed : Bool) (system : System) (alone : is_mixed options ≡ false)
     (read : IsRead read_old read_new given_old given_new system) where

@@ -1,4 +1,4 @@
--- What holds of a result that is there, and of one that is not.
+-- Facts about a result that is Ok, and about one that is not.
 use Rattle.std.proofs.Common.{◌≡◌, ℕ, Bool, true, false, List, Option, OnOk, OnErr, is_ok, sym, subst}
 use Rattle.std.specs.Prelude.{Result, Ok, Err}
 use Rattle.mcs_cli.specs.Devices.{AppendsPrefix}

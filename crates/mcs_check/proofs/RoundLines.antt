@@ -1,4 +1,4 @@
--- The lines of rounds of the cores, of which each looks at its own rows.
+-- The lines of rounds of the cores; each core looks at its rows.
 use Rattle.std.proofs.Common.{◌≡◌, ◌∙◌, ◌++◌, ◌+◌, ◌≤◌, [], ℕ, suc, Bool, true, false, List, Option, ap, ap₂, arith, subst, sym}
 use Rattle.std.proofs.lemmas.List.Concat.{flat_map-append}
 use Rattle.mcs_ticks.specs.declared.row.Row.{Row}

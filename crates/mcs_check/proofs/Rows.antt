@@ -1,4 +1,5 @@
--- What a target has, what waits, and how much is counted, after rows were given to a sink that tells what each of them says after those before it.
+-- The target, the waiting text and the counts after rows were given to a sink that writes each
+-- row's line.
 use Rattle.std.proofs.Common.{◌≡◌, ◌∙◌, ◌++◌, ◌∷◌, [], ℕ, Bool, true, false, List, Option, refl, ap, sym, subst, append_assoc, append-nil, inl, inr}
 use Rattle.mcs_ticks.specs.declared.row.Row.{Row}
 use Rattle.mcs_ticks.specs.Given.{Given, GivenUntil, GivenSome}

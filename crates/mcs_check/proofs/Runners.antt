@@ -11,7 +11,7 @@ module _ (how : Format) (system : System) (core : ℕ) (past : List Row) (from t
   abbrev behind : ℕ → List ThreadPart → List ℕ
   behind n parts = ran_lines how system core past from to n parts
 
-  -- behind the last one
+  -- after the last one
   pub no-more : (parts : List ThreadPart) (text : List ℕ) → parts ≡ [] → text ++ ran_lines how system core past from to n parts ≡ whole → text ≡ whole
   no-more parts text none is = sym (append-nil text) ∙ ap (λ parts. text ++ behind n parts) (sym none) ∙ is
 

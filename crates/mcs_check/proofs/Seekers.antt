@@ -1,4 +1,4 @@
--- What is kept to find a round, after rows were given to a seeker.
+-- The state that is kept to find a round, after rows were given to a seeker.
 use Rattle.std.proofs.Common.{◌≡◌, ◌∷◌, [], ℕ, Bool, List, subst}
 use Rattle.mcs_ticks.specs.declared.row.Row.{Row}
 use Rattle.mcs_ticks.specs.Given.{Given}

@@ -22,7 +22,7 @@ module _ (how : Format) (system : System) (core from to : ℕ) (r : Row) where
   line-without : is_within core from to r ≡ false → line_at how system core from to r ≡ []
   line-without e = rw e refl
 
-  -- nothing is told of a row that is not in the span
+  -- a row outside the span has no line
   pub nothing-told : (a : Option (List ℕ)) (text : List ℕ) → is_within core from to r ≡ false → TakesLine a a text text (line_at how system core from to r) true
   nothing-told a text e =
       subst (λ l. AppendsBefore a a l text) (sym (ap (λ l. text ++ l) (line-without e) ∙ append-nil text)) (before-none a text)

@@ -1,4 +1,4 @@
--- What was counted row by row is how much is found of each kind.
+-- The counts, row by row, are the numbers of findings of each kind.
 use Rattle.std.proofs.Common.{◌≡◌, ◌∙◌, ◌++◌, ◌∷◌, [], ℕ, ◌+◌, ◌-◌, ◌^◌, ◌≤◌, Bool, true, false, List, Option, Some, None, refl, ap, sym, arith, if◌then◌else◌, min}
 use Rattle.std.specs.List.{count_by}
 use Rattle.std.specs.Prelude.{cond, not}

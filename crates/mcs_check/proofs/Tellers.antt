@@ -1,4 +1,4 @@
--- What a teller has told and counted after rows.
+-- The lines and counts of a teller after rows.
 use Rattle.std.proofs.Common.{◌≡◌, ◌∙◌, ◌++◌, ◌∷◌, [], ℕ, Bool, true, false, cond, List, Option, filter, flat_map, refl, ap, subst}
 use Rattle.mcs_ticks.specs.declared.row.Row.{Row}
 use Rattle.mcs_ticks.specs.Given.{Given, GivenUntil, GivenSome}

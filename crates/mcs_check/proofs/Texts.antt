@@ -76,7 +76,7 @@ module _ (names : List (List ℕ)) (system : System) (horizon : ℕ) where
       ∙ ap (λ c. counts_with flags ends 0 0 c) (sums-rows system flags [] rows no_counts none-within))
       ∙ sym (sums-all flags (found_in system [] rows) ends (merged_in system [] rows) (length (hints_of system)) no_counts)
 
-  -- what stands behind the lines of rows, with the flags, the system and the counts that the code has
+  -- the text after the lines of rows, with the flags, the system and the counts that the code has
   pub behind : (how : Format) (asked : Show) (text before : List ℕ) (allowed : List Bool) (own : System) (counts : Counts)
       → allowed ≡ flags → own ≡ system → counts ≡ counts_of names system horizon
       → text ≡ before ++ rest_lines how asked own allowed (found_at_end own (past_of [] (schedule system horizon)) horizon 0 own.threads)

@@ -12,7 +12,7 @@ module _ (how : Format) (system : System) (horizon : ℕ) (past : List Row) (n :
   abbrev behind : ℕ → List ThreadPart → List ℕ
   behind n parts = thread_lines how system horizon past n parts
 
-  -- behind the last one
+  -- after the last one
   pub no-more : (parts : List ThreadPart) (text : List ℕ) → parts ≡ [] → text ++ thread_lines how system horizon past n parts ≡ whole → text ≡ whole
   no-more parts text none is = sym (append-nil text) ∙ ap (λ parts. text ++ behind n parts) (sym none) ∙ is
 

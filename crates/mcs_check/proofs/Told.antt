@@ -71,7 +71,7 @@ module _ (how : Format) (system : System) (allowed : List Bool) where
       ∙ sym (flat_map-append (job_line how system) own rest)
 
 module _ (how : Format) (system : System) (horizon : ℕ) (past : List Row) where
-  -- where something is kept for figures, they are shown ..
+  -- if a table is kept, the figures are shown ..
   pub tabled-some : (asked : Show) (table : Table) → Some table ≡ kept_table asked system horizon past
       → (table ≡ table_of system horizon past) × (table_lines how system horizon past ≡ tabled_lines how asked system horizon past)
   tabled-some show.Findings table is = cc

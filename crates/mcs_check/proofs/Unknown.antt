@@ -1,4 +1,4 @@
--- A name that no notification has is refused, and nothing is written.
+-- A name that no notification has is refused, and no byte is written.
 use Rattle.std.proofs.Common.{◌≡◌, ℕ, Bool, List, Option, Some, None, IfSome, IsSome, refl}
 use Rattle.std.specs.Io.KnownBytes.{Keeps}
 use Rattle.std.proofs.KnownBytes.{Appends-nil}

@@ -1,4 +1,4 @@
--- What is written of what is found, worked by hand.
+-- The output of checks, worked by hand.
 use Rattle.std.specs.Prelude.{◌≡◌, ◌++◌, ℕ, Bool, true, false, List, [], ◌∷◌, Some, None, codes, map, replicate, refl}
 use Rattle.std.specs.Fmt.{digits}
 use Rattle.serde_json.proofs.OnLiterals.{serde_json_on_literals}
@@ -30,7 +30,7 @@ abbrev thread : ℕ → ThreadPart
 thread deadline =
     record { name = codes "A"; context = 0; priority = 5; start = 0; rounds = 1; deadline = deadline; script = Compute 5 ∷ [] }
 
--- a thread that computes for 5 ticks, of which it gets 2 in 5; nobody uses the notifications
+-- a thread that computes for 5 ticks and gets 2 in 5; nobody uses the notifications
 system : ℕ → System
 system deadline =
     record {
@@ -76,7 +76,7 @@ not_ended : check_text [] (system 10) 10 format.Text show.Findings
 unfolding system digits
 not_ended = refl
 
--- as a job the round is told whether it is in time or not, and is counted as before
+-- as a job the round is shown whether it is in time or not, and is counted as before
 as_a_job : check_text [] (system 10) 20 format.Text show.Jobs
     ≡ codes "11 0 job A 1 activated 0 begun 0 response 11 queued 0 preemptions 0 ready 0 running 5 throttled 6 blocked 0 woken 0\n"
     ++ codes "missed 1 overdue 0 lost 0 never 0 merged 0 allowed 0 hints 0\n"
@@ -179,7 +179,8 @@ overcommitted_line : hint_text (system 0) (Overcommitted 2 1000001) ≡ codes "h
 unfolding system digits
 overcommitted_line = refl
 
--- Of two lost signals that of `tick` is allowed: it has no line, and is counted apart.
+-- There are two lost signals. The one of `tick` is allowed: it has no line, and is counted
+-- separately.
 abbrev two_lost : List Found
 two_lost = found 5 0 (Lost 0 1) ∷ found 6 0 (Lost 1 1) ∷ []
 
@@ -203,7 +204,7 @@ hints_may_count = refl
 hints_are_none : is_clean false (record no_counts { hints = 1 }) ≡ true
 hints_are_none = refl
 
--- The first name that no notification has; among none, none is the nearest.
+-- The first name that no notification has. If there is no notification, there is no nearest name.
 known : first_unknown (note (codes "tick") ∷ note (codes "tock") ∷ []) (codes "tock" ∷ codes "tick" ∷ []) ≡ None
 known = refl
 

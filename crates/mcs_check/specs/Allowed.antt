@@ -1,4 +1,4 @@
--- The notifications at which lost signals are allowed, by name, and what is said of a name that none has.
+-- The notifications at which lost signals are allowed, by name, and the fault of an unknown name.
 use Rattle.std.specs.Prelude.{ℕ, ◌≡◌, ◌-◌, Bool, not, nat_lt, nat_le, nat_eq, if◌then◌else◌, List, [], ◌∷◌, length, map, take, find, Option, Some, None, option_map, string_bytes, ⊤}
 use Rattle.std.specs.List.{list_any}
 use Rattle.std.specs.Str.{bytes_eq, chars}
@@ -13,11 +13,11 @@ use Rattle.mcs_check.specs.declared.fault.CheckFault.TheVariants.{Run, Unknown}
 abbrev pub is_named : List (List ℕ) → List ℕ → Bool
 is_named names name = list_any (λ other. bytes_eq other name) names
 
--- of each notification whether its name is among these
+-- for each notification, whether its name is among these
 abbrev pub flags_of : List (List ℕ) → List NotePart → List Bool
 flags_of names notes = map (λ part. is_named names part.name) notes
 
--- the notifications of a system: its notes without the servers, which are the last ones
+-- the notifications of a system: its notes without the servers, which come last
 abbrev pub notifications : System → List NotePart
 notifications system = take (length system.notes - system.servers) system.notes
 
@@ -29,29 +29,30 @@ is_known notes name = list_any (λ part. bytes_eq part.name name) notes
 abbrev pub first_unknown : List NotePart → List (List ℕ) → Option (List ℕ)
 first_unknown notes names = find (λ name. not (is_known notes name)) names
 
--- in how many characters two names differ: the least count of insertions, deletions and changes
+-- the edit distance of two names: the minimum count of insertions, deletions and changes of
+-- characters
 abbrev pub distance : List ℕ → List ℕ → ℕ
 distance name other = levenshtein_row nat_eq (chars name) (chars other) (length (chars other))
 
--- the nearer one of two names, the first where both are as near
+-- the nearer of two names, the first if both are as near
 abbrev pub nearer : List ℕ → Option (List ℕ) → List ℕ → List ℕ
 nearer name None other = other
 nearer name (Some near) other = if nat_lt (distance name other) (distance name near) then other else near
 
--- the nearest one of a name and of those of these notifications
+-- the nearest of a name and the names of these notifications
 abbrev pub nearest_from : List ℕ → Option (List ℕ) → List NotePart → Option (List ℕ)
 nearest_from name near [] = near
 nearest_from name near (part ∷ parts) = nearest_from name (Some (nearer name near part.name)) parts
 
--- a text that may be a name with slips in it: a name has at most 32 bytes, and no name is near to a text of more than twice as many
+-- a text that may be a misspelt name: names have at most 32 bytes, so it has at most 64
 abbrev pub is_short : List ℕ → Bool
 is_short text = nat_le (length text) 64
 
--- the nearest one of these notifications' names, if there is one, and the name that was given is short
+-- the nearest name of these notifications, if there is one and the given name is short
 abbrev pub nearest_of : List NotePart → List ℕ → Option (List ℕ)
 nearest_of notes name = if is_short name then nearest_from name None notes else None
 
--- the fault of a name that no notification has, or that there was no memory for its text
+-- the fault of a name that no notification has, or that memory ran out
 abbrev pub IsUnknownFault : List NotePart → List ℕ → CheckFault → Type 0
 IsUnknownFault notes name (Unknown given nearest) =
     (string_bytes given ≡ name) × (option_map string_bytes nearest ≡ nearest_of notes name)

@@ -1,4 +1,4 @@
--- What a check reads and writes.
+-- The bytes that a check reads and writes.
 use Rattle.std.specs.Prelude.{Result, Ok, Err, Option, Some, None, ◌≡◌, ◌≢◌, ◌⊎◌, List, [], ℕ, Bool, true, false, ◌++◌, length, map, flat_map, string_bytes}
 use Rattle.std.specs.Io.KnownBytes.{Appends, Keeps}
 use Rattle.mcs_system.specs.System.{System}
@@ -24,47 +24,49 @@ use Rattle.mcs_check.specs.Formats.{counts_line, head_text, hint_line, is_mixed}
 use Rattle.mcs_check.specs.Figures.{table_lines}
 use Rattle.mcs_check.specs.Told.{counts_with, found_lines, job_lines, merged_in}
 
--- what is found in the schedule of the one clock over all cores
+-- the findings in the schedule of the one clock over all cores
 abbrev pub found_of : System → ℕ → List Found
 found_of system horizon = findings system horizon (schedule system horizon)
 
 module _ (names : List (List ℕ)) (system : System) (horizon : ℕ) where
-  -- how much is found, where these notifications may lose signals
+  -- the counts, if these notifications may lose signals
   abbrev pub counts_of : Counts
   counts_of =
       counts_with (flags_of names system.notes) (found_of system horizon)
       (merged_in system [] (schedule system horizon)) (length (hints_of system)) no_counts
 
-  -- the lines of what is found and of hints
+  -- the lines of findings and hints
   abbrev pub findings_lines : Format → List ℕ
   findings_lines how =
       found_lines how system (flags_of names system.notes) (found_of system horizon) ++ flat_map (hint_line how system) (hints_of system)
 
-  -- those of the figures
+  -- the lines of the figures
   abbrev pub figures_lines : Format → List ℕ
   figures_lines how = table_lines how system horizon (past_of [] (schedule system horizon))
 
-  -- what is asked for: these, or those of the rounds that ended
+  -- the lines that are asked for: those above, or those of the jobs
   abbrev pub shown_lines : Format → Show → List ℕ
   shown_lines how show.Findings = findings_lines how
   shown_lines how show.Jobs = job_lines how system (jobs_in system [] (schedule system horizon))
   shown_lines how show.Table = figures_lines how
   shown_lines how show.Both = findings_lines how ++ figures_lines how
 
-  -- the first line, where there is one, these, and that of counts
+  -- the first line if there is one, the lines that are asked for, and the line of the counts
   abbrev pub check_text : Format → Show → List ℕ
   check_text how asked = head_text how asked ++ shown_lines how asked ++ counts_line how counts_of
 
--- the notifications at which lost signals are allowed, by the names that were asked for
+-- the notifications at which lost signals are allowed, by name
 abbrev pub names_of : Options → List (List ℕ)
 names_of options = map (λ name. string_bytes name) options.allowed.items
 
--- the bytes that a source knows before and after the check, and how many it has given by then; whether it has failed
+-- the bytes that a source knows before and after the check, how many it has given by then, and
+-- whether it has failed
 module _ (read_old read_new : Option (List ℕ)) (given_old given_new : ℕ) (read_failed : Bool) where
-  -- the bytes that a target knows before and after the check, whether it has failed, and what is asked for
+  -- the bytes that a target knows before and after the check, whether it has failed, and the
+  -- options
   module _ (write_old write_new : Option (List ℕ)) (write_failed : Bool) (options : Options) where
-    -- What is asked for can be written and the names are known, and what was written is what is shown of the bytes that were read, and
-    -- nothing else.
+    -- The format can show what is asked for, the names are known, and exactly the text of the
+    -- system that was read was written.
     abbrev pub IsDone : Counts → Type 0
     IsDone counts = (system : System) × IsRead read_old read_new given_old given_new system
         × (is_mixed options.format options.show ≡ false)
@@ -72,18 +74,19 @@ module _ (read_old read_new : Option (List ℕ)) (given_old given_new : ℕ) (re
         × Appends write_old write_new (check_text (names_of options) system options.horizon options.format options.show)
         × (counts ≡ counts_of (names_of options) system options.horizon)
 
-    -- what was written is a first part of that
+    -- a prefix of that text was written
     abbrev pub IsBegun : Type 0
     IsBegun = (system : System) × IsRead read_old read_new given_old given_new system
         × AppendsPrefix write_old write_new (check_text (names_of options) system options.horizon options.format options.show)
 
-    -- a name that is asked for is not known: the first of them, and the nearest that is
+    -- a given name is unknown: the fault has the first such name and the nearest known one
     abbrev pub IsUnknown : CheckFault → Type 0
     IsUnknown fault = (system : System) × IsRead read_old read_new given_old given_new system
         × (name : List ℕ) × (first_unknown (notifications system) (names_of options) ≡ Some name)
         × IsUnknownFault (notifications system) name fault
 
-    -- What cannot be written so is refused first, then the file is to blame, then a name, and in all three cases nothing is written. A device is blamed only where it has failed.
+    -- The options are checked first, then the file, then the names; a fault of these writes no
+    -- byte. A device is blamed only if it has failed.
     abbrev pub IsFault : CheckFault → Type 0
     IsFault (Run run.Read) =
         Keeps write_old write_new × ((read_failed ≡ true) ⊎ IsTooLong read_old read_new given_old given_new)
@@ -94,7 +97,7 @@ module _ (read_old read_new : Option (List ℕ)) (given_old given_new : ℕ) (re
     IsFault Mixed = Keeps write_old write_new × (is_mixed options.format options.show ≡ true)
     IsFault (Unknown name nearest) = Keeps write_old write_new × IsUnknown (Unknown name nearest)
 
-    -- what a check has read and written by its answer
+    -- what a check has read and written, by its result
     abbrev pub IsCheck : Result Counts CheckFault → Type 0
     IsCheck (Ok counts) = IsDone counts
     IsCheck (Err f) = IsFault f

@@ -1,4 +1,4 @@
--- What an answer about a round reads and writes.
+-- The bytes that an explanation of a round reads and writes.
 use Rattle.std.specs.Prelude.{Result, Ok, Err, Option, Some, None, ◌≡◌, ◌≢◌, ◌⊎◌, List, ℕ, Bool, true, false, string_bytes}
 use Rattle.std.specs.Io.KnownBytes.{Appends, Keeps}
 use Rattle.mcs_system.specs.System.{System}
@@ -13,10 +13,11 @@ use Rattle.mcs_check.specs.declared.why_fault.WhyFault.TheVariants.{Run, Mixed, 
 use Rattle.mcs_check.specs.Asked.{IsNoThread, thread_named}
 use Rattle.mcs_check.specs.Why.{is_mixed, is_there, round_of, why_text}
 
--- the bytes that a target knows before and after the answer, whether it has failed, and the thread and the round that are asked about
+-- the bytes that a target knows before and after, whether it has failed, and the thread and round
+-- that are asked about
 module _ (write_old write_new : Option (List ℕ)) (write_failed : Bool) (options : Options) (question : List ℕ × List ℕ) where
-  -- What is told of a system: where the round is there, its answer and nothing else; after a fault a first part of that; where there is no such
-  -- thread or no such round, nothing.
+  -- The bytes written about a system: all of the explanation if the round exists, a prefix of it
+  -- after a fault of the run, and no byte if there is no such thread or round.
   abbrev pub IsTold : System → Result (Unit {0}) WhyFault → Type 0
   IsTold system (Ok done) = (is_there (round_of system options.horizon question) ≡ true)
       × Appends write_old write_new (why_text options.format system options.horizon question)
@@ -30,10 +31,11 @@ module _ (write_old write_new : Option (List ℕ)) (write_failed : Bool) (option
       × (string_bytes thread ≡ question.0) × (string_bytes round ≡ question.1)
   IsTold system (Err _) = ⊥
 
-  -- the bytes that a source knows before and after the answer, and how many it has given by then; whether it has failed
+  -- the bytes that a source knows before and after, how many it has given by then, and whether it
+  -- has failed
   module _ (read_old read_new : Option (List ℕ)) (given_old given_new : ℕ) (read_failed : Bool) where
-    -- What has nothing to do with a round is refused first, then the file is to blame, and in both cases nothing is written; else it is told of
-    -- the system that was read.
+    -- The options are checked first, then the file; a fault of these writes no byte. Else the
+    -- system that was read is explained.
     abbrev pub IsExplained : Result (Unit {0}) WhyFault → Type 0
     IsExplained (Err Mixed) = Keeps write_old write_new × (is_mixed options ≡ true)
     IsExplained (Err (Run run.Read)) =

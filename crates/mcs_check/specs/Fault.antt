@@ -1,4 +1,4 @@
--- The lines of the faults of a check, and its exit statuses.
+-- The lines of the faults of a check, and its exit codes.
 use Rattle.std.specs.Prelude.{ℕ, List, ◌++◌, Option, Some, None, codes, string_bytes}
 use Rattle.std.specs.Fmt.{debug_str, ◌++?◌}
 use Rattle.mcs_load.specs.Text.{load_fault_text}
@@ -7,7 +7,7 @@ use Rattle.mcs_cli.specs.Status.{status_of_run}
 use Rattle.mcs_check.specs.declared.fault.CheckFault.{CheckFault}
 use Rattle.mcs_check.specs.declared.fault.CheckFault.TheVariants.{Run, Unknown, Mixed}
 
--- without the line feed: a name that was asked for stands as Rust writes a text, so that it has no line feed of its own
+-- without the line feed; a given name is written as Rust's `{:?}` does, and has no line feed in it
 abbrev pub check_fault_text : CheckFault → Option (List ℕ)
 check_fault_text (Run run.Read) = Some (codes "mcscheck: read failed")
 check_fault_text (Run (run.Load fault)) = Some (codes "mcscheck: " ++ load_fault_text fault)
@@ -20,7 +20,7 @@ check_fault_text (Unknown name None) =
     Some (codes "mcscheck: --allow-lost: no notification is called ") ++? debug_str (string_bytes name) ++? Some (codes ": there is none")
 check_fault_text Mixed = Some (codes "mcscheck: --format csv: rows are of one kind: --show findings, jobs or table")
 
--- a name that is asked for and not there is to blame on the words, as rows of two kinds are
+-- the arguments are to blame for an unknown name and for rows of two kinds
 abbrev pub status_of : CheckFault → ℕ
 status_of (Run fault) = status_of_run fault
 status_of (Unknown name nearest) = 2

@@ -1,4 +1,4 @@
--- What is shown, as named values.
+-- Findings, jobs, counts and hints as named values.
 use Rattle.std.specs.Prelude.{ℕ, List, [], ◌∷◌, codes}
 use Rattle.mcs_fields.specs.Fields.{Text, Value, amount, empty, name}
 use Rattle.mcs_system.specs.System.{System, core_of, thread_part}
@@ -15,13 +15,13 @@ use Rattle.mcs_check.specs.declared.counts.Counts.{Counts}
 abbrev pub Fields : Type 0
 Fields = List (Text × Value)
 
--- how long a thread stood in each way since its round began
+-- how a thread stood since its round began
 abbrev pub way_fields : Stood → Fields
 way_fields stood =
     (codes "ready", amount stood.ready) ∷ (codes "running", amount stood.running) ∷ (codes "throttled", amount stood.throttled)
     ∷ (codes "blocked", amount stood.blocked) ∷ (codes "woken", amount stood.woken) ∷ []
 
--- a round that ended, as in its line
+-- a job, in the order of its line
 abbrev pub job_fields : System → Job → Fields
 job_fields system job =
     (codes "moment", amount job.ended) ∷ (codes "core", amount (core_of system (thread_part system job.thread)))
@@ -29,14 +29,14 @@ job_fields system job =
     ∷ (codes "activated", amount job.activated) ∷ (codes "begun", amount job.begun) ∷ (codes "response", amount job.response)
     ∷ (codes "queued", amount job.queued) ∷ (codes "preemptions", amount job.preemptions) ∷ way_fields job.stood
 
--- what a finding is called
+-- the kind of a finding
 abbrev pub kind_of : Finding → Text
 kind_of (Miss thread number response deadline activated queued stood) = codes "miss"
 kind_of (Overdue thread deadline activated queued stood) = codes "overdue"
 kind_of (Lost note word) = codes "lost"
 kind_of (Never thread deadline) = codes "never"
 
--- and the values that it has
+-- the values that it has
 abbrev pub thread_of : System → Finding → Value
 thread_of system (Miss thread number response deadline activated queued stood) = name (thread_name system thread)
 thread_of system (Overdue thread deadline activated queued stood) = name (thread_name system thread)
@@ -65,7 +65,7 @@ deadline_of (Overdue thread deadline activated queued stood) = amount deadline
 deadline_of (Lost note word) = empty
 deadline_of (Never thread deadline) = amount deadline
 
--- a number of a round that is late
+-- a number that only misses and overdue rounds have
 abbrev pub of_late : (ℕ → ℕ → Stood → ℕ) → Finding → Value
 of_late number (Miss thread _ response deadline activated queued stood) = amount (number activated queued stood)
 of_late number (Overdue thread deadline activated queued stood) = amount (number activated queued stood)
@@ -86,7 +86,7 @@ found_fields system found =
     ∷ (codes "blocked", of_late (λ activated queued stood. stood.blocked) f)
     ∷ (codes "woken", of_late (λ activated queued stood. stood.woken) f) ∷ []
 
--- how much was found
+-- the counts
 abbrev pub counts_fields : Counts → Fields
 counts_fields counts =
     (codes "kind", name (codes "counts")) ∷ (codes "missed", amount counts.missed) ∷ (codes "overdue", amount counts.overdue)

@@ -1,4 +1,4 @@
--- The figures of a thread and of a context, as named values and as lines.
+-- The figures of threads and contexts, as named values and as lines.
 use Rattle.std.specs.Prelude.{ℕ, ◌==◌, if◌then◌else◌, Option, Some, None, List, [], ◌∷◌, ◌++◌, flat_map, suc, codes}
 use Rattle.mcs_ticks.specs.declared.row.Row.{Row}
 use Rattle.mcs_fields.specs.Fields.{Text, Value, amount, below, empty, name, value_text}
@@ -16,16 +16,16 @@ use Rattle.mcs_check_words.specs.declared.asked.Format.{Format}
 use Rattle.mcs_check.specs.Fields.{Fields}
 use Rattle.mcs_check.specs.Formats.{unless_rows, written}
 
--- a number, where there is one
+-- a number, if there is one
 abbrev pub known : Option ℕ → Value
 known None = empty
 known (Some n) = amount n
 
--- a deadline; 0 is none
+-- a deadline; 0 means that there is none
 abbrev pub deadline_known : ℕ → Value
 deadline_known deadline = if deadline == 0 then empty else amount deadline
 
--- how many ticks before the deadline the greatest response came: below 0 where it came after it
+-- how many ticks before the deadline the worst response came; negative if it came after it
 abbrev pub margin_value : Option Margin → Value
 margin_value None = empty
 margin_value (Some (Left ticks)) = amount ticks
@@ -40,7 +40,7 @@ abbrev pub merged_value : Option Signals → Value
 merged_value None = empty
 merged_value (Some signals) = amount signals.merged
 
--- what the table tells of a thread
+-- the figures of a thread
 abbrev pub figure_fields : Figures → Fields
 figure_fields f =
     (codes "core", amount f.core) ∷ (codes "priority", amount f.priority) ∷ (codes "budget", amount f.share.budget)
@@ -57,7 +57,7 @@ abbrev pub thread_fields : System → ℕ → Figures → Fields
 thread_fields system thread f =
     (codes "kind", name (codes "thread")) ∷ (codes "thread", name (thread_name system thread)) ∷ figure_fields f
 
--- and of a context
+-- the figure of a context
 abbrev pub context_fields : System → ℕ → Option ℕ → Fields
 context_fields system context unused =
     (codes "kind", name (codes "context")) ∷ (codes "context", name (context_name system context)) ∷ (codes "unused", known unused) ∷ []
@@ -67,7 +67,7 @@ abbrev pub value_word : Value → Text
 value_word empty = codes "-"
 value_word value = value_text value
 
--- each value behind what it is called
+-- each name, followed by its value
 abbrev pub pair_words : Fields → List Text
 pair_words fields = flat_map (λ f. f.0 ∷ value_word f.1 ∷ []) fields
 
@@ -84,19 +84,19 @@ thread_line how system thread f = written how (thread_text system thread f) (thr
 abbrev pub context_line : Format → System → ℕ → Option ℕ → Text
 context_line how system context unused = unless_rows how (context_text system context unused) (context_fields system context unused)
 
--- the lines of the threads from this number on, by the rows up to the horizon, the latest first
+-- the lines of the threads from number n on, by the rows up to the horizon, the latest first
 abbrev pub thread_lines : Format → System → ℕ → List Row → ℕ → List ThreadPart → Text
 thread_lines how system horizon past n [] = []
 thread_lines how system horizon past n (part ∷ parts) =
     thread_line how system n (figures_of system horizon past n) ++ thread_lines how system horizon past (suc n) parts
 
--- and of the contexts
+-- the lines of the contexts from number n on
 abbrev pub context_lines : Format → System → ℕ → List Row → ℕ → List ContextPart → Text
 context_lines how system horizon past n [] = []
 context_lines how system horizon past n (part ∷ parts) =
     context_line how system n (unused_of system horizon past n) ++ context_lines how system horizon past (suc n) parts
 
--- all of them
+-- all lines of the table
 abbrev pub table_lines : Format → System → ℕ → List Row → Text
 table_lines how system horizon past =
     thread_lines how system horizon past 0 system.threads ++ context_lines how system horizon past 0 system.contexts

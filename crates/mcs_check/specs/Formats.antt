@@ -31,7 +31,7 @@ job_line how system job = written how (job_text system job) (job_fields system j
 abbrev pub row_line : Format → System → Row → Text
 row_line how system r = written how (row_words system r) (row_fields system r)
 
--- CSV has rows of one kind alone
+-- the same, but nothing as CSV, which has rows of one kind only
 abbrev pub unless_rows : Format → Text → Fields → Text
 unless_rows format.Csv words fields = []
 unless_rows how words fields = written how words fields
@@ -42,7 +42,7 @@ hint_line how system hint = unless_rows how (hint_text system hint) (hint_fields
 abbrev pub counts_line : Format → Counts → Text
 counts_line how counts = unless_rows how (counts_text counts) (counts_fields counts)
 
--- what the values of such rows are called
+-- the column names of such rows
 abbrev pub column_names : Show → List Text
 column_names show.Findings =
     codes "moment" ∷ codes "core" ∷ codes "kind" ∷ codes "thread" ∷ codes "note" ∷ codes "word" ∷ codes "number" ∷ codes "response"
@@ -58,7 +58,7 @@ column_names show.Table =
     ∷ codes "ticks_throttled" ∷ codes "ticks_blocked" ∷ codes "ticks_woken" ∷ codes "ticks_done" ∷ []
 column_names show.Both = []
 
--- findings and figures have other values, so that both are no rows of one kind
+-- findings and figures have different values, which CSV cannot show together
 abbrev pub is_mixed : Format → Show → Bool
 is_mixed format.Csv show.Both = true
 is_mixed how asked = false

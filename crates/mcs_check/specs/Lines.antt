@@ -1,4 +1,4 @@
--- The lines of what is found in a schedule.
+-- The lines of findings, jobs, counts and hints, as text.
 use Rattle.std.specs.Prelude.{ℕ, List, [], ◌∷◌, ◌++◌, codes, decimal}
 use Rattle.mcs_system.specs.System.{System, core_of, thread_part}
 use Rattle.mcs_text.specs.Text.{context_name, counted, line, note_name, thread_name}
@@ -11,18 +11,19 @@ use Rattle.mcs_verdict.specs.declared.job.Job.{Job}
 use Rattle.mcs_verdict.specs.declared.standing.Stood.{Stood}
 use Rattle.mcs_check.specs.declared.counts.Counts.{Counts}
 
--- how long a thread stood in each way since its round began
+-- how a thread stood since its round began
 abbrev pub ways : Stood → List (List ℕ × ℕ)
 ways stood =
     (codes "ready", stood.ready) ∷ (codes "running", stood.running) ∷ (codes "throttled", stood.throttled)
     ∷ (codes "blocked", stood.blocked) ∷ (codes "woken", stood.woken) ∷ []
 
--- a round's deadline, when it was activated, and its parts: how long it was queued, and how long the thread stood in each way
+-- a round's deadline, its activation and its parts: how long it was queued, and how the thread
+-- stood
 abbrev pub late_words : ℕ → ℕ → ℕ → Stood → List (List ℕ)
 late_words deadline activated queued stood =
     counted ((codes "deadline", deadline) ∷ (codes "activated", activated) ∷ (codes "queued", queued) ∷ ways stood)
 
--- what was found, and its numbers
+-- a finding and its numbers
 abbrev pub found_words : System → Finding → List (List ℕ)
 found_words system (Miss thread number response deadline activated queued stood) =
     codes "miss" ∷ thread_name system thread ∷ decimal number ∷ decimal response ∷ late_words deadline activated queued stood
@@ -31,31 +32,31 @@ found_words system (Overdue thread deadline activated queued stood) =
 found_words system (Lost note word) = codes "lost" ∷ note_name system note ∷ decimal word ∷ []
 found_words system (Never thread deadline) = codes "never" ∷ thread_name system thread ∷ counted ((codes "deadline", deadline) ∷ [])
 
--- the line of a finding: its moment, its core and what was found
+-- the line of a finding: its time, its core and the finding
 abbrev pub found_text : System → Found → List ℕ
 found_text system found = line (decimal found.moment) (decimal found.core ∷ found_words system found.finding)
 
--- of a round that ended when it was activated and when it began, its response, and its parts, with how often it was preempted
+-- the times of a job: activation, beginning, response and parts, with its preemptions
 abbrev pub job_times : Job → List (List ℕ)
 job_times job =
     counted ((codes "activated", job.activated) ∷ (codes "begun", job.begun) ∷ (codes "response", job.response)
     ∷ (codes "queued", job.queued) ∷ (codes "preemptions", job.preemptions) ∷ ways job.stood)
 
--- its thread, its number, and these
+-- a job: its thread, its number and these times
 abbrev pub job_words : System → Job → List (List ℕ)
 job_words system job = codes "job" ∷ thread_name system job.thread ∷ decimal job.number ∷ job_times job
 
--- the line of a job: when it ended, its thread's core and what it was
+-- the line of a job: its end, its thread's core and the job
 abbrev pub job_text : System → Job → List ℕ
 job_text system job = line (decimal job.ended) (decimal (core_of system (thread_part system job.thread)) ∷ job_words system job)
 
--- the line of counts
+-- the line of the counts
 abbrev pub counts_text : Counts → List ℕ
 counts_text counts =
     line (codes "missed") (decimal counts.missed ∷ counted ((codes "overdue", counts.overdue) ∷ (codes "lost", counts.lost)
     ∷ (codes "never", counts.never) ∷ (codes "merged", counts.merged) ∷ (codes "allowed", counts.allowed) ∷ (codes "hints", counts.hints) ∷ []))
 
--- what a hint is of, and what it says
+-- the subject of a hint and its reason
 abbrev pub hint_words : System → Hint → List (List ℕ)
 hint_words system (Unsignalled note) = codes "note" ∷ note_name system note ∷ codes "is waited on and no script signals it" ∷ []
 hint_words system (Unbound context) = codes "context" ∷ context_name system context ∷ codes "has no thread" ∷ []

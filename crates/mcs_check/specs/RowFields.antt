@@ -1,4 +1,4 @@
--- A row of a schedule, as named values.
+-- A row of a schedule as named values.
 use Rattle.std.specs.Prelude.{ℕ, if◌then◌else◌, List, [], ◌∷◌, codes, Option, Some}
 use Rattle.mcs_ticks.specs.declared.row.Row.{Row}
 use Rattle.mcs_ticks.specs.declared.row.What.{What}
@@ -8,14 +8,14 @@ use Rattle.mcs_system.specs.System.{System, is_server}
 use Rattle.mcs_text.specs.Text.{context_name, note_name, source_name, thread_name, why_word}
 use Rattle.mcs_check.specs.Fields.{Fields}
 
--- what stands only where a note is a server, and what only where it is a notification
+-- a value that only servers have, and one that only notifications have
 abbrev pub of_server : System → ℕ → Value → Value
 of_server system note value = if is_server system note then value else empty
 
 abbrev pub of_note : System → ℕ → Value → Value
 of_note system note value = if is_server system note then empty else value
 
--- what a row is called
+-- the kind of a row
 abbrev pub kind_of : System → What → Text
 kind_of system (row.Release x) = codes "release"
 kind_of system (row.Run x) = codes "run"
@@ -50,7 +50,8 @@ abbrev pub source_of : System → What → Value
 source_of system (row.Interrupt source note badge) = name (source_name system source)
 source_of system _ = empty
 
--- why a thread stops, what its context is charged, and when it is released, if it enters the release queue
+-- the cause of a stop, the ticks that its context is charged, and the release date if the thread
+-- waits for one
 abbrev pub why_of : What → Value
 why_of (row.Stop x cause charged until) = name (why_word cause)
 why_of _ = empty
@@ -63,7 +64,7 @@ abbrev pub until_of : What → Value
 until_of (row.Stop x cause charged (Some until)) = amount until
 until_of _ = empty
 
--- its notification, or its server, if it has one
+-- its notification or its server, if it has one
 abbrev pub note_of : System → What → Value
 note_of system (row.Signal x note badge) = of_note system note (name (note_name system note))
 note_of system (row.Arrive note badge maker) = name (note_name system note)
@@ -79,7 +80,7 @@ server_of system (row.Wake x note word) = of_server system note (name (note_name
 server_of system (row.Got x note word) = of_server system note (name (note_name system note))
 server_of system _ = empty
 
--- the badge of a signal or an interrupt, and the core that made a signal which arrives
+-- the badge of a signal or an interrupt, and the core that made an arriving signal
 abbrev pub badge_of : System → What → Value
 badge_of system (row.Signal x note badge) = of_note system note (amount badge)
 badge_of system (row.Arrive note badge maker) = amount badge
@@ -106,7 +107,7 @@ abbrev pub response_of : What → Value
 response_of (row.Round x number response) = amount response
 response_of _ = empty
 
--- all of them
+-- all values of a row
 abbrev pub row_fields : System → Row → Fields
 row_fields system r =
     (codes "moment", amount r.moment) ∷ (codes "core", amount r.core) ∷ (codes "kind", name (kind_of system r.what))

@@ -1,4 +1,4 @@
--- What is told of what was found, and how much of each kind there is.
+-- The findings that are reported, and the count of each kind.
 use Rattle.std.specs.Prelude.{ℕ, ◌+◌, Bool, true, false, not, if◌then◌else◌, List, [], ◌∷◌, count_by, filter, flat_map}
 use Rattle.mcs_ticks.specs.Capped.{capped}
 use Rattle.mcs_ticks.specs.declared.row.Row.{Row}
@@ -13,7 +13,7 @@ use Rattle.mcs_check.specs.declared.counts.Counts.{Counts}
 use Rattle.mcs_check.specs.Counts.{is_allowed}
 use Rattle.mcs_check.specs.Formats.{found_line, job_line}
 
--- all but lost signals of notifications at which this is allowed
+-- all findings but allowed lost signals
 abbrev pub told : List Bool → List Found → List Found
 told allowed found = filter (λ f. not (is_allowed allowed f.finding)) found
 
@@ -21,7 +21,7 @@ told allowed found = filter (λ f. not (is_allowed allowed f.finding)) found
 abbrev pub found_lines : Format → System → List Bool → List Found → List ℕ
 found_lines how system allowed found = flat_map (found_line how system) (told allowed found)
 
--- and those of rounds that ended
+-- the lines of jobs
 abbrev pub job_lines : Format → System → List Job → List ℕ
 job_lines how system jobs = flat_map (job_line how system) jobs
 
@@ -42,7 +42,7 @@ abbrev pub is_lost : Finding → Bool
 is_lost (Lost note word) = true
 is_lost _ = false
 
--- so many, and those of a list that are of a kind
+-- n, and the findings of a list that are of a kind
 abbrev pub more : (Finding → Bool) → List Found → ℕ → ℕ
 more is found n = capped (n + count_by (λ f. is f.finding) found)
 
@@ -51,7 +51,7 @@ abbrev pub merged_in : System → List Row → List Row → ℕ
 merged_in system past [] = 0
 merged_in system past (r ∷ rows) = (if merges system past r.what then 1 else 0) + merged_in system (r ∷ past) rows
 
--- all this is counted too
+-- the counts with all of these added
 abbrev pub counts_with : List Bool → List Found → ℕ → ℕ → Counts → Counts
 counts_with allowed found merged hints counts = record {
   missed = more is_miss (told allowed found) counts.missed;

@@ -1,4 +1,4 @@
--- Why a round took so long: what is written of it.
+-- The explanation of why a round took so long.
 use Rattle.std.specs.Prelude.{ℕ, suc, ◌-◌, Bool, true, false, ◌==◌, ◌||◌, not, if◌then◌else◌, List, [], ◌∷◌, ◌++◌, codes, decimal, filter, flat_map, Option, Some, None, option_map, unwrap_or, vec_len}
 use Rattle.mcs_ticks.specs.declared.row.Row.{Row}
 use Rattle.mcs_fields.specs.Fields.{Text, Value, amount, empty, name}
@@ -28,7 +28,7 @@ waited span = unwrap_or span.activated (unwrap_or span.begun span.to) - span.fro
 abbrev pub ended_of : Span → Value
 ended_of span = if span.ended then amount span.to else empty
 
--- what is told of a round: from when to when its rows tell, and what happened meanwhile
+-- the times of a round: the span of its rows, and what happened in it
 abbrev pub told_fields : Span → Fields
 told_fields span =
     (codes "number", amount span.number) ∷ (codes "from", amount span.from) ∷ (codes "to", amount span.to) ∷ (codes "waited", amount (waited span))
@@ -44,7 +44,7 @@ span_text system span = line (codes "why") (thread_name system span.thread ∷ p
 abbrev pub span_line : Format → System → Span → Text
 span_line how system span = written how (span_text system span) (span_fields system span)
 
--- how long a thread ran; nothing, where it did not
+-- how long a thread ran
 abbrev pub ran_fields : System → ℕ → ℕ → Fields
 ran_fields system thread ticks =
     (codes "kind", name (codes "ran")) ∷ (codes "thread", name (thread_name system thread)) ∷ (codes "ticks", amount ticks) ∷ []
@@ -56,20 +56,20 @@ told_ran how system thread ticks =
 abbrev pub ran_line : Format → System → ℕ → ℕ → Text
 ran_line how system thread ticks = if ticks == 0 then [] else told_ran how system thread ticks
 
--- the threads from this number on, in a span of a core
+-- the threads from number n on that ran in a span of a core
 abbrev pub ran_lines : Format → System → ℕ → List Row → ℕ → ℕ → ℕ → List ThreadPart → Text
 ran_lines how system core past from to n [] = []
 ran_lines how system core past from to n (part ∷ parts) =
     ran_line how system n (ran_in core n past from to) ++ ran_lines how system core past from to (suc n) parts
 
--- for how long the core was idle
+-- how long the core was idle
 abbrev pub idle_fields : ℕ → Fields
 idle_fields ticks = (codes "kind", name (codes "idle")) ∷ (codes "ticks", amount ticks) ∷ []
 
 abbrev pub idle_line : Format → ℕ → Text
 idle_line how ticks = written how (line (codes "idle") (decimal ticks ∷ [])) (idle_fields ticks)
 
--- what is told of the round, how long each thread ran meanwhile, and for how long the core was idle
+-- the round's times, how long each thread ran meanwhile, and how long the core was idle
 abbrev pub account_lines : Format → System → Span → List Row → Text
 account_lines how system span past =
     span_line how system span ++ ran_lines how system span.core past span.from span.to 0 system.threads
@@ -79,11 +79,12 @@ account_lines how system span past =
 abbrev pub rows_lines : Format → System → Span → List Row → Text
 rows_lines how system span rows = flat_map (row_line how system) (filter (is_within span.core span.from span.to) rows)
 
--- these, and then those
+-- the rows, followed by the account
 abbrev pub round_text : Format → System → Span → List Row → Text
 round_text how system span rows = rows_lines how system span rows ++ account_lines how system span (past_of [] rows)
 
--- what there is in the schedule of the one clock of the round with this number of the thread with this name, if there is such a thread
+-- the round with this number, of the thread with this name, in the schedule of the one clock, if
+-- there is such a thread
 abbrev pub round_of : System → ℕ → Text × Text → Option Sought
 round_of system horizon question =
     option_map (λ thread. sought system horizon (past_of [] (schedule system horizon)) thread (round_number question.1))
@@ -94,7 +95,7 @@ is_there None = false
 is_there (Some (There span)) = true
 is_there (Some (Missing rounds)) = false
 
--- what is written of it; nothing, where it is not there
+-- the explanation; no byte if the round does not exist
 abbrev pub answer_text : Format → System → ℕ → Option Sought → Text
 answer_text how system horizon None = []
 answer_text how system horizon (Some (There span)) = round_text how system span (schedule system horizon)
@@ -107,6 +108,6 @@ abbrev pub is_csv : Format → Bool
 is_csv format.Csv = true
 is_csv _ = false
 
--- what has nothing to do with a round is asked for too
+-- an option that has nothing to do with a round is given too
 abbrev pub is_mixed : Options → Bool
 is_mixed options = options.show_given || options.strict || not (vec_len options.allowed == 0) || is_csv options.format

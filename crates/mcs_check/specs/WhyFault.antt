@@ -1,4 +1,4 @@
--- The lines of the faults of an answer about a round, and its exit statuses.
+-- The lines of the faults of an explanation, and its exit codes.
 use Rattle.std.specs.Prelude.{ℕ, ◌==◌, if◌then◌else◌, List, ◌++◌, Option, Some, None, codes, decimal, string_bytes}
 use Rattle.std.specs.Fmt.{debug_str, ◌++?◌}
 use Rattle.mcs_cli.specs.Status.{status_of_run}
@@ -7,11 +7,12 @@ use Rattle.mcs_check.specs.declared.why_fault.WhyFault.TheVariants.{Run, Mixed, 
 use Rattle.mcs_check.specs.declared.fault.CheckFault.TheVariants as check
 use Rattle.mcs_check.specs.Fault.{check_fault_text}
 
--- the rounds that there are, of which there are so many
+-- the numbers of n rounds
 abbrev pub rounds_text : ℕ → List ℕ
 rounds_text n = if n == 0 then codes "there is none" else if n == 1 then codes "there is round 1" else codes "there are rounds 1 to " ++ decimal n
 
--- without the line feed: what was asked for stands as Rust writes a text, so that it has no line feed of its own
+-- without the line feed; the given texts are written as Rust's `{:?}` does, and have no line feed
+-- in them
 abbrev pub why_fault_text : WhyFault → Option (List ℕ)
 why_fault_text (Run fault) = check_fault_text (check.Run fault)
 why_fault_text Mixed = Some (codes "mcscheck: --why: not with --show, --strict, --allow-lost or --format csv")
@@ -23,7 +24,7 @@ why_fault_text (NoRound thread round rounds) =
     Some (codes "mcscheck: --why: no round ") ++? debug_str (string_bytes round)
     ++? Some (codes " of " ++ (string_bytes thread ++ (codes ": " ++ rounds_text rounds.0)))
 
--- the words are to blame for all but the faults of the run
+-- the arguments are to blame for all faults but those of the run
 abbrev pub status_of : WhyFault → ℕ
 status_of (Run fault) = status_of_run fault
 status_of _ = 2

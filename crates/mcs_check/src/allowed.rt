@@ -12,7 +12,7 @@ use mcs_ticks::{Limits, NoMemory};
 use std::alloc::{AllocError, Global};
 use strsim::levenshtein;
 
-/// Of each notification whether it has one of these names. `NoMemory` where a growth was refused.
+/// Returns for each notification whether its name is among `names`. `NoMemory` if memory runs out.
 pub fn flags_of(alloc: Global, parts: &SystemParts, names: &[String]) -> Result<Vec<bool>, NoMemory>
     ensures { IfOk result (λ flags. flags.items ≡ flags_of (map (λ name. string_bytes name) names.now) parts.now.notes) }
 {
@@ -23,7 +23,7 @@ pub fn flags_of(alloc: Global, parts: &SystemParts, names: &[String]) -> Result<
     Ok(flags)
 }
 
-/// Whether this is one of the names.
+/// Whether the name is among `names`.
 fn is_named(names: &[String], name: &str) -> bool
     ensures { result ≡ is_named (map (λ name. string_bytes name) names.now) name.now }
 {
@@ -36,7 +36,7 @@ fn is_among(names: &[String], name: &str) -> bool
     names.iter().any(|other| other.as_str() == name)
 }
 
-/// The notifications of a system: its notes without the servers, which are the last ones.
+/// The notifications of a system: its notes without the servers, which come last.
 fn notifications(parts: &SystemParts) -> &[NotePart]
     ensures { result.now ≡ notifications parts.now }
 {
@@ -51,8 +51,8 @@ fn is_known(notes: &[NotePart], name: &str) -> bool
     notes.iter().any(|part| part.name.as_str() == name)
 }
 
-/// Refuses the first of the names that no notification has: `Unknown` with the nearest name that one has, or `Sim` where there was no memory for these
-/// texts.
+/// Refuses the first name that no notification has. `Unknown` has it and the nearest name of a
+/// notification; `Sim` means that there was no memory for these texts.
 pub fn refuse_unknown(
     alloc: Global,
     parts: &SystemParts,
@@ -72,7 +72,7 @@ pub fn refuse_unknown(
     Ok(())
 }
 
-/// The fault of a name that no notification has, or that there was no memory for its text.
+/// The fault of a name that no notification has, or `Sim` if memory runs out.
 fn unknown(alloc: Global, notes: &[NotePart], name: &str) -> CheckFault
     ensures { IsUnknownFault notes.now name.now result }
 {
@@ -82,7 +82,7 @@ fn unknown(alloc: Global, notes: &[NotePart], name: &str) -> CheckFault
     }
 }
 
-/// The name, and the nearest one.
+/// The name and the nearest name of a notification.
 fn told(
     alloc: Global,
     notes: &[NotePart],
@@ -97,8 +97,8 @@ fn told(
     Ok((String::from_str(alloc, name)?, nearest))
 }
 
-/// The name of the notification whose name is nearest, the first of those that are as near, and None where the name that was given is not
-/// short: to compare a long one with each takes long.
+/// The nearest name of a notification, the first of equally near ones. `None` if the given name is
+/// not short, since comparing a long text takes long.
 fn nearest<'a>(
     alloc: Global,
     notes: &'a [NotePart],
@@ -113,7 +113,7 @@ fn nearest<'a>(
     }
 }
 
-/// Whether a text may be a name with slips in it: a name has at most 32 bytes.
+/// Whether a text may be a misspelt name. Names have at most 32 bytes, so it has at most 64.
 pub(crate) fn is_short(text: &str) -> bool
     ensures { result ≡ is_short text.now }
 {
@@ -135,7 +135,7 @@ fn nearest_of_all<'a>(
     Ok(near)
 }
 
-/// The nearer one of two names, the first where both are as near.
+/// The nearer of two names, the first if both are as near.
 pub(crate) fn nearer<'a>(
     alloc: Global,
     name: &str,

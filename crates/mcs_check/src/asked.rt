@@ -1,4 +1,4 @@
-//! The round that is asked about.
+//! The thread and the round that `--why` asks about.
 ghost use Rattle.std.specs.Prelude.{◌≡◌, ◌<◌, length, IfOk, IfSome, None, option_map, string_bytes};
 ghost use Rattle.mcs_check.specs.Asked.{IsNoThread, nearest_from, nearest_thread, round_number, thread_named};
 
@@ -10,7 +10,7 @@ use mcs_team::SimFault;
 use mcs_ticks::ThreadId;
 use std::alloc::{AllocError, Global};
 
-/// The thread of this name.
+/// The thread with this name.
 pub(crate) fn thread_named(parts: &SystemParts, name: &str) -> Option<ThreadId>
     ensures named { result ≡ thread_named parts.now.threads name.now }
     ensures known { IfSome result (λ thread. thread < length parts.now.threads) }
@@ -28,14 +28,14 @@ fn place_of(parts: &SystemParts, name: &str) -> Option<usize>
     threads.iter().position(|part| part.name.as_str() == name)
 }
 
-/// The number that the text is, or 0, which no round has, where it is none.
+/// The number that the text writes; 0, which no round has, if it writes none.
 pub(crate) fn round_number(text: &str) -> u64
     ensures { result ≡ round_number text.now }
 {
     text.parse::<u64>().unwrap_or(0)
 }
 
-/// The fault of a name that no thread has, or that there was no memory for its text.
+/// The fault of a name that no thread has, or `Sim` if memory runs out.
 pub(crate) fn no_thread(alloc: Global, parts: &SystemParts, name: &str) -> WhyFault
     ensures { IsNoThread parts.now.threads name.now result }
 {
@@ -45,7 +45,7 @@ pub(crate) fn no_thread(alloc: Global, parts: &SystemParts, name: &str) -> WhyFa
     }
 }
 
-/// The name, and the nearest one.
+/// The name and the nearest name of a thread.
 fn told(
     alloc: Global,
     parts: &SystemParts,
@@ -60,8 +60,8 @@ fn told(
     Ok((String::from_str(alloc, name)?, nearest))
 }
 
-/// The name of the thread whose name is nearest, the first of those that are as near, and None where the name that was given is not short:
-/// to compare a long one with each takes long.
+/// The nearest name of a thread, the first of equally near ones. `None` if the given name is not
+/// short, since comparing a long text takes long.
 fn nearest<'a>(
     alloc: Global,
     parts: &'a SystemParts,

@@ -1,4 +1,4 @@
-//! What is found in the rows of a system, each core of which looks at its own where its turns are taken.
+//! Findings by core: each core looks at its own rows as its turns make them.
 ghost use Rattle.std.specs.Prelude.{◌≡◌, ◌+◌, ◌++◌, ◌≤◌, ◌^◌, ℕ, Bool, List, [], drop, length, replicate, true, IfErr, IfOk, OnOk};
 ghost use Rattle.std.specs.Arc.{arc_value};
 ghost use Rattle.mcs_system.specs.WellFormed.{IsWellFormed};
@@ -24,17 +24,18 @@ use std::alloc::Global;
 use std::marker::Brand;
 use std::sync::Arc;
 
-/// After so many rows more what was found is told.
+/// Rows after which a round of the cores ends and its findings are written.
 const ENOUGH: usize = 16_384;
 
-/// What was found of all rows of a run: how much, and what is found at the horizon.
+/// The findings of all rows of a run: the counts, and those at the horizon.
 #[derive(Drop)]
 pub(crate) struct FoundByCore {
     pub(crate) counts: Counts,
     pub(crate) unended: Vec<Found>,
 }
 
-/// Takes all turns of a system, in rounds, and tells what was found in each. It answers what was found of all rows.
+/// Takes all turns of a system, in rounds, and writes the findings of each round. Returns the
+/// findings of all rows.
 pub(crate) fn look<T: Target, P: Progress>(
     alloc: Global,
     shared: &Arc<System>,
@@ -75,7 +76,7 @@ pub(crate) fn look<T: Target, P: Progress>(
     Ok(found)
 }
 
-/// What the cores have found when all turns were taken.
+/// Puts together what the cores found, when all turns are taken.
 fn put_together(
     alloc: Global,
     system: &System,
@@ -93,7 +94,7 @@ fn put_together(
     })
 }
 
-/// How much all cores have found.
+/// The sum of what the cores counted.
 fn counted(watches: &[CoreWatch]) -> Counts
     ensures { result ≡ are_counted_together watches.now }
 {
@@ -104,7 +105,7 @@ fn counted(watches: &[CoreWatch]) -> Counts
     counts
 }
 
-/// What is found at the horizon, in the order of the threads, each of which is asked for on its core.
+/// The findings at the horizon, in the order of the threads. Each thread is asked for on its core.
 fn unended(
     alloc: Global,
     parts: &SystemParts,

@@ -1,4 +1,4 @@
-//! What a core of a round tells its rows to.
+//! The sink that takes the rows of one core in a round.
 ghost use Rattle.std.specs.Prelude.{◌≡◌, Some};
 
 use crate::core_watch::CoreWatch;
@@ -6,20 +6,21 @@ use crate::sought::Sought;
 use mcs_ticks::{Collector, Measured, Refused, Row, Sink, Tick};
 use std::marker::PhantomData;
 
-/// Looks at each row of its core, and keeps what is found from a moment on. One that is closed takes no row.
+/// A sink that looks at each row of its core and keeps the findings from `from` on. After `clear`
+/// it is closed and takes no row.
 #[derive(Drop)]
 pub(crate) struct CoreFinder<'a, B: Sought> {
-    /// None where it is closed.
+    /// The state of its core; `None` if the sink is closed.
     pub(crate) own: Option<CoreWatch>,
     from: Tick,
-    /// Of each notification whether lost signals are allowed.
+    /// For each notification, whether lost signals are allowed.
     allowed: &'a [bool],
     of: PhantomData<B>,
     ghost ours: { (allowed.now ≡ B.allowed) × (from ≡ B.from) },
 }
 
 impl<'a, B: Sought> CoreFinder<'a, B> {
-    /// It goes on where what it is given has stopped.
+    /// A finder that continues from `own`; a closed one if that is `None`.
     pub(crate) fn new(own: Option<CoreWatch>, allowed: &'a [bool], from: Tick) -> CoreFinder<'a, B>
         requires { (allowed.now ≡ B.allowed) × (from ≡ B.from) }
         ensures { result.own ≡ own }
@@ -32,7 +33,7 @@ impl<'a, B: Sought> CoreFinder<'a, B> {
         }
     }
 
-    /// What it has seen, where it is not closed.
+    /// Returns the state of its core; `None` if it is closed.
     pub(crate) fn into_own(self) -> Option<CoreWatch>
         ensures { result ≡ self.entry.own }
     {
@@ -41,7 +42,7 @@ impl<'a, B: Sought> CoreFinder<'a, B> {
     }
 }
 
-/// A row is refused where there is no memory for what it tells, and by one that is closed.
+/// Refuses a row if there is no memory for its finding, or if it is closed.
 impl<B: Sought> Sink for CoreFinder<'_, B> {
     ghost use Rattle.mcs_check.specs.stored.OwnRows.{TakesOwn};
 
@@ -57,7 +58,7 @@ impl<B: Sought> Sink for CoreFinder<'_, B> {
     }
 }
 
-/// Its size is how many rows it was told, at most `usize::MAX`.
+/// The size is the number of rows taken, at most `usize::MAX`.
 impl<B: Sought> Measured for CoreFinder<'_, B> {
     ghost use Rattle.mcs_check.specs.stored.OwnRows.{rows_seen};
 
@@ -72,7 +73,7 @@ impl<B: Sought> Measured for CoreFinder<'_, B> {
     }
 }
 
-/// It holds the rows that it was told. Where it is emptied it is closed.
+/// Holds the rows that it took. `clear` closes it.
 impl<B: Sought> Collector for CoreFinder<'_, B> {
     ghost use Rattle.mcs_team.specs.Counts.{many_of};
     ghost use Rattle.mcs_check.specs.stored.OwnRows.{are_counted, seen_more, HoldsOwn};

@@ -1,4 +1,4 @@
-//! What a core sees of its own rows, and finds in them.
+//! The state that is kept of the rows of one core, with their findings.
 ghost use Rattle.std.specs.Prelude.{◌≡◌, ◌++◌, ◌∷◌, [], List, IfOk, OnOk};
 ghost use Rattle.mcs_ticks.specs.declared.row.Row.{Row as TheRow};
 ghost use Rattle.mcs_system.specs.System.{System as TheSystem};
@@ -15,19 +15,20 @@ use mcs_ticks::{NoMemory, Refused, Row, Tick, What};
 use mcs_verdict::{Finding, Found, Watch};
 use std::alloc::Global;
 
-/// What is kept of the rows of one core: what its threads and notifications came to, how much was found, and what of it is not told yet.
+/// The state kept of the rows of one core: its watch, its counts, and the findings that are not yet
+/// written.
 #[derive(Drop)]
 pub(crate) struct CoreWatch {
     pub(crate) watch: Watch,
     pub(crate) counts: Counts,
-    /// What was found and is not told yet.
+    /// The findings that are not yet written.
     pub(crate) found: Vec<Found>,
-    /// How many rows there were, at most `usize::MAX`.
+    /// The number of rows, at most `usize::MAX`.
     pub(crate) rows: usize,
 }
 
 impl CoreWatch {
-    /// Before the first row of a run. `NoMemory` where a growth was refused.
+    /// The state before the first row of a run. `NoMemory` if memory runs out.
     pub(crate) fn new(alloc: Global, system: &System) -> Result<CoreWatch, NoMemory>
         ensures { IfOk result (λ own. (own.watch ≡ watch_of system.now []) × (own.counts ≡ no_counts) × (own.found.items ≡ []) × (own.rows ≡ 0)) }
     {
@@ -39,8 +40,9 @@ impl CoreWatch {
         })
     }
 
-    /// One row more, of which what it tells is kept where it is of no earlier moment than this one. It is refused only where there is no memory
-    /// for that.
+    /// Takes one more row and keeps its finding, unless the row is earlier than `from` or the
+    /// finding is an allowed lost signal. Refuses the row only if there is no memory for the
+    /// finding.
     #[inline(always)]
     pub(crate) fn see(&mut self, allowed: &[bool], from: Tick, row: &Row) -> Result<(), Refused>
         ensures rows { self.new.rows ≡ self.old.rows }
@@ -51,7 +53,7 @@ impl CoreWatch {
         ensures found { (system : TheSystem) (past : List TheRow) → self.old.watch ≡ watch_of system past → UpTo row.now.moment past →
             OnOk result (self.new.found.items ≡ self.old.found.items ++ since from (told_by system allowed.now past row.now)) }
     {
-        // others tell nothing
+        // Other rows have no finding.
         if let What::Round { .. } | What::Hold { .. } | What::Got { .. } = row.what {
             return self.see_any(allowed, from, row);
         }
@@ -59,7 +61,8 @@ impl CoreWatch {
         Ok(())
     }
 
-    /// The same of any row. It stands apart, so that rows that only tell how a thread stands, which are most, make no room for a finding.
+    /// `see` for any row. It is kept out of line, since most rows have no finding and need no room
+    /// for one.
     #[inline(never)]
     fn see_any(&mut self, allowed: &[bool], from: Tick, row: &Row) -> Result<(), Refused>
         ensures rows { self.new.rows ≡ self.old.rows }
@@ -74,7 +77,7 @@ impl CoreWatch {
         keep(&mut self.found, from, row, finding)
     }
 
-    /// Puts what was found before this moment behind what is told, and lets go of it.
+    /// Moves the findings before `to` to the end of `told`.
     pub(crate) fn tell(&mut self, to: Tick, told: &mut Vec<Found>) -> Result<(), NoMemory>
         ensures watch { self.new.watch ≡ self.old.watch }
         ensures counts { self.new.counts ≡ self.old.counts }
@@ -92,7 +95,7 @@ impl CoreWatch {
     }
 }
 
-/// What is told of one row more.
+/// Takes one more row and returns its finding, unless that is an allowed lost signal.
 #[inline(always)]
 pub(crate) fn find(
     watch: &mut Watch,
@@ -114,7 +117,7 @@ pub(crate) fn find(
     counts.take(allowed, found)
 }
 
-/// Adds what a row tells, if it tells something and is of no earlier moment than this one.
+/// Appends the finding, if there is one and the row is not earlier than `from`.
 #[inline(always)]
 fn keep(
     found: &mut Vec<Found>,

@@ -4,27 +4,27 @@ ghost use Rattle.mcs_check.specs.stored.ByCore.{together};
 
 use mcs_verdict::Finding;
 
-/// How much was found, by kind. Each number is exact up to 2^64 - 1, where it stays.
+/// The numbers of findings, by kind. They saturate at 2^64 - 1.
 #[derive(Clone, Copy, Debug, PartialEq, Eq)]
 pub struct Counts {
-    /// Rounds whose response was above the deadline.
+    /// Deadline misses: rounds whose response was above the deadline.
     pub missed: u64,
-    /// Rounds that can only end with a miss.
+    /// Overdue rounds, which can only end with a miss.
     pub overdue: u64,
-    /// Signals that left a word as it was.
+    /// Lost activations: signals that did not change the word.
     pub lost: u64,
-    /// Threads with a deadline that were not activated once.
+    /// Threads with a deadline that were never activated.
     pub never: u64,
-    /// Signals that added bits to a word that was not 0: no finding.
+    /// Coalesced signals, which added bits to a word that was not 0. They are no findings.
     pub merged: u64,
-    /// Lost signals of notifications where this is allowed: no finding.
+    /// Lost signals of notifications at which this is allowed. They are no findings.
     pub allowed: u64,
-    /// What of the file is likely a mistake: no finding, unless hints are asked to count.
+    /// Hints: likely mistakes in the file. They are no findings, unless hints count.
     pub hints: u64,
 }
 
 impl Counts {
-    /// Nothing yet.
+    /// All counts are 0.
     pub(crate) fn new() -> Self
         ensures { result ≡ no_counts }
     {
@@ -39,21 +39,21 @@ impl Counts {
         }
     }
 
-    /// A signal more that was merged.
+    /// Counts a merged signal.
     pub(crate) fn merge(&mut self)
         ensures { self.new ≡ record self.old { merged = one_more self.old.merged } }
     {
         self.merged = self.merged.saturating_add(1);
     }
 
-    /// So many hints more.
+    /// Counts `many` hints.
     pub(crate) fn hint(&mut self, many: usize)
         ensures { self.new ≡ with_hints many self.old }
     {
         self.hints = self.hints.saturating_add(many as u64);
     }
 
-    /// What another core counted too.
+    /// Adds the counts of another core.
     pub(crate) fn add_all(&mut self, more: &Counts)
         ensures { self.new ≡ together self.old more.now }
     {
@@ -66,7 +66,7 @@ impl Counts {
         self.hints = self.hints.saturating_add(more.hints);
     }
 
-    /// A finding more.
+    /// Counts a finding.
     fn add(&mut self, finding: &Finding)
         ensures { self.new ≡ added finding.now self.old }
     {
@@ -78,8 +78,7 @@ impl Counts {
         }
     }
 
-    /// What was found, if anything, is counted, and given back where it is to be told: where it is no lost signal of a notification at
-    /// which this is allowed.
+    /// Counts a finding, if there is one, and returns it unless it is an allowed lost signal.
     pub(crate) fn take(&mut self, allowed: &[bool], found: Option<Finding>) -> Option<Finding>
         ensures told { result ≡ told_of allowed.now found }
         ensures counted { self.new ≡ taken allowed.now found self.old }
@@ -95,7 +94,7 @@ impl Counts {
         Some(finding)
     }
 
-    /// Whether nothing was found; where hints count, no hint either.
+    /// Whether there is no finding and, if `strict`, no hint.
     pub fn is_clean(&self, strict: bool) -> bool
         ensures { result ≡ is_clean strict self.now }
     {
@@ -107,7 +106,7 @@ impl Counts {
     }
 }
 
-/// Whether it is a lost signal of a notification at which this is allowed.
+/// Whether the finding is a lost signal of a notification at which this is allowed.
 pub(crate) fn is_allowed(allowed: &[bool], finding: &Finding) -> bool
     ensures { result ≡ is_allowed allowed.now finding.now }
 {

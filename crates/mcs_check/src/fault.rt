@@ -6,19 +6,20 @@ use mcs_cli::RunFault;
 use mcs_team::SimFault;
 use std::fmt;
 
-/// Why a check did not end well. Its text is the line that the program writes to standard error.
+/// Why a check failed. Its text is the line that the program writes to standard error.
 #[derive(Debug, PartialEq, Eq, Drop)]
 pub enum CheckFault {
-    /// The source failed, its text is no system, there was no memory, or the target failed.
+    /// The source failed, its text is no system, memory ran out, or the target failed.
     Run(RunFault),
-    /// Lost signals are allowed at a notification that the system has not.
+    /// A name at which lost signals are allowed is that of no notification.
     Unknown {
-        /// The name that was asked for.
+        /// The name that was given.
         name: String,
-        /// The first of the notifications whose names are nearest, or None where there is no notification, or `name` has more than 64 bytes.
+        /// The nearest name of a notification, the first of equally near ones. `None` if there is
+        /// no notification, or if `name` has more than 64 bytes.
         nearest: Option<String>,
     },
-    /// Findings and figures are asked for as rows of CSV, which are of one kind.
+    /// Findings and figures are asked for together as CSV, which has rows of one kind.
     Mixed,
 }
 
@@ -55,7 +56,7 @@ impl fmt::Display for CheckFault {
 }
 
 impl CheckFault {
-    /// The exit status of the program: 2 for a notification that is not there and for rows of two kinds, else that of the run's fault.
+    /// Returns the program's exit code: 2 for `Unknown` and `Mixed`, else that of the run's fault.
     pub fn status(&self) -> u8
         ensures { result ≡ status_of self.now }
     {

@@ -1,4 +1,4 @@
-//! What is shown, as named values.
+//! Findings, jobs and counts as named values.
 ghost use Rattle.std.specs.Prelude.{◌≡◌, map};
 ghost use Rattle.mcs_fields.specs.Fields.{field_of, value_of};
 ghost use Rattle.mcs_check.specs.Fields.{counts_fields, deadline_of, found_fields, job_fields, kind_of, note_of, number_of, of_late, response_of, thread_of, word_of};
@@ -10,7 +10,7 @@ use mcs_system::System;
 use mcs_text::{note_name, thread_name};
 use mcs_verdict::{Finding, Found, Job};
 
-/// A round that ended.
+/// The values of a job.
 pub(crate) fn job_fields<'s>(system: &'s System, job: &Job) -> [Field<'s>; 15]
     ensures { map field_of result ≡ job_fields system.now job.now }
 {
@@ -33,7 +33,7 @@ pub(crate) fn job_fields<'s>(system: &'s System, job: &Job) -> [Field<'s>; 15]
     ]
 }
 
-/// A finding.
+/// The values of a finding.
 pub(crate) fn found_fields<'s>(system: &'s System, found: &Found) -> [Field<'s>; 16]
     ensures { map field_of result ≡ found_fields system.now found.now }
 {
@@ -128,7 +128,7 @@ fn deadline<'s>(finding: &Finding) -> Cell<'s>
     }
 }
 
-/// The values of a round that is late.
+/// The values that only misses and overdue rounds have.
 #[derive(Clone, Copy)]
 struct Late<'s> {
     activated: Cell<'s>,
@@ -182,7 +182,7 @@ fn late_values<'s>(finding: &Finding) -> Late<'s>
     }
 }
 
-/// How much was found.
+/// The values of the counts.
 pub(crate) fn counts_fields(counts: &Counts) -> [Field<'static>; 8]
     ensures { map field_of result ≡ counts_fields counts.now }
 {

@@ -1,4 +1,4 @@
-//! The figures of a thread and of a context, as named values and as lines.
+//! The figures of threads and contexts, as named values and as lines.
 ghost use Rattle.std.specs.Prelude.{◌≡◌, ◌++◌, ◌<◌, ℕ, List, OnOk, OnErr, length, map};
 ghost use Rattle.mcs_ticks.specs.declared.row.Row.{Row as TheRow};
 ghost use Rattle.mcs_fields.specs.Fields.{field_of, value_of};
@@ -109,7 +109,7 @@ fn context_fields<'s>(system: &'s System, context: ContextId, unused: Option<u64
     ]
 }
 
-/// Appends the line of a thread's figures as text. After a refusal the text is as it was.
+/// Appends the line of a thread's figures as text. If memory runs out the text is unchanged.
 fn put_thread(
     text: &mut Vec<u8>,
     system: &System,
@@ -128,7 +128,7 @@ fn put_thread(
     )
 }
 
-/// Appends the line of a context's figure as text. After a refusal the text is as it was.
+/// Appends the line of a context's figure as text. If memory runs out the text is unchanged.
 fn put_context(
     text: &mut Vec<u8>,
     system: &System,
@@ -164,7 +164,7 @@ fn put_thread_as(
     }
 }
 
-/// CSV has no lines of contexts.
+/// Appends the line of a context's figure; CSV has no lines of contexts.
 fn put_context_as(
     alloc: Global,
     text: &mut Vec<u8>,
@@ -249,7 +249,7 @@ fn put_contexts(
     Ok(())
 }
 
-/// Puts the lines of the figures behind the text: those of the threads, and then those of the contexts.
+/// Appends the lines of the figures: those of the threads, then those of the contexts.
 pub(crate) fn put_table(
     alloc: Global,
     text: &mut Vec<u8>,

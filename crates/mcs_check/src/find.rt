@@ -1,4 +1,4 @@
-//! What is found in the rows of a system's schedule, and the lines of it.
+//! The findings in the rows of a system's schedule, and their lines.
 ghost use Rattle.std.specs.Prelude.{◌≡◌, [], List, None, false, IfErr, IfOk, OnOk};
 ghost use Rattle.std.specs.Arc.{arc_value};
 ghost use Rattle.mcs_ticks.specs.declared.row.Row.{Row as TheRow};
@@ -34,7 +34,8 @@ use std::alloc::Global;
 use std::sync::{Arc, Wait};
 use std::thread::Threads;
 
-/// Finds what the rows of a system's schedule tell, and writes the lines of what is shown of them as they come, but for the last ones.
+/// Finds what is to be shown of a system's schedule and writes its lines as the rows come. The last
+/// lines are returned, not yet written.
 pub(crate) fn find_rows<'s, H: Threads + Wait + Sync, T: Target, P: Progress>(
     machine: &Machine<'_, H>,
     target: &mut T,
@@ -56,7 +57,7 @@ pub(crate) fn find_rows<'s, H: Threads + Wait + Sync, T: Target, P: Progress>(
     }
 }
 
-/// The same where findings are shown: each core looks at its rows itself, and none is kept.
+/// `find_rows` if only findings are shown: each core looks at its rows itself, and no row is kept.
 fn find_by_core<'s, T: Target, P: Progress>(
     alloc: Global,
     target: &mut T,
@@ -91,7 +92,7 @@ fn find_by_core<'s, T: Target, P: Progress>(
     }
 }
 
-/// The same whatever is shown: the rows of all cores are put in their order.
+/// `find_rows` whatever is shown: the rows of all cores are merged into one order.
 fn find_merged<'s, H: Threads + Wait + Sync, T: Target, P: Progress>(
     machine: &Machine<'_, H>,
     target: &mut T,
@@ -112,7 +113,7 @@ fn find_merged<'s, H: Threads + Wait + Sync, T: Target, P: Progress>(
     all_found(machine.alloc, system, options.horizon, seen)
 }
 
-/// What is seen of the rows of any system, which are put in their order and then looked at, whatever is shown.
+/// Watches the merged rows of a system, whatever is shown.
 fn find_in_rows<'s, H: Threads + Wait + Sync, T: Target, P: Progress>(
     machine: &Machine<'_, H>,
     target: &mut T,
@@ -147,7 +148,7 @@ fn find_in_rows<'s, H: Threads + Wait + Sync, T: Target, P: Progress>(
     }
 }
 
-/// What is kept before the first row.
+/// The state before the first row.
 fn nothing_seen(alloc: Global, system: &System, options: &Options) -> Result<Seen, NoMemory>
     ensures { IfOk result (λ seen. (seen.watch ≡ watch_of system.now []) × (seen.counts ≡ no_counts)
         × (seen.table ≡ kept_table options.now.show system.now options.now.horizon [])
@@ -161,7 +162,7 @@ fn nothing_seen(alloc: Global, system: &System, options: &Options) -> Result<See
     })
 }
 
-/// What was found of all rows by the cores, with the lines that are not written yet.
+/// The findings of all rows by core, with the lines that are not written yet.
 fn found_with(found: FoundByCore, text: Vec<u8>) -> AllFound
     ensures { result ≡ record { counts = found.counts; unended = found.unended; kept = None; text = text } }
 {
@@ -174,7 +175,7 @@ fn found_with(found: FoundByCore, text: Vec<u8>) -> AllFound
     }
 }
 
-/// What was found of all rows, of which this was seen. The only fault is that there is no memory.
+/// The findings of all rows that were seen. The only fault is that memory runs out.
 fn all_found(
     alloc: Global,
     system: &System,
@@ -206,7 +207,7 @@ fn all_found(
     })
 }
 
-/// What is kept for figures, where a table is kept.
+/// The state kept for figures, if there is a table.
 fn kept_with(watch: Watch, table: Option<Table>) -> Option<Kept>
     ensures { result ≡ kept_with watch table }
 {
@@ -216,7 +217,7 @@ fn kept_with(watch: Watch, table: Option<Table>) -> Option<Kept>
     }
 }
 
-/// What is kept for figures before the first row, where they are asked for.
+/// The table before the first row, if figures are asked for.
 fn table_for(
     alloc: Global,
     show: Show,
@@ -231,7 +232,7 @@ fn table_for(
     }
 }
 
-/// The first line, where the format has one.
+/// The first line, if the format has one.
 fn head(alloc: Global, options: &Options) -> Result<Vec<u8>, NoMemory>
     ensures { IfOk result (λ text. text.items ≡ head_text options.now.format options.now.show) }
 {
@@ -240,7 +241,7 @@ fn head(alloc: Global, options: &Options) -> Result<Vec<u8>, NoMemory>
     Ok(text)
 }
 
-/// Why a line was refused.
+/// Why a line was refused: memory ran out, or the target failed.
 pub(crate) fn refusal(is_out_of_memory: bool) -> RunFault
     ensures { result ≡ refusal is_out_of_memory }
 {

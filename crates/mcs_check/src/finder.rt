@@ -1,4 +1,4 @@
-//! The sink that finds what the rows of a schedule tell, and writes the lines of what is shown of them.
+//! The sink that finds what is to be shown of a schedule, and writes its lines.
 ghost use Rattle.std.specs.Prelude.{◌≡◌, ◌∷◌, ℕ, List, true, false, is_ok, OnOk, OnErr};
 ghost use Rattle.mcs_ticks.specs.declared.row.Row.{Row as TheRow};
 ghost use Rattle.mcs_verdict.specs.Findings.{UpTo};
@@ -17,17 +17,17 @@ use mcs_system::System;
 use mcs_ticks::{Refused, Row, Sink};
 use std::alloc::Global;
 
-/// Lines are written in pieces of at most this many bytes and one line more.
+/// Maximum bytes of a piece of lines that is written at once; its last line may exceed it.
 const FULL: usize = 65_536;
 
-/// A target for lines: the first one is written at once, and later ones in pieces that grow.
+/// A target for lines. The first line is written at once, later ones in pieces that grow.
 #[derive(Drop)]
 pub(crate) struct Lines<'t, T: Target> {
     alloc: Global,
     pub(crate) target: &'t mut T,
-    /// So many bytes of lines are written, 1 to those of a full piece.
+    /// Bytes of lines that wait before they are written: from 1, doubled up to `FULL`.
     limit: usize,
-    /// Whether a line was refused since there was no memory for it, and not by the target.
+    /// Whether the last line was refused because memory ran out, not by the target.
     pub(crate) is_out_of_memory: bool,
 }
 
@@ -44,7 +44,7 @@ impl<'t, T: Target> Lines<'t, T> {
         }
     }
 
-    /// One line more, behind a text that waits.
+    /// Appends one more line to the waiting text, and writes that when it is long enough.
     pub(crate) fn put<P: Progress>(
         &mut self,
         text: &mut Vec<u8>,
@@ -78,18 +78,18 @@ impl<'t, T: Target> Lines<'t, T> {
     }
 }
 
-/// Looks at each row as it comes, and tells what is shown of it.
+/// A sink that looks at each row as it comes and writes what is shown of it.
 #[derive(Drop)]
 pub(crate) struct Finder<'t, 's, 'k, 'p, T: Target, P: Progress> {
     pub(crate) lines: Lines<'t, T>,
     show: Show,
     format: Format,
     system: &'s System,
-    /// Of each notification whether lost signals are allowed.
+    /// For each notification, whether lost signals are allowed.
     allowed: &'s [bool],
     seen: &'k mut Seen,
     pub(crate) progress: &'p mut P,
-    /// The rows since it was last told how far the run is.
+    /// Rows since the progress was last reported.
     rows: u32,
 }
 
@@ -122,7 +122,7 @@ impl<'t, 's, 'k, 'p, T: Target, P: Progress> Finder<'t, 's, 'k, 'p, T, P> {
         }
     }
 
-    /// Tells now and then how far the run is.
+    /// Reports the progress now and then.
     #[inline(always)]
     fn pass(&mut self, row: &Row)
         ensures lines { self.new.lines ≡ self.old.lines }

@@ -1,4 +1,5 @@
-//! The lines of what is shown, in each format.
+//! The lines of what is shown, in each format. If memory runs out, a call leaves the text
+//! unchanged.
 ghost use Rattle.std.specs.Prelude.{◌≡◌, ◌++◌, OnOk, OnErr};
 ghost use Rattle.mcs_fields.specs.Fields.{object_text};
 ghost use Rattle.mcs_check.specs.Fields.{hint_fields};
@@ -85,14 +86,14 @@ static TABLE: [&str; 26] = [
     "ticks_done",
 ];
 
-/// Whether rows of two kinds are asked for.
+/// Whether rows of two kinds are asked for as CSV.
 pub(crate) fn is_mixed(format: Format, show: Show) -> bool
     ensures { result ≡ is_mixed format show }
 {
     matches!((format, show), (Format::Csv, Show::Both))
 }
 
-/// Appends the first line of CSV; other formats have none. After a refusal the text is as it was.
+/// Appends the first line of CSV; other formats have none.
 pub(crate) fn put_head(text: &mut Vec<u8>, format: Format, show: Show) -> Result<(), NoMemory>
     ensures ok { OnOk result (text.new.items ≡ text.old.items ++ head_text format show) }
     ensures err { OnErr result (text.new.items ≡ text.old.items) }
@@ -106,7 +107,7 @@ pub(crate) fn put_head(text: &mut Vec<u8>, format: Format, show: Show) -> Result
     }
 }
 
-/// Appends the line of what is shown. After a refusal the text is as it was.
+/// Appends the line of what is shown.
 pub(crate) fn put_shown(
     alloc: Global,
     text: &mut Vec<u8>,
@@ -124,7 +125,7 @@ pub(crate) fn put_shown(
     }
 }
 
-/// Appends the line of a finding. After a refusal the text is as it was.
+/// Appends the line of a finding.
 pub(crate) fn put_found_as(
     alloc: Global,
     text: &mut Vec<u8>,
@@ -142,7 +143,7 @@ pub(crate) fn put_found_as(
     }
 }
 
-/// Appends the line of a round that ended. After a refusal the text is as it was.
+/// Appends the line of a job.
 fn put_job_as(
     alloc: Global,
     text: &mut Vec<u8>,
@@ -160,7 +161,7 @@ fn put_job_as(
     }
 }
 
-/// Appends the line of a row of the schedule. After a refusal the text is as it was.
+/// Appends the line of a row of the schedule.
 fn put_row_as(
     alloc: Global,
     text: &mut Vec<u8>,
@@ -178,7 +179,7 @@ fn put_row_as(
     }
 }
 
-/// Appends the line of a hint; CSV has none. After a refusal the text is as it was.
+/// Appends the line of a hint; CSV has none.
 pub(crate) fn put_hint_as(
     alloc: Global,
     text: &mut Vec<u8>,
@@ -226,7 +227,7 @@ fn put_hint_object(
     }
 }
 
-/// Appends the line of counts; CSV has none. After a refusal the text is as it was.
+/// Appends the line of the counts; CSV has none.
 pub(crate) fn put_counts_as(
     alloc: Global,
     text: &mut Vec<u8>,

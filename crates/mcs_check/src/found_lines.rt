@@ -1,4 +1,4 @@
-//! Lines of findings on their way to a target.
+//! The lines of findings on their way to a target.
 ghost use Rattle.std.specs.Prelude.{◌≡◌, is_ok};
 ghost use Rattle.mcs_check.specs.Formats.{found_line};
 ghost use Rattle.mcs_check.specs.stored.Pages.{founds_text, PutsLines};
@@ -12,7 +12,7 @@ use mcs_system::System;
 use mcs_ticks::Refused;
 use mcs_verdict::Found;
 
-/// Lines of what is found in a system, of which the last ones wait.
+/// Lines of findings for a target. The last lines wait.
 #[derive(Drop)]
 pub(crate) struct FoundLines<'t, 'k, 's, 'p, T: Target, P: Progress> {
     pub(crate) lines: Lines<'t, T>,
@@ -24,7 +24,7 @@ pub(crate) struct FoundLines<'t, 'k, 's, 'p, T: Target, P: Progress> {
 }
 
 impl<T: Target, P: Progress> FoundLines<'_, '_, '_, '_, T, P> {
-    /// Puts the lines of what was found behind those that wait, one after another.
+    /// Adds the lines of these findings, one after another.
     pub(crate) fn put(&mut self, found: &[Found]) -> Result<(), Refused>
         ensures { PutsLines T.contents T.has_failed self.old (founds_text self.old.format self.old.system.now found.now) (is_ok result) self.new }
     {
@@ -34,7 +34,7 @@ impl<T: Target, P: Progress> FoundLines<'_, '_, '_, '_, T, P> {
         Ok(())
     }
 
-    /// Puts the line of a finding behind those that wait.
+    /// Adds the line of one finding.
     fn put_one(&mut self, found: &Found) -> Result<(), Refused>
         ensures { PutsLines T.contents T.has_failed self.old (found_line self.old.format self.old.system.now found.now) (is_ok result) self.new }
     {

@@ -1,4 +1,5 @@
-//! The check of a system: what is found in its schedule, as lines, from the bytes read to the bytes written.
+//! The check of a system, from the bytes read to the lines written: findings, jobs, figures, or why
+//! a round took so long.
 #![tactic(auto)]
 
 mod all_found;

@@ -1,4 +1,4 @@
-//! The lines of what is found, and of counts.
+//! The lines of findings, jobs, counts and hints, as text.
 ghost use Rattle.std.specs.Prelude.{◌≡◌, ◌≤◌, ◌+◌, ◌++◌, ◌∷◌, [], OnOk, OnErr, decimal, length, take};
 ghost use Rattle.std.specs.Io.{StartsWith};
 ghost use Rattle.mcs_system.specs.System.{core_of, thread_part};
@@ -16,12 +16,12 @@ use mcs_text::{
 use mcs_ticks::{ContextId, CoreId, NoMemory, ThreadId, Tick};
 use mcs_verdict::{Finding, Found, Job, Stood};
 
-/// Bytes with room for the longest line of a finding, which has twelve numbers of 20 digits, a name of 32 bytes, and its words, spaces and line
-/// feed.
+/// Bytes of the longest line of a finding: twelve numbers of 20 digits, a name of 32 bytes, its
+/// words, spaces and line feed.
 const FOUND: usize = 354;
 
-/// Appends the line of a finding: `<moment> <core>` and what was found, with the names that the system has. After a refusal the text is
-/// as it was.
+/// Appends the line of a finding: `<moment> <core>` and the finding, with the system's names. If
+/// memory runs out the text is unchanged.
 pub fn put_found(text: &mut Vec<u8>, system: &System, found: &Found) -> Result<(), NoMemory>
     ensures ok { OnOk result (text.new.items ≡ text.old.items ++ found_text system.now found.now) }
     ensures err { OnErr result (text.new.items ≡ text.old.items) }
@@ -32,7 +32,7 @@ pub fn put_found(text: &mut Vec<u8>, system: &System, found: &Found) -> Result<(
     Ok(())
 }
 
-/// Writes the line of a finding, and answers where it ends.
+/// Writes the line of a finding and returns its end.
 fn write_found(line: &mut [u8], system: &System, found: &Found) -> usize
     requires { 354 ≤ length line.old }
     ensures short { result ≤ 354 }
@@ -45,7 +45,7 @@ fn write_found(line: &mut [u8], system: &System, found: &Found) -> usize
     end + 1
 }
 
-/// Appends a number, with no space before it.
+/// Appends a number, without a space before it.
 fn append_digits(text: &mut Vec<u8>, number: u64) -> Result<(), NoMemory>
     ensures ok { OnOk result (text.new.items ≡ text.old.items ++ decimal number) }
     ensures kept { StartsWith text.new.items text.old.items }
@@ -55,7 +55,7 @@ fn append_digits(text: &mut Vec<u8>, number: u64) -> Result<(), NoMemory>
     Ok(())
 }
 
-/// Writes what was found.
+/// Writes a finding from `at` on, without its time and core, and returns its end.
 fn write_finding(line: &mut [u8], at: usize, system: &System, finding: &Finding) -> usize
     requires { at + 312 ≤ length line.old }
     ensures short { result ≤ at + 312 }
@@ -127,7 +127,7 @@ fn write_late(
     write_ways(line, third, stood)
 }
 
-/// Writes how long a thread stood in each way.
+/// Writes the ticks in which a thread stood in each way.
 #[inline(always)]
 fn write_ways(line: &mut [u8], at: usize, stood: &Stood) -> usize
     requires { at + 143 ≤ length line.old }
@@ -141,7 +141,7 @@ fn write_ways(line: &mut [u8], at: usize, stood: &Stood) -> usize
     write_counted(line, woken, "woken", stood.woken)
 }
 
-/// Appends a word and a name.
+/// Appends a word and a name, each after a space.
 fn append_named(text: &mut Vec<u8>, word: &str, name: &str) -> Result<(), NoMemory>
     ensures ok { OnOk result (text.new.items ≡ text.old.items ++ after (word.now ∷ name.now ∷ [])) }
     ensures kept { StartsWith text.new.items text.old.items }
@@ -150,8 +150,8 @@ fn append_named(text: &mut Vec<u8>, word: &str, name: &str) -> Result<(), NoMemo
     append_word(text, name)
 }
 
-/// Appends the line of a job: `<moment> <core>` and what the round was, with the name that the system has. After a refusal the text is as
-/// it was.
+/// Appends the line of a job: `<moment> <core>` and the round, with its thread's name. If memory
+/// runs out the text is unchanged.
 pub fn put_job(text: &mut Vec<u8>, system: &System, job: &Job) -> Result<(), NoMemory>
     ensures ok { OnOk result (text.new.items ≡ text.old.items ++ job_text system.now job.now) }
     ensures err { OnErr result (text.new.items ≡ text.old.items) }
@@ -175,7 +175,7 @@ fn append_job(text: &mut Vec<u8>, system: &System, job: &Job) -> Result<(), NoMe
     Ok(())
 }
 
-/// The core of a thread, or where the system has no such thread that of its first context.
+/// The core of a thread; that of the first context if the system has no such thread.
 pub(crate) fn core_of(system: &System, thread: ThreadId) -> CoreId
     ensures { result ≡ core_of system.now (thread_part system.now thread) }
 {
@@ -187,7 +187,7 @@ pub(crate) fn core_of(system: &System, thread: ThreadId) -> CoreId
     parts.core_of_context(context)
 }
 
-/// Appends what a round was.
+/// Appends a job, without its time and core.
 fn append_round(text: &mut Vec<u8>, system: &System, job: &Job) -> Result<(), NoMemory>
     ensures ok { OnOk result (text.new.items ≡ text.old.items ++ after (job_words system.now job.now)) }
     ensures kept { StartsWith text.new.items text.old.items }
@@ -197,7 +197,7 @@ fn append_round(text: &mut Vec<u8>, system: &System, job: &Job) -> Result<(), No
     append_times(text, job)
 }
 
-/// Appends when a round was activated and when it began, its response and its parts.
+/// Appends the times of a job, its response and its parts.
 fn append_times(text: &mut Vec<u8>, job: &Job) -> Result<(), NoMemory>
     ensures ok { OnOk result (text.new.items ≡ text.old.items ++ after (job_times job.now)) }
     ensures kept { StartsWith text.new.items text.old.items }
@@ -225,7 +225,7 @@ fn append_times(text: &mut Vec<u8>, job: &Job) -> Result<(), NoMemory>
     append_counts(text, &numbers)
 }
 
-/// Appends the line of counts. After a refusal the text is as it was.
+/// Appends the line of the counts. If memory runs out the text is unchanged.
 pub fn put_counts(text: &mut Vec<u8>, counts: &Counts) -> Result<(), NoMemory>
     ensures ok { OnOk result (text.new.items ≡ text.old.items ++ counts_text counts.now) }
     ensures err { OnErr result (text.new.items ≡ text.old.items) }
@@ -257,7 +257,7 @@ fn append_totals(text: &mut Vec<u8>, counts: &Counts) -> Result<(), NoMemory>
     Ok(())
 }
 
-/// Appends the line of a hint. After a refusal the text is as it was.
+/// Appends the line of a hint. If memory runs out the text is unchanged.
 pub fn put_hint(text: &mut Vec<u8>, system: &System, hint: &Hint) -> Result<(), NoMemory>
     ensures ok { OnOk result (text.new.items ≡ text.old.items ++ hint_text system.now hint.now) }
     ensures err { OnErr result (text.new.items ≡ text.old.items) }
@@ -280,7 +280,7 @@ fn append_hint(text: &mut Vec<u8>, system: &System, hint: &Hint) -> Result<(), N
     Ok(())
 }
 
-/// Appends what the hint is of, and what it says.
+/// Appends a hint: its subject and its reason.
 fn append_reason(text: &mut Vec<u8>, system: &System, hint: &Hint) -> Result<(), NoMemory>
     ensures ok { OnOk result (text.new.items ≡ text.old.items ++ after (hint_words system.now hint.now)) }
     ensures kept { StartsWith text.new.items text.old.items }

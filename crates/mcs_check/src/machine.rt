@@ -1,8 +1,8 @@
-//! What runs take of the machine.
+//! The machine that runs use.
 
 use std::alloc::Global;
 
-/// Threads, and memory.
+/// The runtime for threads, and the allocator.
 #[derive(Drop)]
 pub(crate) struct Machine<'a, H> {
     pub(crate) rt: &'a H,

@@ -1,4 +1,4 @@
-//! Lines of named values, each value behind its name.
+//! Lines of named values, each value after its name.
 ghost use Rattle.std.specs.Prelude.{◌≡◌, ◌++◌, ◌∷◌, ◌≤◌, OnOk, OnErr, drop, length, map};
 ghost use Rattle.std.specs.Io.{StartsWith};
 ghost use Rattle.mcs_fields.specs.Fields.{field_of, value_of};
@@ -9,7 +9,7 @@ use mcs_fields::{Cell, Field, append_below};
 use mcs_text::{append_number, append_word};
 use mcs_ticks::NoMemory;
 
-/// Appends a value behind a space, and `-` where there is none.
+/// Appends a value after a space; `-` if it is empty.
 fn append_value(text: &mut Vec<u8>, cell: &Cell<'_>) -> Result<(), NoMemory>
     ensures ok { OnOk result (text.new.items ≡ text.old.items ++ 32 ∷ value_word (value_of cell.now)) }
     ensures kept { StartsWith text.new.items text.old.items }
@@ -25,7 +25,7 @@ fn append_value(text: &mut Vec<u8>, cell: &Cell<'_>) -> Result<(), NoMemory>
     }
 }
 
-/// Appends each value behind what it is called.
+/// Appends each name and its value.
 fn append_pairs(text: &mut Vec<u8>, fields: &[Field<'_>]) -> Result<(), NoMemory>
     ensures ok { OnOk result (text.new.items ≡ text.old.items ++ after (pair_words (map field_of fields.now))) }
     ensures kept { StartsWith text.new.items text.old.items }
@@ -53,7 +53,7 @@ fn append_line(
     Ok(())
 }
 
-/// Appends a line of figures behind a word and a name. After a refusal the text is as it was.
+/// Appends a line: a word, a name, and named values. If memory runs out the text is unchanged.
 pub(crate) fn put_line(
     text: &mut Vec<u8>,
     word: &str,
@@ -71,7 +71,7 @@ pub(crate) fn put_line(
     result
 }
 
-/// The values behind the first two.
+/// The values after the first two.
 pub(crate) fn behind_two<'a, 's>(fields: &'a [Field<'s>]) -> &'a [Field<'s>]
     requires { 2 ≤ length fields.now }
     ensures { map field_of result.now ≡ drop 2 (map field_of fields.now) }

@@ -1,18 +1,18 @@
 use mcs_ticks::{Row, Tick};
 
-/// How many rows pass before it is told again how far a run is.
+/// Rows between two reports of the progress.
 const STRIDE: u32 = 4_096;
 
-/// What is told how far a run is, now and then.
+/// A receiver of reports on how far a run is.
 pub trait Progress {
-    /// All that happened before this moment was looked at.
+    /// Called now and then: all rows before `moment` were seen.
     fn passed(&mut self, moment: Tick);
 
-    /// What was shown has to go, since lines are written next, or the run has ended, well or not.
+    /// Called before lines are written, and at the end of the run: the display must be cleared.
     fn wipe(&mut self);
 }
 
-/// No one is told.
+/// A progress that shows nothing.
 #[derive(Clone, Copy, Debug, Drop)]
 pub struct Quiet;
 
@@ -22,7 +22,7 @@ impl Progress for Quiet {
     fn wipe(&mut self) {}
 }
 
-/// One row more goes by, of so many since it was last told how far the run is.
+/// Counts one more row, and reports the progress after every `STRIDE` rows.
 #[inline(always)]
 pub(crate) fn pass<P: Progress>(progress: &mut P, rows: &mut u32, row: &Row) {
     *rows = rows.saturating_add(1);
@@ -32,7 +32,7 @@ pub(crate) fn pass<P: Progress>(progress: &mut P, rows: &mut u32, row: &Row) {
     }
 }
 
-/// All before this moment was looked at, in a run up to this horizon. At the end of the run nothing is told.
+/// Reports that all rows before `reached` were seen, unless that is the end of the run.
 pub(crate) fn pass_round<P: Progress>(progress: &mut P, reached: Tick, horizon: Tick) {
     if reached <= horizon {
         progress.passed(reached);

@@ -1,4 +1,4 @@
-//! The lines of a round that is asked about: from when to when its rows tell, and who ran meanwhile.
+//! The account of a round that `--why` asks about: its times, and who ran meanwhile.
 ghost use Rattle.std.specs.Prelude.{◌≡◌, ◌++◌, ◌∷◌, [], ℕ, List, OnOk, codes, decimal, length, map};
 ghost use Rattle.mcs_ticks.specs.declared.row.Row.{Row as TheRow};
 ghost use Rattle.mcs_fields.specs.Fields.{field_of, value_of};
@@ -79,7 +79,7 @@ fn idle_fields(ticks: u64) -> [Field<'static>; 2]
     [("kind", Cell::Name("idle")), ("ticks", Cell::Number(ticks))]
 }
 
-/// Appends what is told of the round, as text.
+/// Appends the line of the round's times, as text.
 fn put_span_words(text: &mut Vec<u8>, system: &System, span: &Span) -> Result<(), NoMemory>
     ensures { OnOk result (text.new.items ≡ text.old.items ++ span_text system.now span.now) }
 {
@@ -92,7 +92,7 @@ fn put_span_words(text: &mut Vec<u8>, system: &System, span: &Span) -> Result<()
     )
 }
 
-/// Appends what is told of the round.
+/// Appends the line of the round's times.
 fn put_span(
     alloc: Global,
     text: &mut Vec<u8>,
@@ -128,7 +128,7 @@ fn append_idle(text: &mut Vec<u8>, ticks: u64) -> Result<(), NoMemory>
     Ok(())
 }
 
-/// Appends how long a thread ran.
+/// Appends the line of how long a thread ran.
 fn put_told_ran(
     alloc: Global,
     text: &mut Vec<u8>,
@@ -146,7 +146,7 @@ fn put_told_ran(
     }
 }
 
-/// The same, and nothing, where it did not run.
+/// Appends the line of how long a thread ran, if it ran at all.
 fn put_ran(
     alloc: Global,
     text: &mut Vec<u8>,
@@ -163,7 +163,7 @@ fn put_ran(
     put_told_ran(alloc, text, format, system, thread, ticks)
 }
 
-/// Appends for how long the core was idle.
+/// Appends the line of how long the core was idle.
 fn put_idle(alloc: Global, text: &mut Vec<u8>, format: Format, ticks: u64) -> Result<(), NoMemory>
     ensures { OnOk result (text.new.items ≡ text.old.items ++ idle_line format ticks) }
 {
@@ -193,7 +193,7 @@ fn put_threads(
     Ok(())
 }
 
-/// Appends what is told of the round, how long each thread ran meanwhile, and for how long the core was idle.
+/// Appends the round's times, how long each thread ran meanwhile, and how long the core was idle.
 pub(crate) fn put_account(
     alloc: Global,
     text: &mut Vec<u8>,

@@ -1,4 +1,4 @@
-//! What is told after the last row.
+//! The lines after the last row.
 ghost use Rattle.std.specs.Prelude.{◌≡◌, ◌++◌, List, length, flat_map, IfSome, OnOk};
 ghost use Rattle.mcs_ticks.specs.declared.row.Row.{Row as TheRow};
 ghost use Rattle.mcs_verdict.specs.Findings.{UpTo};
@@ -21,8 +21,8 @@ use mcs_ticks::NoMemory;
 use mcs_verdict::Found;
 use std::alloc::Global;
 
-/// Puts what is shown after the last row behind the text, and then the counts: where findings are, those at the horizon and hints, and the
-/// figures where they are asked for.
+/// Appends the lines after the last row, and then the counts. Findings are followed by those at the
+/// horizon and the hints, and the figures come if they are asked for.
 pub(crate) fn put_rest(
     alloc: Global,
     options: &Options,
@@ -52,7 +52,7 @@ pub(crate) fn put_rest(
     put_counts_as(alloc, &mut all.text, options.format, &all.counts)
 }
 
-/// Puts the lines of the figures behind the text, where they are kept.
+/// Appends the lines of the figures, if they are kept.
 fn put_tabled(
     alloc: Global,
     options: &Options,
@@ -73,14 +73,14 @@ fn put_tabled(
     }
 }
 
-/// What was found at the horizon, and hints.
+/// The findings at the horizon, and the hints.
 #[derive(Clone, Copy)]
 struct Ends<'a> {
     found: &'a [Found],
     hints: &'a [Hint],
 }
 
-/// Puts what is shown of these ends behind the text.
+/// Appends the findings at the horizon and the hints, if findings are shown.
 fn put_ends(
     alloc: Global,
     options: &Options,
@@ -102,7 +102,7 @@ fn put_ends(
     }
 }
 
-/// Puts the lines of what was found behind the text.
+/// Appends the lines of these findings, without allowed lost signals.
 fn put_all(
     alloc: Global,
     text: &mut Vec<u8>,
@@ -121,7 +121,7 @@ fn put_all(
     Ok(())
 }
 
-/// Counts what was found.
+/// Counts these findings.
 fn count_all(counts: &mut Counts, allowed: &[bool], all: &[Found])
     ensures { counts.new ≡ counts_found allowed.now all.now counts.old }
 {
@@ -130,7 +130,7 @@ fn count_all(counts: &mut Counts, allowed: &[bool], all: &[Found])
     }
 }
 
-/// Puts the lines of hints behind the text.
+/// Appends the lines of the hints.
 fn put_hints(
     alloc: Global,
     text: &mut Vec<u8>,

@@ -1,4 +1,4 @@
-//! Rounds of the cores of a system, in which each looks at its own rows.
+//! Rounds of the cores of a system: in each, every core looks at its own rows.
 ghost use Rattle.std.specs.Prelude.{◌≡◌, ◌⊎◌, ◌+◌, ◌-◌, ◌++◌, ◌<◌, ◌≤◌, ◌^◌, ℕ, List, Bool, map, min, Some, IfOk, OnOk};
 ghost use Rattle.std.specs.Arc.{arc_value};
 ghost use Rattle.std.specs.Ordering.{nat_cmp};
@@ -26,17 +26,17 @@ use std::sync::Arc;
 #[derive(Drop)]
 pub(crate) struct Cores {
     pub(crate) desk: Desk<Nothing>,
-    /// What each core keeps of its rows.
+    /// The state that each core keeps of its rows.
     pub(crate) watches: Vec<CoreWatch>,
-    /// The least of their clocks: all that was found before it is told.
+    /// The minimum of their clocks: all findings before it are passed on.
     pub(crate) reached: Tick,
-    /// What was found before it in the last round.
+    /// The findings of the last round before that time.
     pub(crate) found: Vec<Found>,
-    /// How many rows there were, at most `usize::MAX`.
+    /// The number of rows so far, at most `usize::MAX`.
     pub(crate) rows: usize,
 }
 
-/// All cores at moment 0, for a run up to this horizon.
+/// All cores at time 0, for a run up to `horizon`.
 pub(crate) fn opening_cores(
     alloc: Global,
     system: &Arc<System>,
@@ -60,28 +60,28 @@ pub(crate) fn opening_cores(
     })
 }
 
-/// What is the same for all cores in a round.
+/// The values that all cores share in a round.
 #[derive(Drop)]
 struct Round<'a, 's, B: Sought> {
     alloc: Global,
     system: &'s System,
-    /// Of each notification whether lost signals are allowed.
+    /// For each notification, whether lost signals are allowed.
     allowed: &'a [bool],
-    /// All that was found before this moment is told.
+    /// The time before which all findings were passed on by earlier rounds.
     from: Tick,
     of: PhantomData<B>,
     ghost ours: { (system.now ≡ B.system) × (allowed.now ≡ B.allowed) × (from ≡ B.from) },
 }
 
 impl<'a, B: Sought> Round<'a, '_, B> {
-    /// What a core tells its rows to from now on, which goes on where what it is given has stopped.
+    /// A finder of a core that continues from `own`.
     fn finder(&self, own: Option<CoreWatch>) -> CoreFinder<'a, B>
         ensures { result.own ≡ own }
     {
         CoreFinder::<B>::new(own, self.allowed, self.from)
     }
 
-    /// The same for each core.
+    /// A finder of each core.
     fn finders(&self, watches: Vec<CoreWatch>) -> Result<Vec<CoreFinder<'a, B>>, NoMemory>
         ensures { IfOk result (λ finders. map (λ finder. finder.own) finders.items ≡ map (λ own. Some own) watches.items) }
     {
@@ -93,7 +93,8 @@ impl<'a, B: Sought> Round<'a, '_, B> {
     }
 }
 
-/// What a core keeps of its rows. Where its finder was closed it has had none.
+/// The state that a core keeps of its rows; an empty one if its finder is closed, since then it had
+/// no row.
 fn opened(alloc: Global, system: &System, own: Option<CoreWatch>) -> Result<CoreWatch, NoMemory>
     ensures { (allowed : List Bool) (from : ℕ) (rows : List TheRow) → HoldsOwn system.now allowed from own rows
         → IfOk result (λ watch. HoldsOwn system.now allowed from (Some watch) rows) }
@@ -104,7 +105,7 @@ fn opened(alloc: Global, system: &System, own: Option<CoreWatch>) -> Result<Core
     }
 }
 
-/// The least clock of a desk.
+/// The minimum of a desk's clocks, or the end of the run if the desk has no core.
 fn least_clock<S: Collector>(desk: &Desk<S>) -> Tick
     ensures least { (c : ℕ) → c < desk.now.system.cores → result ≤ clock_of desk.now c }
     ensures most { (c : ℕ) → c < desk.now.system.cores → clock_of desk.now c ≤ desk.now.horizon + 1 }
@@ -118,7 +119,7 @@ fn least_clock<S: Collector>(desk: &Desk<S>) -> Tick
     least
 }
 
-/// Takes out what a core keeps of its rows, and puts what was found in them before a moment behind what is told.
+/// Takes out the state of a core, and appends its findings before `reached` to `found`.
 fn take_watch<'a, B: Sought>(
     round: &Round<'a, '_, B>,
     desk: &mut Desk<CoreFinder<'a, B>>,
@@ -141,7 +142,7 @@ fn take_watch<'a, B: Sought>(
     Ok(own)
 }
 
-/// Takes out what each core keeps of its rows, and of what was found in them what is of a moment before all clocks.
+/// Takes out the state of each core, and the findings before the minimum of all clocks.
 fn take_out<'a, B: Sought>(
     round: &Round<'a, '_, B>,
     mut desk: Desk<CoreFinder<'a, B>>,
@@ -173,7 +174,7 @@ fn take_out<'a, B: Sought>(
     })
 }
 
-/// Puts findings in the order of their moments. Those of one moment stay as they stand.
+/// Sorts findings by time. Findings of one time keep their order.
 fn put_in_order(found: &mut Vec<Found>) -> Result<(), NoMemory>
     ensures in_order { OnOk result (IsSortedByKey (λ f. f.moment) nat_cmp found.new.items) }
     ensures stable { OnOk result (IsStableByKey (λ f. f.moment) nat_cmp found.old.items found.new.items) }
@@ -182,8 +183,8 @@ fn put_in_order(found: &mut Vec<Found>) -> Result<(), NoMemory>
     Ok(())
 }
 
-/// One round of all cores, after which at least so many rows were looked at in all, or all rows. What is found in it before all clocks is in the
-/// order of the schedule.
+/// Runs one round of all cores. It ends when at least `enough` rows were seen in all, or all rows.
+/// Its findings before the minimum of all clocks are in the order of the schedule.
 pub(crate) fn take_round<B: Sought>(
     alloc: Global,
     system: &System,

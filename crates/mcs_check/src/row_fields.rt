@@ -1,4 +1,4 @@
-//! A row of a schedule, as named values.
+//! A row of a schedule as named values.
 ghost use Rattle.std.specs.Prelude.{◌≡◌, if◌then◌else◌, map};
 ghost use Rattle.mcs_system.specs.System.{is_server as is_a_server};
 ghost use Rattle.mcs_fields.specs.Fields.{field_of, value_of};
@@ -10,7 +10,7 @@ use mcs_system::System;
 use mcs_text::{context_name, is_server, note_name, source_name, thread_name};
 use mcs_ticks::{NoteId, Row, What, Why};
 
-/// A row: what it tells, in the order of its line.
+/// The values of a row, in the order of its line.
 pub(crate) fn row_fields<'s>(system: &'s System, row: &Row) -> [Field<'s>; 16]
     ensures { map field_of result ≡ row_fields system.now row.now }
 {
@@ -53,7 +53,7 @@ fn kind(system: &System, what: &What) -> &'static str
     }
 }
 
-/// What a row at a note is called, by what it is called at a server, and at a notification.
+/// The kind of a row that differs between servers and notifications.
 fn kind_at(
     system: &System,
     note: NoteId,
@@ -69,7 +69,7 @@ fn kind_at(
     }
 }
 
-/// What stands only where a note is a server.
+/// A value that only servers have.
 fn of_server<'s>(system: &System, note: NoteId, cell: Cell<'s>) -> Cell<'s>
     ensures { value_of result ≡ of_server system.now note (value_of cell.entry) }
 {
@@ -80,7 +80,7 @@ fn of_server<'s>(system: &System, note: NoteId, cell: Cell<'s>) -> Cell<'s>
     }
 }
 
-/// What stands only where a note is a notification.
+/// A value that only notifications have.
 fn of_note<'s>(system: &System, note: NoteId, cell: Cell<'s>) -> Cell<'s>
     ensures { value_of result ≡ of_note system.now note (value_of cell.entry) }
 {

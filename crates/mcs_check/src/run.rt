@@ -21,8 +21,8 @@ use std::rt::Files;
 use std::sync::{Arc, Wait};
 use std::thread::Threads;
 
-/// Checks the file that the options name, or the input where they name none. A file that is not opened has failed. No contract knows the
-/// bytes of a file: what is written is what is shown of some text.
+/// Checks the file that the options name, or the input if they name none. A file that cannot be
+/// opened is `Read`. No contract knows the bytes of a file: the lines are those of some text.
 pub fn check_with<H: Files + Threads + Wait + Sync, S: Source, T: Target, P: Progress>(
     rt: &H,
     alloc: Global,
@@ -59,11 +59,14 @@ pub fn check_with<H: Files + Threads + Wait + Sync, S: Source, T: Target, P: Pro
     }
 }
 
-/// Reads a file to its end, simulates the system that it describes by as many workers as the options say, and writes what they ask to be shown
-/// of its schedule, lines of rows as the rows come, and how much was found, which it answers. Where findings are shown, what is found at
-/// the horizon and hints come behind those of rows, and the figures behind these where they are asked for; where rounds that ended are shown,
-/// nothing does. For every number of workers the same bytes are written. Neither device may have failed before, and one is blamed only where it has failed since.
-/// After `Mixed`, `Read`, `Load` and `Unknown` nothing was written, and after `Sim` and `Write` a first part of that.
+/// Reads a system, simulates it, and writes what the options ask to be shown of its schedule;
+/// returns the counts.
+///
+/// Lines come as the rows do. Findings are followed by those at the horizon and by hints, then by
+/// the figures if they are asked for; jobs are followed by neither. Text and JSON end with the
+/// counts. The bytes are the same for every number of workers. Neither device may have failed
+/// before; a device is blamed only if it has failed. After `Mixed`, `Read`, `Load` and `Unknown` no
+/// byte was written, after `Sim` and `Write` a prefix.
 pub fn check<H: Threads + Wait + Sync, S: Source, T: Target, P: Progress>(
     rt: &H,
     alloc: Global,
@@ -88,7 +91,7 @@ pub fn check<H: Threads + Wait + Sync, S: Source, T: Target, P: Progress>(
     Ok(counts)
 }
 
-/// Simulates a system, and writes what is shown of it and how much is found.
+/// Simulates a system, writes what is shown of it, and returns the counts.
 fn write_check<H: Threads + Wait + Sync, T: Target, P: Progress>(
     rt: &H,
     alloc: Global,

@@ -1,4 +1,4 @@
-//! The sink that looks for a round while the rows of a schedule go by.
+//! The sink that looks for a round in the rows of a schedule.
 ghost use Rattle.std.specs.Prelude.{◌≡◌, ◌∷◌, ℕ, List};
 ghost use Rattle.mcs_ticks.specs.declared.row.Row.{Row as TheRow};
 ghost use Rattle.mcs_system.specs.System.{System as TheSystem};
@@ -12,13 +12,13 @@ use mcs_ticks::{Refused, Row, Sink};
 use mcs_verdict::Watch;
 use mcs_why::Search;
 
-/// Looks at each row as it comes. It takes every row, and no memory.
+/// A sink that looks at each row. It takes every row and no memory.
 #[derive(Drop)]
 pub(crate) struct Seeker<'p, P: Progress> {
     pub(crate) watch: Watch,
     pub(crate) search: Search,
     pub(crate) progress: &'p mut P,
-    /// The rows since it was last told how far the run is.
+    /// Rows since the progress was last reported.
     rows: u32,
 }
 

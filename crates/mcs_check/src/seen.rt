@@ -17,19 +17,20 @@ use mcs_table::Table;
 use mcs_ticks::Row;
 use mcs_verdict::{Finding, Found, Job, Watch};
 
-/// What is kept of the rows that went by: what threads and notifications came to, how much was found, and its lines.
+/// The state kept of the rows so far: their watch, their counts and the lines that wait.
 #[derive(Drop)]
 pub(crate) struct Seen {
     pub(crate) watch: Watch,
     pub(crate) counts: Counts,
-    /// What is kept for figures, where they are asked for.
+    /// The table, if figures are asked for.
     pub(crate) table: Option<Table>,
     /// The lines that are not written yet.
     pub(crate) text: Vec<u8>,
 }
 
 impl Seen {
-    /// One row more, in constant time and without memory: what is shown of it, where lost signals are allowed at these notifications.
+    /// Takes one more row and returns what is shown of it, in constant time and without memory.
+    /// `allowed` says for each notification whether lost signals are allowed.
     #[inline(always)]
     pub(crate) fn see(&mut self, show: Show, allowed: &[bool], row: &Row) -> Option<Shown>
         ensures text { self.new.text ≡ self.old.text }
@@ -43,7 +44,7 @@ impl Seen {
             UpTo row.now.moment past → self.old.table ≡ kept_table show system horizon past →
             self.new.table ≡ kept_table show system horizon (row.now ∷ past) }
     {
-        // most rows leave at a `?`, and make no room for what is shown
+        // Most rows leave at a `?` and need no room for what is shown.
         match show {
             Show::Findings => Some(shown_found(row, self.find(allowed, row)?)),
             Show::Jobs => {
@@ -59,7 +60,7 @@ impl Seen {
         }
     }
 
-    /// What is told of one row more.
+    /// Takes one more row and returns its finding, unless that is an allowed lost signal.
     #[inline(always)]
     pub(crate) fn find(&mut self, allowed: &[bool], row: &Row) -> Option<Finding>
         ensures text { self.new.text ≡ self.old.text }
@@ -74,7 +75,7 @@ impl Seen {
         find(&mut self.watch, &mut self.counts, allowed, row)
     }
 
-    /// The same, and the row is kept for figures.
+    /// `find` that also keeps the row for the figures.
     fn tabulate(&mut self, allowed: &[bool], row: &Row) -> Option<Finding>
         ensures text { self.new.text ≡ self.old.text }
         ensures kept { (system : TheSystem) (past : List TheRow) → self.old.watch ≡ watch_of system past → UpTo row.now.moment past →
@@ -98,7 +99,7 @@ impl Seen {
     }
 }
 
-/// What a row tells, as it is shown.
+/// A row's finding, as it is shown.
 #[inline(always)]
 fn shown_found(row: &Row, finding: Finding) -> Shown
     ensures { Some result ≡ shown_found row.now.moment row.now.core (Some finding) }
@@ -110,7 +111,7 @@ fn shown_found(row: &Row, finding: Finding) -> Shown
     })
 }
 
-/// The row is kept for figures, where they are asked for.
+/// Keeps the row for the figures, if they are asked for.
 fn keep(
     table: &mut Option<Table>,
     job: Option<Job>,

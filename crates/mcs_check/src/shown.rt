@@ -1,12 +1,12 @@
 use mcs_ticks::Row;
 use mcs_verdict::{Found, Job};
 
-/// What a line is of.
+/// The subject of a line.
 #[derive(Clone, Copy, Debug, PartialEq, Eq)]
 pub(crate) enum Shown {
     /// A finding.
     Found(Found),
-    /// A round that ended.
+    /// A job.
     Job(Job),
     /// A row of the schedule.
     Row(Row),

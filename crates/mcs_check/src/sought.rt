@@ -1,9 +1,10 @@
-//! What names a round of the cores in types.
+//! A trait whose types say, for proofs, what the cores look for in a round.
 
 use std::marker::Brand;
 
-/// Names what cores look for in a round: the system whose rows they are, at which notifications lost signals are allowed, and the moment before
-/// which all that was found is told. The call that takes the round picks it.
+/// The values that a round of the cores has: the system, the notifications at which lost signals
+/// are allowed, and the time before which all findings were passed on. The call that takes the
+/// round picks them.
 pub(crate) trait Sought {
     ghost use Rattle.std.specs.Prelude.{ℕ, Bool, List};
     ghost use Rattle.mcs_system.specs.System.{System};

@@ -17,14 +17,14 @@ use mcs_system::System;
 use mcs_ticks::{Refused, Row, Sink};
 use mcs_why::Account;
 
-/// What is kept of the rows that went by: who ran, and the lines that are not written yet.
+/// The state kept of the rows so far: who ran, and the lines that are not written yet.
 #[derive(Drop)]
 pub(crate) struct Told {
     pub(crate) account: Account,
     pub(crate) text: Vec<u8>,
 }
 
-/// Looks at each row as it comes, and writes the lines of those that are in the span.
+/// A sink that looks at each row and writes the lines of those in the span.
 #[derive(Drop)]
 pub(crate) struct Teller<'t, 's, 'k, 'p, T: Target, P: Progress> {
     pub(crate) lines: Lines<'t, T>,
@@ -32,7 +32,7 @@ pub(crate) struct Teller<'t, 's, 'k, 'p, T: Target, P: Progress> {
     system: &'s System,
     told: &'k mut Told,
     progress: &'p mut P,
-    /// The rows since it was last told how far the run is.
+    /// Rows since the progress was last reported.
     rows: u32,
 }
 

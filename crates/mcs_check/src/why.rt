@@ -1,4 +1,4 @@
-//! Why a round took so long, from the bytes read to the bytes written.
+//! Why a round took so long, from the bytes read to the lines written.
 ghost use Rattle.std.specs.Prelude.{◌≡◌, ◌<◌, ◌++◌, [], ℕ, Bool, List, Option, None, Err, true, false, length, IfOk, IfErr, IfSome, OnOk};
 ghost use Rattle.std.specs.Arc.{arc_value};
 ghost use Rattle.std.specs.Io.KnownBytes.{Appends};
@@ -37,8 +37,9 @@ use std::rt::Files;
 use std::sync::{Arc, Wait};
 use std::thread::Threads;
 
-/// Tells it of a system in the file that the options name, or in the input where they name none. A file that is not opened has failed. No
-/// contract knows the bytes of a file: what is written is the answer of some text.
+/// Explains a round of the system in the file that the options name, or in the input if they name
+/// none. A file that cannot be opened is `Read`. No contract knows the bytes of a file: the lines
+/// are those of some text.
 pub fn explain_with<H: Files + Threads + Wait + Sync, S: Source, T: Target, P: Progress>(
     rt: &H,
     alloc: Global,
@@ -73,11 +74,14 @@ pub fn explain_with<H: Files + Threads + Wait + Sync, S: Source, T: Target, P: P
     }
 }
 
-/// Reads a file to its end, simulates the system that it describes twice, by as many workers as the options say, and writes why the round that
-/// is asked about took so long: the rows of its core from its activation on, or from where its thread began to wait for the word that began
-/// it, to its end, or to the horizon; what is told of the round; how long each thread ran meanwhile, and for how long the core was idle. For
-/// every number of workers the same bytes are written. Neither device may have failed before, and one is blamed only where it has failed
-/// since. After `Mixed`, `Read`, `Load`, `NoThread` and `NoRound` nothing was written, and after `Sim` and `Write` a first part of that.
+/// Reads a system, simulates it twice, and writes why the round that is asked about took so long.
+///
+/// The rows of its core come first. They begin at its activation, or when its thread began to wait
+/// for the word that began it, and end with the round or at the horizon. Then come the round's
+/// times, how long each thread ran meanwhile, and how long the core was idle. The bytes are the
+/// same for every number of workers. Neither device may have failed before; a device is blamed only
+/// if it has failed. After `Mixed`, `Read`, `Load`, `NoThread` and `NoRound` no byte was written,
+/// after `Sim` and `Write` a prefix.
 pub fn explain<H: Threads + Wait + Sync, S: Source, T: Target, P: Progress>(
     rt: &H,
     alloc: Global,
@@ -102,7 +106,7 @@ pub fn explain<H: Threads + Wait + Sync, S: Source, T: Target, P: Progress>(
     answer(&machine, target, system, options, question, progress)
 }
 
-/// Tells it of a system.
+/// Explains a round of this system.
 fn answer<H: Threads + Wait + Sync, T: Target, P: Progress>(
     machine: &Machine<'_, H>,
     target: &mut T,
@@ -132,7 +136,7 @@ fn answer<H: Threads + Wait + Sync, T: Target, P: Progress>(
     }
 }
 
-/// Whether something is asked for that has nothing to do with a round.
+/// Whether an option is given that has nothing to do with a round.
 fn is_mixed(options: &Options) -> bool
     ensures { result ≡ is_mixed options.now }
 {
@@ -142,7 +146,7 @@ fn is_mixed(options: &Options) -> bool
         || matches!(options.format, Format::Csv)
 }
 
-/// The fault of a round that is not there, or that there was no memory for its text.
+/// The fault of a round that does not exist, or `Sim` if memory runs out.
 fn no_round(alloc: Global, question: &Question, rounds: u64) -> WhyFault
     ensures { IsNoRound (question_texts question.now) rounds result }
 {
@@ -158,7 +162,7 @@ fn no_round(alloc: Global, question: &Question, rounds: u64) -> WhyFault
     }
 }
 
-/// What there is of the round of a thread.
+/// Looks for the round of a thread.
 fn find_round<H: Threads + Wait + Sync, P: Progress>(
     machine: &Machine<'_, H>,
     system: &Arc<System>,
@@ -192,7 +196,7 @@ fn find_round<H: Threads + Wait + Sync, P: Progress>(
     Ok(seeker.search.sought(&seeker.watch, horizon))
 }
 
-/// Writes the rows of a span, what is told of its round, and who ran meanwhile.
+/// Writes the rows of a span, the round's times, and who ran meanwhile.
 fn write_span<H: Threads + Wait + Sync, T: Target, P: Progress>(
     machine: &Machine<'_, H>,
     target: &mut T,
@@ -218,7 +222,8 @@ fn write_span<H: Threads + Wait + Sync, T: Target, P: Progress>(
     write_text(target, told.text.as_slice())
 }
 
-/// Writes the lines of the rows of a span as they come, but for the last ones, and counts who ran.
+/// Writes the lines of a span's rows as they come, and counts who ran. The last lines are returned,
+/// not yet written.
 fn tell_rows<H: Threads + Wait + Sync, T: Target, P: Progress>(
     machine: &Machine<'_, H>,
     target: &mut T,

@@ -6,31 +6,34 @@ use crate::CheckFault;
 use mcs_cli::RunFault;
 use std::fmt;
 
-/// Why there is no answer about a round. Its text is the line that the program writes to standard error.
+/// Why a round could not be explained. Its text is the line that the program writes to standard
+/// error.
 #[derive(Debug, PartialEq, Eq, Drop)]
 pub enum WhyFault {
-    /// The source failed, its text is no system, there was no memory, or the target failed.
+    /// The source failed, its text is no system, memory ran out, or the target failed.
     Run(RunFault),
-    /// Something is asked for that has nothing to do with a round: findings, figures, or rows of CSV.
+    /// An option has nothing to do with a round: findings, figures, or rows of CSV.
     Mixed,
     /// The system has no such thread.
     NoThread {
-        /// The name that was asked for.
+        /// The name that was given.
         name: String,
-        /// The first of the threads whose names are nearest, or None where there is no thread, or `name` has more than 64 bytes.
+        /// The nearest name of a thread, the first of equally near ones. `None` if there is no
+        /// thread, or if `name` has more than 64 bytes.
         nearest: Option<String>,
     },
     /// The thread has no such round.
     NoRound {
         /// The thread's name.
         thread: String,
-        /// The round that was asked for, as the words have it.
+        /// The round that was given, as its argument has it.
         round: String,
         rounds: Rounds,
     },
 }
 
-/// How many rounds a thread has, the last of which may not have ended. Its text says which there are.
+/// The number of rounds of a thread; the last one may not have ended. Its text says which there
+/// are.
 #[derive(Clone, Copy, Debug, PartialEq, Eq)]
 pub struct Rounds(pub u64);
 
@@ -88,7 +91,7 @@ impl fmt::Display for WhyFault {
 }
 
 impl WhyFault {
-    /// The exit status of the program: 2 where the words are to blame, else that of the run's fault.
+    /// Returns the program's exit code: 2 if an argument is to blame, else that of the run's fault.
     pub fn status(&self) -> u8
         ensures { result ≡ status_of self.now }
     {

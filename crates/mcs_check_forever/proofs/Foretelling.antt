@@ -1,4 +1,4 @@
--- What is read and written, by what is told of the system that was read.
+-- The bytes read and written, by the text of the system that was read.
 use Rattle.std.proofs.Common.{◌≡◌, ℕ, Bool, true, false, List, Option, Some, None, IfSome, IsSome, refl, sym, subst}
 use Rattle.std.specs.Prelude.{Result, Ok, Err}
 use Rattle.std.specs.Io.KnownBytes.{Keeps}
@@ -24,7 +24,7 @@ keeps None = tt
 keeps (Some xs) = refl
 
 module _ (options : Options) (system : System) where
-  -- nothing is told where a name is not known, or there is no memory for its text
+  -- no byte is written if a name is unknown, or if there is no memory for its text
   pub unknown-told : (a : Option (List ℕ)) (failed : Bool) (f : CheckFault) (asked : List ℕ) → first_unknown (notifications system) (names_of options) ≡ Some asked
       → IsUnknownFault (notifications system) asked f → IsTold a a failed options system (Err (Check f))
   unknown-told a failed (check.Unknown name nearest) asked none is = (keeps a, asked, none, is)
@@ -51,7 +51,7 @@ module _ (options : Options) (system : System) where
       let P : RunFault → Type 0 = λ f. IsTold a b failed options system (Err (Check (check.Run f))) in
       subst P (sym is) (fails, verdict, text, so, part)
 
--- what is told of a system that was read
+-- the bytes written for a system that was read
 module _ (a b : Option (List ℕ)) (failed : Bool) (options : Options)
     (read_old read_new : Option (List ℕ)) (given_old given_new : ℕ) (read_failed : Bool) (system : System) (alone : is_mixed options ≡ false)
     (read : IsRead read_old read_new given_old given_new system) where

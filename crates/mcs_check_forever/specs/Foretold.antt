@@ -1,4 +1,4 @@
--- What a look at all time reads and writes.
+-- The bytes that a check for all time reads and writes.
 use Rattle.std.specs.Prelude.{Result, Ok, Err, Option, Some, ◌≡◌, ◌≢◌, ◌⊎◌, List, ℕ, Bool, true, false, ◌||◌, is_some, not}
 use Rattle.std.specs.Io.KnownBytes.{Appends, Keeps}
 use Rattle.mcs_system.specs.System.{System}
@@ -21,14 +21,14 @@ abbrev pub is_rows : Format → Bool
 is_rows format.Csv = true
 is_rows _ = false
 
--- something is asked for that does not go with a look at all time
+-- an option is given that does not go with a check for all time
 abbrev pub is_mixed : Options → Bool
 is_mixed options = options.show_given || (options.strict || (is_some options.why || is_rows options.format))
 
--- the bytes that a target knows before and after, whether it has failed, and what is asked for
+-- the bytes that a target knows before and after, whether it has failed, and the options
 module _ (write_old write_new : Option (List ℕ)) (write_failed : Bool) (options : Options) where
-  -- What is told of a system: what is foretold of it and nothing else; where its text was not written to its end, a first part of that; where
-  -- a name is not known or there was no memory, nothing.
+  -- The bytes written for a system: exactly its text; a prefix of the text if the target failed; no
+  -- byte if a name is unknown or memory ran out.
   abbrev pub IsTold : System → Result Verdict ForeverFault → Type 0
   IsTold system (Ok verdict) = (text : List ℕ) × IsForetold (names_of options) system options.horizon options.format verdict text
       × Appends write_old write_new text
@@ -41,10 +41,11 @@ module _ (write_old write_new : Option (List ℕ)) (write_failed : Bool) (option
       × IsUnknownFault (notifications system) asked (Unknown name nearest)
   IsTold system (Err _) = ⊥
 
-  -- the bytes that a source knows before and after, and how many it has given by then; whether it has failed
+  -- the bytes that a source knows before and after, how many it has given by then, and whether it
+  -- has failed
   module _ (read_old read_new : Option (List ℕ)) (given_old given_new : ℕ) (read_failed : Bool) where
-    -- What does not go with it is refused first, then the file is to blame, and in both cases nothing is written; else it is told of the system
-    -- that was read.
+    -- The options are checked first, then the file; a fault of these writes no byte. Else the
+    -- system that was read is checked.
     abbrev pub IsForetelling : Result Verdict ForeverFault → Type 0
     IsForetelling (Err Mixed) = Keeps write_old write_new × (is_mixed options ≡ true)
     IsForetelling (Err (Check (Run run.Read))) =

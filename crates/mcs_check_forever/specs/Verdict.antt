@@ -1,4 +1,4 @@
--- What is written of a system for all time.
+-- The text and the verdict of a system for all time.
 use Rattle.std.specs.Prelude.{◌≡◌, ℕ, not, ◌==◌, if◌then◌else◌, List, ◌++◌, length, flat_map, count_by, is_some}
 use Rattle.std.specs.List.{sum_by}
 use Rattle.mcs_ticks.specs.Capped.{capped}
@@ -20,26 +20,27 @@ abbrev pub line_format : Format → LineFormat
 line_format format.Json = lines.Json
 line_format _ = lines.Text
 
--- how many of the sets repeat, and how many findings are told of all of them, as 64 bits hold the number
+-- the number of sets that repeat, and the number of findings of all sets, at most 2^64 - 1
 abbrev pub repeating : List Told → ℕ
 repeating told = count_by (λ (t : Told). is_some t.period) told
 
 abbrev pub findings : List Told → ℕ
 findings told = capped (sum_by (λ (t : Told). t.findings) told)
 
--- the lines of each set, and last how many there are
+-- the lines of each set, and last the line of their counts
 abbrev pub told_text : Format → System → List Told → List ℕ
 told_text how system told =
     flat_map (λ (t : Told). lines_text (line_format how) system t.lines.items) told
     ++ line_text (line_format how) system (Sets (length told) (repeating told) (findings told))
 
--- something is found; or nothing is, for ever; or nothing so far
+-- a finding; or no finding for ever; or no finding so far
 abbrev pub verdict_of : List Told → Verdict
 verdict_of told =
     if not (findings told == 0) then Found
     else if repeating told == length told then Clean else Open
 
--- these bytes are what is told of the system for all time, where these notifications may lose signals, and this is the verdict
+-- these bytes are the text of the system for all time, if these notifications may lose signals, and
+-- this is the verdict
 pub record IsForetold (names : List (List ℕ)) (system : System) (horizon : ℕ) (how : Format) (verdict : Verdict) (text : List ℕ) : Type 0 where
   pub told : List Told
   pub so : AreTold system (flags_of names system.notes) horizon told

@@ -7,12 +7,13 @@ use mcs_check::CheckFault;
 use mcs_cli::RunFault;
 use std::fmt;
 
-/// Why a look at all time did not end well. Its text is the line that the program writes to standard error.
+/// Why a check for all time failed. Its text is the line that the program writes to standard error.
 #[derive(Debug, PartialEq, Eq, Drop)]
 pub enum ForeverFault {
-    /// The source failed, its text is no system, a name that is allowed is not known, there was no memory, or the target failed.
+    /// The source failed, its text is no system, an allowed name is unknown, memory ran out, or the
+    /// target failed.
     Check(CheckFault),
-    /// Something is asked for that does not go with it: what is shown, why a round took so long, hints that count, or rows of CSV.
+    /// An option does not go with it: `--show`, `--strict`, `--why` or CSV.
     Mixed,
 }
 
@@ -30,7 +31,8 @@ impl fmt::Display for ForeverFault {
 }
 
 impl ForeverFault {
-    /// The exit status of the program: 2 where the words are to blame, else that of the run's fault.
+    /// Returns the program's exit code: 2 if the arguments are to blame, else that of the check's
+    /// fault.
     pub fn status(&self) -> u8
         ensures { result ≡ status_of self.now }
     {

@@ -1,4 +1,5 @@
-//! A look at all time: which cores of a system repeat, and what is found of them for ever, from the bytes read to the bytes written.
+//! The check for all time, from the bytes read to the lines written: which cores of a system
+//! repeat, and which findings they have for ever.
 #![tactic(auto)]
 
 mod forever_fault;

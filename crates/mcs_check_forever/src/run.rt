@@ -1,4 +1,4 @@
-//! From the bytes read to the bytes written.
+//! The check for all time, from the bytes read to the bytes written.
 ghost use Rattle.std.specs.Prelude.{◌≡◌, ◌^◌, ◌≤◌, ℕ, List, Bool, Option, None, Err, true, false, IfOk, IfSome};
 ghost use Rattle.std.specs.Arc.{arc_value};
 ghost use Rattle.mcs_cli.specs.declared.fault.RunFault.TheVariants as fault;
@@ -24,11 +24,12 @@ use std::fs::File;
 use std::rt::Files;
 use std::sync::Arc;
 
-/// How many moments pass before it is told again how far the look is.
+/// Steps of the search between two reports of the progress.
 const STRIDE: u32 = 4_096;
 
-/// Looks at the system of the file that the options name, or of the input where they name none. A file that is not opened has failed. No
-/// contract knows the bytes of a file: what is written is told of some text.
+/// Checks the system in the file that the options name, or in the input if they name none. A file
+/// that cannot be opened is `Read`. No contract knows the bytes of a file: the lines are those of
+/// some text.
 pub fn foretell_with<H: Files, S: Source, T: Target, P: Progress>(
     rt: &H,
     alloc: Global,
@@ -62,10 +63,14 @@ pub fn foretell_with<H: Files, S: Source, T: Target, P: Progress>(
     }
 }
 
-/// Reads a file to its end, looks up to the horizon for a repetition of what the cores of the system do that it describes, and writes what is told
-/// of each set of cores that no core outside it signals: from which moment on it repeats, with which period, and what is found of it for ever, or,
-/// where no repetition is found, so far. What the options say of workers is not asked: one thread looks. Neither device may have failed before,
-/// and one is blamed only where it has failed since. After each fault but `Write` nothing was written, and after that a first part.
+/// Reads a system, searches for a repetition up to the horizon, and writes the result of each
+/// closed set of cores; returns the verdict.
+///
+/// A closed set is one that no core outside it signals. Its lines say from which time on it
+/// repeats, with which period, and its findings for ever; without a repetition, its findings so
+/// far. One thread searches, whatever the option `workers`. Neither device may have failed before;
+/// a device is blamed only if it has failed. After `Write` a prefix was written, after any other
+/// fault no byte.
 pub fn foretell<S: Source, T: Target, P: Progress>(
     alloc: Global,
     source: &mut S,
@@ -87,7 +92,7 @@ pub fn foretell<S: Source, T: Target, P: Progress>(
     tell(alloc, target, system, options, progress)
 }
 
-/// Whether something is asked for that does not go with it.
+/// Whether an option is given that does not go with it.
 fn is_mixed(options: &Options) -> bool
     ensures { result ≡ is_mixed options.now }
 {
@@ -97,7 +102,7 @@ fn is_mixed(options: &Options) -> bool
         || matches!(options.format, Format::Csv)
 }
 
-/// Tells it of a system.
+/// Checks this system.
 fn tell<T: Target, P: Progress>(
     alloc: Global,
     target: &mut T,
@@ -123,7 +128,7 @@ fn no_memory() -> ForeverFault
     ForeverFault::Check(CheckFault::Run(RunFault::Sim(SimFault::NoMemory)))
 }
 
-/// What is told of the system, and what it comes to.
+/// The verdict of the system and the text of its lines.
 fn foretold<P: Progress>(
     alloc: Global,
     system: System,
@@ -142,7 +147,7 @@ fn foretold<P: Progress>(
     Ok((verdict_of(told.as_slice()), text))
 }
 
-/// Looks for repetitions up to the horizon.
+/// Searches for repetitions up to the horizon.
 fn look<P: Progress>(
     alloc: Global,
     system: Arc<System>,

@@ -1,4 +1,4 @@
-//! What is told of all sets of cores, as text, and what it comes to.
+//! The results of all sets of cores as text, and their verdict.
 ghost use Rattle.std.specs.Prelude.{◌≡◌, ◌++◌, flat_map, IfOk, OnOk};
 ghost use Rattle.mcs_forever_text.specs.Formats.{lines_text};
 ghost use Rattle.mcs_outlook.specs.declared.told.Told.{Told as ToldSet};
@@ -12,7 +12,7 @@ use mcs_system::System;
 use mcs_ticks::NoMemory;
 use std::alloc::Global;
 
-/// How lines are written.
+/// The format of the lines.
 fn line_format(format: Format) -> LineFormat
     ensures { result ≡ line_format format }
 {
@@ -22,14 +22,14 @@ fn line_format(format: Format) -> LineFormat
     }
 }
 
-/// How many of the sets repeat.
+/// The number of sets that repeat.
 fn repeating(told: &[Told]) -> usize
     ensures { result ≡ repeating told.now }
 {
     told.iter().filter(|set| set.period.is_some()).count()
 }
 
-/// How many findings are told of all of them.
+/// The number of findings of all sets.
 fn findings(told: &[Told]) -> u64
     ensures { result ≡ findings told.now }
 {
@@ -40,7 +40,7 @@ fn findings(told: &[Told]) -> u64
     findings
 }
 
-/// The lines of each set behind the text.
+/// Appends the lines of each set.
 fn put_sets(
     alloc: Global,
     text: &mut Vec<u8>,
@@ -57,7 +57,7 @@ fn put_sets(
     Ok(())
 }
 
-/// All that is told of a system, as text.
+/// The lines of all sets, and the line of their counts.
 pub(crate) fn text_of(
     alloc: Global,
     format: Format,
@@ -78,7 +78,7 @@ pub(crate) fn text_of(
     Ok(text)
 }
 
-/// What it comes to.
+/// The verdict of all sets.
 pub(crate) fn verdict_of(told: &[Told]) -> Verdict
     ensures { result ≡ verdict_of told.now }
 {

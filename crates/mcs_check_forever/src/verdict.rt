@@ -1,10 +1,10 @@
-/// What a look at all time comes to.
+/// The verdict for all time.
 #[derive(Clone, Copy, Debug, PartialEq, Eq)]
 pub enum Verdict {
-    /// Each set of cores repeats, and nothing is found, for ever.
+    /// Every set of cores repeats and has no finding, for ever.
     Clean,
-    /// Something is found.
+    /// There is a finding.
     Found,
-    /// Nothing is found so far, and of some cores no repetition.
+    /// There is no finding so far, but some set of cores was not found to repeat.
     Open,
 }

@@ -1,4 +1,4 @@
--- What the command line makes of some words.
+-- The results of the command line for given arguments.
 use Rattle.std.proofs.Common.{◌≡◌, refl, true, false, List, codes, [], ◌∷◌, map, Some, None}
 use Rattle.std.specs.Borrow.{Bor}
 use Rattle.clap.specs.Words.{App, Text, fault_of, first_of, matches_of, takes}
@@ -56,7 +56,7 @@ asks : (takes line a_question ≡ true)
 unfolding clap_on_literals
 asks = (refl, refl, refl, refl)
 
--- the file's name behind the round
+-- the file's name after the round
 asks_first : (takes line (codes "--why" ∷ codes "High" ∷ codes "1" ∷ codes "in.toml" ∷ []) ≡ true)
     × (first_of (codes "FILE") (matches_of line (codes "--why" ∷ codes "High" ∷ codes "1" ∷ codes "in.toml" ∷ [])) ≡ Some (codes "in.toml"))
 unfolding clap_on_literals

@@ -1,4 +1,4 @@
--- The fault that is answered is that of the parse.
+-- The fault of the result is that of the parse.
 use Rattle.std.proofs.Common.{List, rules}
 use Rattle.std.specs.Prelude.{Err}
 use Rattle.clap.specs.Words.{Text, fault_of, kind_of}

@@ -21,7 +21,7 @@ use Rattle.mcs_check_words.specs.declared.asked.Format.TheVariants as format
 use Rattle.mcs_check_words.specs.declared.asked.Show.{Show}
 use Rattle.mcs_check_words.specs.declared.asked.Show.TheVariants as show
 
--- `--allow-lost NOTE`, which may be given again
+-- `--allow-lost NOTE`, which may be repeated
 abbrev pub allow_lost_rule : Rule
 allow_lost_rule = record (new_rule (codes "allow-lost")) {
   long = Some (codes "allow-lost");
@@ -40,15 +40,15 @@ why_rule = record (new_rule (codes "why")) { long = Some (codes "why"); action =
 abbrev pub forever_rule : Rule
 forever_rule = record (new_rule (codes "forever")) { long = Some (codes "forever"); action = Some SetTrue }
 
--- what `--show` takes
+-- the values of `--show`
 abbrev pub show_words : List Text
 show_words = codes "findings" ∷ codes "jobs" ∷ codes "table" ∷ codes "both" ∷ []
 
--- and `--format`
+-- the values of `--format`
 abbrev pub format_words : List Text
 format_words = codes "text" ∷ codes "csv" ∷ codes "json" ∷ []
 
--- an option that takes one of these words
+-- an option that takes one of these values
 abbrev pub choice_rule : Text → Text → Bor (List (Bor Text)) → Rule
 choice_rule name default words = record (new_rule name) {
   long = Some name;
@@ -58,7 +58,7 @@ choice_rule name default words = record (new_rule name) {
   parser = Some (parser.Names words);
 }
 
--- words without the program's name
+-- the command line without arguments; it reads them without the program's name
 abbrev pub bare_line : App
 bare_line = let start = new_app (codes "mcscheck") in record { top = record start.top { no_binary_name = true }; subs = [] }
 
@@ -69,23 +69,23 @@ module _ (shows formats : Bor (List (Bor Text))) where
   abbrev pub format_rule : Rule
   format_rule = choice_rule (codes "format") (codes "text") formats
 
-  -- `[FILE] [--horizon N] [--workers W] [--allow-lost NOTE].. [--strict] [--show findings|jobs|table|both] [--format text|csv|json]
-  -- [--why THREAD ROUND] [--forever]`
+  -- `[FILE] [--horizon N] [--workers W] [--allow-lost NOTE].. [--strict]
+  -- [--show findings|jobs|table|both] [--format text|csv|json] [--why THREAD ROUND] [--forever]`
   abbrev pub command_line : App
   command_line =
       let numbers = with_rule (with_rule (with_rule bare_line file_rule) horizon_rule) workers_rule in
       let shown = with_rule (with_rule (with_rule (with_rule numbers allow_lost_rule) strict_rule) show_rule) format_rule in
       with_rule (with_rule shown why_rule) forever_rule
 
--- the texts of all values of the id, in the order of the words
+-- the texts of all values of the id, in the order of the arguments
 abbrev pub texts_of : Text → List Row → List Text
 texts_of id rows = unwrap_or (all_of id rows) []
 
--- the option that takes no value is among the words: clap gives it the value `true` then, else `false`
+-- the option without a value is given: clap then gives it the value `true`, else `false`
 abbrev pub is_set : Text → List Row → Bool
 is_set id rows = bytes_eq (unwrap_or (one_of id rows) []) (codes "true")
 
--- the option has its value by the words, and not by default
+-- the option has its value from the arguments, and not by default
 abbrev pub is_by_words : Option ValueSource → Bool
 is_by_words (Some CommandLine) = true
 is_by_words _ = false
@@ -93,7 +93,7 @@ is_by_words _ = false
 abbrev pub is_given : Text → List Row → Bool
 is_given id rows = is_by_words (option_and_then (λ r. r.source) (find (λ r. bytes_eq r.id id) rows))
 
--- the last moment of the run: where all time is looked at, and no number is given, that up to which a repetition is looked for
+-- the last time of the run; for a search for a repetition 10000000, unless a number is given
 abbrev pub horizon_of : List Row → ℕ
 horizon_of rows = if is_set (codes "forever") rows && not (is_given (codes "horizon") rows) then 10000000 else number_of (codes "horizon") rows
 
@@ -106,20 +106,20 @@ first_two (thread ∷ round ∷ more) = Some (thread, round)
 abbrev pub question_texts : Question → Text × Text
 question_texts question = (string_bytes question.thread, string_bytes question.round)
 
--- what a word asks to be shown
+-- the part of the schedule that a value of `--show` names
 abbrev pub show_named : Text → Show
 show_named word = if bytes_eq word (codes "jobs") then show.Jobs
     else if bytes_eq word (codes "table") then show.Table
     else if bytes_eq word (codes "both") then show.Both else show.Findings
 
--- and how it is written
+-- the format that a value of `--format` names
 abbrev pub format_named : Text → Format
 format_named word = if bytes_eq word (codes "csv") then format.Csv
     else if bytes_eq word (codes "json") then format.Json else format.Text
 
--- a command with this command line, of which a parse that succeeds has both numbers
+-- a command with this command line; a parse that succeeds has both numbers
 pub record IsCommandLine (c : Command) : Type 0 where
-  -- the words of the two options, wherever they lie
+  -- the values of the two options, wherever they are in memory
   pub shows : Bor (List (Bor Text))
   pub formats : Bor (List (Bor Text))
   pub are_shows : map (λ name. name.now) shows.now ≡ show_words
@@ -128,9 +128,9 @@ pub record IsCommandLine (c : Command) : Type 0 where
   pub horizon : (m : ArgMatches) → IsParsedFrom c m → HasNumber (codes "horizon") 0 (2 ^ 40) (rows_of (found_of m))
   pub workers : (m : ArgMatches) → IsParsedFrom c m → HasNumber (codes "workers") 1 64 (rows_of (found_of m))
 
--- what a parse of the words gives
+-- the result of a parse of the arguments
 pub record IsParse (words : List Text) (r : Result ArgMatches Error) : Type 0 where
-  -- the words of the two options, wherever they lie
+  -- the values of the two options, wherever they are in memory
   pub shows : Bor (List (Bor Text))
   pub formats : Bor (List (Bor Text))
   pub are_shows : map (λ name. name.now) shows.now ≡ show_words
@@ -152,10 +152,11 @@ pub record HasValues (rows : List Row) (o : Options) : Type 0 where
   pub why : option_map question_texts o.why ≡ first_two (texts_of (codes "why") rows)
   pub forever : o.forever ≡ is_set (codes "forever") rows
 
--- What the words are answered: the values that the command line gives them, where they have no fault; where it takes them, nothing but
--- being out of memory; else help where help is among their faults, or the text of another of them.
+-- The result for the arguments. Options have the values that the command line gives them, and there
+-- is no fault. Valid arguments are refused only if memory runs out. A refusal of others is help if
+-- that is among their faults, or the text of another fault.
 pub record IsAnswer (words : List Text) (r : Result Options WordsFault) : Type 0 where
-  -- the words of the two options, wherever they lie
+  -- the values of the two options, wherever they are in memory
   pub shows : Bor (List (Bor Text))
   pub formats : Bor (List (Bor Text))
   pub are_shows : map (λ name. name.now) shows.now ≡ show_words

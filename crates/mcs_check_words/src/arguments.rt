@@ -1,4 +1,4 @@
-//! The arguments that the command line may have.
+//! The arguments of the command line.
 ghost use Rattle.std.specs.Prelude.{◌≡◌, ℕ, List, [], false, map, codes, IfOk};
 ghost use Rattle.std.specs.Borrow.{Bor};
 ghost use Rattle.clap.specs.Built.{FitsChain};
@@ -33,7 +33,7 @@ Exit status:
   5  something is found
   6  with --forever: nothing is found so far, and not for ever";
 
-/// The command line, with all of its arguments. `AllocError` where there was no memory for it.
+/// The command line with all of its arguments. `AllocError` if memory runs out.
 pub(crate) fn command_line<'a>(alloc: Global) -> Result<Command<'a>, AllocError>
     ensures { IfOk result IsCommandLine }
 {
@@ -50,7 +50,7 @@ pub(crate) fn command_line<'a>(alloc: Global) -> Result<Command<'a>, AllocError>
     line.arg(why(alloc))?.arg(forever(alloc))
 }
 
-/// Without arguments.
+/// The command line without arguments.
 fn bare<'a>(alloc: Global) -> Command<'a>
     ensures app { app_of result ≡ bare_line }
     ensures args { args_of result ≡ [] }
@@ -63,7 +63,7 @@ fn bare<'a>(alloc: Global) -> Command<'a>
         .after_help(AFTER)
 }
 
-/// `--allow-lost`.
+/// The argument `--allow-lost`.
 fn allow_lost<'a>(alloc: Global) -> Arg<'a>
     ensures rule { rule_of result ≡ allow_lost_rule }
     ensures fits { FitsChain result }
@@ -75,7 +75,7 @@ fn allow_lost<'a>(alloc: Global) -> Arg<'a>
         .help("Lost signals of this notification are no finding; may be given again")
 }
 
-/// `--strict`.
+/// The argument `--strict`.
 fn strict<'a>(alloc: Global) -> Arg<'a>
     ensures rule { rule_of result ≡ strict_rule }
     ensures fits { FitsChain result }
@@ -86,7 +86,7 @@ fn strict<'a>(alloc: Global) -> Arg<'a>
         .help("Hints count as found, too")
 }
 
-/// `--show`.
+/// The argument `--show`.
 fn show<'a>(alloc: Global) -> Arg<'a>
     ensures rule { (shows : Bor (List (Bor (List ℕ)))) × (map (λ s. s.now) shows.now ≡ show_words)
         × (rule_of result ≡ choice_rule (codes "show") (codes "both") shows) }
@@ -104,7 +104,7 @@ fn show<'a>(alloc: Global) -> Arg<'a>
         )
 }
 
-/// `--format`.
+/// The argument `--format`.
 fn format<'a>(alloc: Global) -> Arg<'a>
     ensures rule { (formats : Bor (List (Bor (List ℕ)))) × (map (λ s. s.now) formats.now ≡ format_words)
         × (rule_of result ≡ choice_rule (codes "format") (codes "text") formats) }
@@ -120,7 +120,7 @@ fn format<'a>(alloc: Global) -> Arg<'a>
         .help("How it is written; csv has no counts, and json an object a line")
 }
 
-/// `--why`.
+/// The argument `--why`.
 fn why<'a>(alloc: Global) -> Arg<'a>
     ensures rule { rule_of result ≡ why_rule }
     ensures fits { FitsChain result }
@@ -132,7 +132,7 @@ fn why<'a>(alloc: Global) -> Arg<'a>
         .help("Why this round of this thread took so long is written, in place of all that")
 }
 
-/// `--forever`.
+/// The argument `--forever`.
 fn forever<'a>(alloc: Global) -> Arg<'a>
     ensures rule { rule_of result ≡ forever_rule }
     ensures fits { FitsChain result }

@@ -2,32 +2,32 @@ ghost use Rattle.std.specs.Prelude.{◌≤◌, ◌^◌};
 
 use mcs_ticks::Tick;
 
-/// What is written of a schedule.
+/// The part of a schedule that is written.
 #[derive(Clone, Copy, Debug, PartialEq, Eq)]
 pub enum Show {
-    /// What is found in it.
+    /// Findings.
     Findings,
-    /// Its rounds that ended.
+    /// Jobs: the rounds that ended.
     Jobs,
-    /// Figures of each thread and of each context.
+    /// The figures of each thread and each context.
     Table,
-    /// What is found in it, and then the figures.
+    /// Findings, and then the figures.
     Both,
 }
 
-/// How it is written.
+/// The format of the output.
 #[derive(Clone, Copy, Debug, PartialEq, Eq)]
 pub enum Format {
-    /// Lines of words, and then hints and counts.
+    /// Lines of words, with hints and counts.
     Text,
-    /// Rows of CSV behind one of names, and nothing else.
+    /// Only rows of CSV, after a row of names.
     Csv,
     /// JSON objects, one a line.
     Json,
 }
 
-/// A round of which it is asked why it took so long, by the words of the command line. No system is known yet, so there may be no such thread or
-/// round, and the round may be no number.
+/// The round of `--why`, as the command line has it. No system is known yet: there may be no such
+/// thread or round, and the round may be no number.
 #[derive(Debug, Drop)]
 pub struct Question {
     /// The thread's name.
@@ -36,27 +36,29 @@ pub struct Question {
     pub round: String,
 }
 
-/// What the words of the command line ask for.
+/// The options of a run, as the command line has them.
 #[derive(Debug, Drop)]
 pub struct Options {
-    /// The name of the system's file, or None for standard input.
+    /// The name of the system's file; `None` means standard input.
     pub file: Option<String>,
-    /// The last moment of the run, at most 2^40.
+    /// The last time of the run (the horizon), at most 2^40.
     pub horizon: Tick,
-    /// How many workers may run cores at the same time, 1 to 64.
+    /// Workers that may run cores at the same time, 1 to 64.
     pub workers: usize,
-    /// The notifications of which lost signals are allowed, in the order of the words. No system is known yet, so a name may
-    /// be one that no notification has.
+    /// Names of the notifications at which lost signals are allowed, in the order of the arguments.
+    /// No system is known yet: there may be no notification of this name.
     pub allowed: Vec<String>,
-    /// Hints count as found, too.
+    /// Whether hints count as findings.
     pub strict: bool,
+    /// The part of the schedule that is written.
     pub show: Show,
-    /// Whether the words say what is shown, and not the default alone.
+    /// Whether `--show` is given, so that `show` is not its default.
     pub show_given: bool,
+    /// The format of the output.
     pub format: Format,
-    /// The round that is asked about, if one is.
+    /// The round to explain, if one is given.
     pub why: Option<Question>,
-    /// All time is looked at: a repetition is looked for up to the horizon.
+    /// Whether a repetition is searched for up to the horizon, to check for all time.
     pub forever: bool,
     ghost horizon_in_range: { horizon ≤ 2 ^ 40 },
     ghost workers_in_range: { (1 ≤ workers) × (workers ≤ 64) },

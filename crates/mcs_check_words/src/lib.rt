@@ -1,4 +1,4 @@
-//! The command line of `mcscheck`: what its words ask for.
+//! The command line of `mcscheck`, read into its options.
 #![tactic(auto)]
 
 mod arguments;

@@ -1,4 +1,4 @@
-//! What the words of the command line ask for.
+//! The options that the arguments of the command line give.
 ghost use Rattle.std.specs.Prelude.{◌≡◌, ◌≤◌, ◌^◌, map, codes, option_map, string_bytes, IfOk};
 ghost use Rattle.clap.specs.Words.{found_of, rows_of};
 ghost use Rattle.mcs_cli.specs.CommandLine.{HasNumber, text_of};
@@ -12,12 +12,13 @@ use mcs_cli::{WordsFault, fault_of, file_of, number_of};
 use mcs_ticks::Tick;
 use std::alloc::{AllocError, Global};
 
-/// Up to which moment a repetition is looked for, where no horizon is given.
+/// Default horizon of `--forever`, in ticks: a repetition is searched for up to it.
 const FOREVER: u64 = 10_000_000;
 
-/// What the words after the program's name ask for: `[FILE] [--horizon N] [--workers W] [--allow-lost NOTE].. [--strict]
-/// [--show findings|jobs|table|both] [--format text|csv|json] [--why THREAD ROUND] [--forever]`, as clap reads them. Words that are not understood and words
-/// that ask for help are refused with the text that says so.
+/// Reads the arguments after the program's name as clap does: `[FILE] [--horizon N] [--workers W]
+/// [--allow-lost NOTE].. [--strict] [--show findings|jobs|table|both] [--format text|csv|json]
+/// [--why THREAD ROUND] [--forever]`. Arguments that have a fault, or ask for help, are refused
+/// with clap's text.
 pub fn options(alloc: Global, words: &[String]) -> Result<Options, WordsFault>
     ensures { IsAnswer (map (λ word. string_bytes word) words.now) result }
 {
@@ -36,7 +37,7 @@ fn matches_of<'a>(alloc: Global, words: &'a [String]) -> Result<ArgMatches<'a>, 
     command.try_get_matches_from(words)
 }
 
-/// The last moment of the run, or that up to which a repetition is looked for.
+/// The last time of the run, or of the search for a repetition.
 fn horizon_of(matches: &ArgMatches<'_>) -> u64
     requires { HasNumber (codes "horizon") 0 (2 ^ 40) (rows_of (found_of matches.now)) }
     ensures horizon { result ≡ horizon_of (rows_of (found_of matches.now)) }
@@ -79,7 +80,8 @@ fn options_of(alloc: Global, matches: &ArgMatches<'_>) -> Result<Options, AllocE
     })
 }
 
-/// The texts of all values of an option, in the order of the words. `AllocError` where there was no memory for them.
+/// The texts of all values of an option, in the order of the arguments. `AllocError` if memory runs
+/// out.
 fn texts_of(alloc: Global, matches: &ArgMatches<'_>, id: &str) -> Result<Vec<String>, AllocError>
     ensures { IfOk result (λ texts. map string_bytes texts.items ≡ texts_of id.now (rows_of (found_of matches.now))) }
 {
@@ -99,7 +101,7 @@ fn copies(alloc: Global, values: &[&str]) -> Result<Vec<String>, AllocError>
     Ok(copies)
 }
 
-/// The thread and the round that `--why` names, where it is among the words.
+/// The thread and the round of `--why`, if it is given.
 fn question_of(alloc: Global, matches: &ArgMatches<'_>) -> Result<Option<Question>, AllocError>
     ensures { IfOk result (λ why. option_map question_texts why
         ≡ first_two (texts_of (codes "why") (rows_of (found_of matches.now)))) }
@@ -122,7 +124,7 @@ fn question(alloc: Global, values: &[&str]) -> Result<Option<Question>, AllocErr
     }))
 }
 
-/// Whether an option is among the words, and has more than its default.
+/// Whether an option is given and not only has its default.
 fn is_given(matches: &ArgMatches<'_>, id: &str) -> bool
     ensures { result ≡ is_given id.now (rows_of (found_of matches.now)) }
 {
@@ -138,14 +140,14 @@ fn is_by_words(source: Option<ValueSource>) -> bool
     }
 }
 
-/// Whether an option that takes no value is among the words.
+/// Whether an option that takes no value is given.
 fn is_set(matches: &ArgMatches<'_>, id: &str) -> bool
     ensures { result ≡ is_set id.now (rows_of (found_of matches.now)) }
 {
     matches.get_one::<bool>(id).unwrap_or(false)
 }
 
-/// The text that an option has.
+/// The text of an option's value.
 fn text_of<'a>(matches: &ArgMatches<'a>, id: &str) -> &'a str
     ensures { result.now ≡ text_of id.now (rows_of (found_of matches.now)) }
 {

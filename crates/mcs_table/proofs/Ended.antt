@@ -1,4 +1,4 @@
--- One round more of a thread, and rows that end none of its rounds.
+-- One more round of a thread, and rows that end no round of it.
 use Rattle.std.proofs.Common.{◌≡◌, ◌≢◌, ℕ, zero, suc, ◌+◌, ◌<◌, ◌≤◌, max, inl, inr, Bool, true, false, eqb, ltb, cond, List, [], ◌∷◌, ◌++◌, length, get_or, set, map, Option, Some, None, refl, sym, ap, subst, ◌∙◌, arith}
 use Rattle.std.specs.Prelude.{◌&&◌, filter, fold, option_to_list, unwrap_or}
 use Rattle.std.proofs.lemmas.Bool.{eq-eqb, ne_eqb, lt-ltb, le-ltb, cases_lt}
@@ -235,7 +235,7 @@ round_told system horizon x number response y r past accounts found old new e kn
     subst P (sym is_round)
     (λ known. told_round system horizon r.moment r.core x number response y past accounts found old new e known at was is) known
 
--- the thread is one of those of which there is an account
+-- the thread has an account
 pub round_known : (system : System) (horizon x number response y : ℕ) (r : Row) (past : List Row) (accounts : List Account) (found : Job)
     → accounts ≡ accounts_of system horizon 0 system.threads past → Some found ≡ job_of system past r.moment r.what
     → r.what ≡ row.Round x number response → y ≡ found.thread → y < length accounts
@@ -262,7 +262,7 @@ no_job system m past (row.Round x number response) differs = absurd (differs x n
 no_job system m past (row.Order context) differs = refl
 no_job system m past (row.Interrupt source at_note badge) differs = refl
 
--- a round that ended is told by a row that ends one
+-- if a round ended, the row ends one
 pub is_round : (system : System) (m : ℕ) (past : List Row) (what : What) (found : Job) → Some found ≡ job_of system past m what
     → ((x n response : ℕ) → what ≡ row.Round x n response → ⊥) → ⊥
 is_round system m past what found e differs = let none = no_job system m past what differs in absurd (cc)

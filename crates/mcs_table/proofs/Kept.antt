@@ -1,4 +1,4 @@
--- What is told of what is kept.
+-- The figures that are read off what is kept.
 use Rattle.std.proofs.Common.{◌≡◌, ℕ, ◌+◌, ◌-◌, ◌^◌, ◌<◌, ◌≤◌, Bool, cond, List, [], length, get_or, Option, Some, None, sym, ap, ◌∙◌, arith}
 use Rattle.std.proofs.lemmas.Bool.{lt-ltb, le-ltb}
 use Rattle.mcs_ticks.specs.declared.row.Row.{Row}
@@ -40,7 +40,7 @@ signals_unknown system y waits past e not =
     sym (ap (λ (t : Bool). cond t (Some (signals_at system y past)) None) (le-ltb y (length system.notes) not))
     ∙ sym (ap (λ waits. signals_for system waits past) e)
 
--- what the threads ran, none of which is left
+-- what the threads ran, with no thread left
 pub ran_all : (horizon context n ran : ℕ) (past : List Row) (parts rest : List ThreadPart) → rest ≡ [] → ran < 2 ^ 64
     → capped (ran + ran_from horizon past context n rest) ≡ capped (ran_from horizon past context 0 parts)
     → ran ≡ capped (ran_from horizon past context 0 parts)

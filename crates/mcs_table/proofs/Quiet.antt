@@ -41,7 +41,7 @@ none_merged system past (row.Round x number response) hold = refl
 none_merged system past (row.Order context) hold = refl
 none_merged system past (row.Interrupt source at_note badge) hold = refl
 
--- what is kept stays as it was
+-- what is kept is unchanged
 pub quiet_row : (system : System) (horizon : ℕ) (r : Row) (past : List Row) → ((n w : ℕ) → r.what ≡ row.Hold n w → ⊥)
     → ((x n response : ℕ) → r.what ≡ row.Round x n response → ⊥)
     → table_of system horizon past ≡ table_of system horizon (r ∷ past)

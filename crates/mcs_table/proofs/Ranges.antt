@@ -36,7 +36,7 @@ set_number f g n y new has is others =
 pub capped_more : (x n : ℕ) → x ≡ capped n → min (x + 1) (2 ^ 64 - 1) ≡ capped (1 + n)
 capped_more x n e = omega arith
 
--- what is counted where this notification is named
+-- the count if this notification is named
 abbrev pub more : Option ℕ → (ℕ → ℕ) → ℕ → ℕ
 more place before note = cond (is_note note place) 1 0 + before note
 

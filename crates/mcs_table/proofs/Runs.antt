@@ -13,7 +13,7 @@ use Rattle.mcs_table.specs.laws.Runs.{JobsAreTheRuns}
 abbrev own : ℕ → List Job → List Job
 own thread jobs = filter (λ (job : Job). eqb job.thread thread) jobs
 
--- one job or none is the same in either order
+-- at most one job is the same in either order
 either_way : (thread : ℕ) (o : Option Job) → reverse (own thread (option_to_list o)) ≡ own thread (option_to_list o)
 either_way thread None = refl
 either_way thread (Some found) = one (eqb found.thread thread)

@@ -53,8 +53,9 @@ at moment what = record { moment = moment; core = 0; what = what }
 
 -- ---- rounds
 
--- Thread 0 signals. Thread 1 waits first: its round begins at 2 with a word that was set at 1, and ends at 16. So its response is 15, and its row
--- tells 14. A second word is set at 11, a signal at 12 is lost, and one at 13 is merged.
+-- Thread 0 signals. Thread 1 waits first: its round begins at 2 with a word that was set at 1, and
+-- ends at 16. Its response is 15, and that of its row 14. A second word is set at 11, a signal at
+-- 12 is lost, and one at 13 is merged.
 abbrev looped : List Row
 looped =
     past_of []
@@ -113,7 +114,7 @@ five_rounds :
 unfolding doublings
 five_rounds = refl
 
--- those of another thread don't count; without a deadline none is missed
+-- those of another thread don't count; without a deadline there is no miss
 one_round :
     rounds_in computes 20 1 rising
     ≡ record { ended = 1; greatest = Some 20; fiftieth = Some 20; ninetieth = Some 20; ninety_ninth = Some 20; missed = 0; late = 0 }

@@ -1,4 +1,4 @@
--- What the table tells of a thread, by the rows up to the horizon, the latest first.
+-- The figures of a thread, by the rows up to the horizon, the latest first.
 use Rattle.std.specs.Prelude.{ℕ, List}
 use Rattle.mcs_ticks.specs.declared.row.Row.{Row}
 use Rattle.mcs_system.specs.System.{System, thread_part, context_part, core_of}

@@ -25,20 +25,22 @@ jobs_of system thread (r ∷ past) =
 abbrev pub responses_of : System → ℕ → List Row → List ℕ
 responses_of system thread past = map (λ job. job.response) (jobs_of system thread past)
 
--- the greatest response, where there is one
+-- the worst response, if there is one
 abbrev pub greatest : List ℕ → Option ℕ
 greatest responses = reduce max responses
 
--- how many responses are above the deadline; a response of the deadline itself is not, and the deadline 0 is none
+-- the number of responses above the deadline; one at the deadline itself is not above, and 0 is no
+-- deadline
 abbrev pub missed_in : ℕ → List ℕ → ℕ
 missed_in deadline responses = count_by (is_above deadline) responses
 
--- whether this ends a round of the thread whose response, as its row tells it from the round's beginning, is above the deadline
+-- whether this ends a round of the thread and has a response above the deadline, counted from its
+-- beginning
 abbrev pub is_late : ℕ → ℕ → What → Bool
 is_late deadline thread (row.Round x number response) = x == thread && is_above deadline response
 is_late deadline thread _ = false
 
--- how many rounds of the thread were late
+-- the number of late rounds of the thread
 abbrev pub late_in : ℕ → ℕ → List Row → ℕ
 late_in deadline thread past = count_by (λ r. is_late deadline thread r.what) past
 
@@ -46,12 +48,12 @@ late_in deadline thread past = count_by (λ r. is_late deadline thread r.what) p
 abbrev pub from_deadline : ℕ → ℕ → Margin
 from_deadline deadline response = if nat_lt deadline response then Over (response - deadline) else Left (deadline - response)
 
--- how far the greatest response is from the deadline, where there are both
+-- how far the worst response is from the deadline, if there are both
 abbrev pub margin : ℕ → Option ℕ → Option Margin
 margin deadline None = None
 margin deadline (Some response) = if deadline == 0 then None else Some (from_deadline deadline response)
 
--- what is told of rounds with these responses, of which so many were late, in a run up to the horizon
+-- the figures of rounds with these responses, `late` of them late, in a run up to the horizon
 abbrev pub rounds_of : ℕ → ℕ → List ℕ → ℕ → Rounds
 rounds_of horizon deadline responses late =
     record {
@@ -64,7 +66,7 @@ rounds_of horizon deadline responses late =
       late = capped late;
     }
 
--- what is told of the thread's rounds
+-- the figures of the thread's rounds
 abbrev pub rounds_in : System → ℕ → ℕ → List Row → Rounds
 rounds_in system horizon thread past =
     let deadline = (thread_part system thread).deadline in

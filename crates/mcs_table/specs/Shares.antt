@@ -1,13 +1,13 @@
--- Shares of a core, in millionths.
+-- Shares of a core in ppm.
 use Rattle.std.specs.Prelude.{ℕ, ◌*◌, ◌/◌}
 use Rattle.mcs_control.specs.declared.config.Config.{Config}
 use Rattle.mcs_table.specs.declared.figures.Share.{Share}
 
--- a part of a whole, rounded down; of no whole it is 0
+-- a part of a whole, rounded down; 0 if the whole is 0
 abbrev pub millionths : ℕ → ℕ → ℕ
 millionths part whole = part * 1000000 / whole
 
--- what a context with this configuration grants of its core, and what running so many ticks before the horizon comes to
+-- the share of a context with this configuration, with `running` ticks before the horizon
 abbrev pub share_of : Config → ℕ → ℕ → Share
 share_of config horizon running =
     record {

@@ -1,4 +1,5 @@
--- What is kept of a schedule's rows: of each thread what its rounds came to, and of each notification how many signals were lost and merged.
+-- The figures kept of a schedule's rows: for each thread of its rounds, for each notification of
+-- lost and merged signals.
 use Rattle.std.specs.Prelude.{ℕ, suc, List, [], ◌∷◌, length, map}
 use Rattle.std.specs.List.{range_with_len}
 use Rattle.mcs_ticks.specs.declared.row.Row.{Row}
@@ -10,7 +11,7 @@ use Rattle.mcs_ticks.specs.Capped.{capped}
 use Rattle.mcs_table.specs.Rounds.{responses_of, greatest, missed_in, late_in}
 use Rattle.mcs_table.specs.Signals.{lost_by, merged_by, times_at}
 
--- of rounds with these responses, of which so many were late
+-- the account of rounds with these responses, `late` of them late
 abbrev pub account_with : ℕ → ℕ → List ℕ → ℕ → Account
 account_with horizon deadline responses late =
     record {
@@ -21,18 +22,18 @@ account_with horizon deadline responses late =
       responses = histogram_of horizon responses;
     }
 
--- of a thread with this deadline
+-- the account of a thread with this deadline
 abbrev pub account_of : System → ℕ → ℕ → ℕ → List Row → Account
 account_of system horizon deadline thread past =
     account_with horizon deadline (responses_of system thread past) (late_in deadline thread past)
 
--- of the threads from this number on
+-- the accounts of the threads from number n on
 abbrev pub accounts_of : System → ℕ → ℕ → List ThreadPart → List Row → List Account
 accounts_of system horizon n [] past = []
 accounts_of system horizon n (part ∷ parts) past =
     account_of system horizon part.deadline n past ∷ accounts_of system horizon (suc n) parts past
 
--- of so many notifications, each count by its number
+-- the counts of the notifications, by number
 abbrev pub counts_of : (ℕ → ℕ) → ℕ → List ℕ
 counts_of count notes = map (λ note. capped (count note)) (range_with_len 0 notes)
 
@@ -42,7 +43,7 @@ pub record Table : Type 0 where
   pub lost : List ℕ
   pub merged : List ℕ
 
--- what is kept after these rows, in a run up to the horizon
+-- the table after these rows, in a run up to the horizon
 abbrev pub table_of : System → ℕ → List Row → Table
 table_of system horizon past =
     record {

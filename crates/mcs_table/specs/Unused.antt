@@ -12,19 +12,20 @@ use Rattle.mcs_verdict.specs.Stood.{stood_in}
 abbrev pub is_ordered : ℕ → List Order → Bool
 is_ordered context orders = list_any (λ order. order.context == context) orders
 
--- the most ticks that a context can let run before the horizon: its budget for each whole period, counted from moment 0, and of the
--- period that the horizon cuts off as many of the budget's ticks as there are
+-- The maximum number of ticks that a context can let run before the horizon: its budget for each
+-- whole period from time 0 on, and for the period that the horizon cuts off the minimum of its
+-- budget and its ticks before the horizon.
 abbrev pub most_before : ℕ → Config → ℕ
 most_before horizon config = config.budget * (horizon / config.period) + min config.budget (horizon % config.period)
 
--- how many ticks those threads ran that are bound to the context, of the threads from this number on
+-- the ticks that the threads of the context ran, from thread number n on
 abbrev pub ran_from : ℕ → List Row → ℕ → ℕ → List ThreadPart → ℕ
 ran_from horizon past context n [] = 0
 ran_from horizon past context n (part ∷ parts) =
     (if part.context == context then (stood_in n past 0 horizon).running else 0) + ran_from horizon past context (suc n) parts
 
--- the most that the context could let run before the horizon, less what its threads ran; none where an order names it, which changes
--- its budget
+-- the maximum that the context could let run before the horizon, less what its threads ran; there
+-- is no such figure if an order names it, which changes its budget
 abbrev pub unused_of : System → ℕ → List Row → ℕ → Option ℕ
 unused_of system horizon past context =
     if is_ordered context system.orders then None

@@ -9,7 +9,7 @@ use mcs_histogram::Histogram;
 use mcs_ticks::{NoMemory, Tick};
 use std::alloc::Global;
 
-/// What is kept of a thread's rounds.
+/// The figures kept of a thread's rounds.
 #[derive(Debug, Drop)]
 pub(crate) struct Account {
     pub deadline: u64,
@@ -25,7 +25,7 @@ fn is_above(deadline: u64, ticks: u64) -> bool
     deadline != 0 && deadline < ticks
 }
 
-/// One more where this is so.
+/// The count, and one more if `is_so`.
 fn counted(count: u64, is_so: bool) -> u64
     ensures { (before : ℕ) → count ≡ capped before → result ≡ capped ((if is_so then 1 else 0) + before) }
 {
@@ -36,7 +36,7 @@ fn counted(count: u64, is_so: bool) -> u64
     }
 }
 
-/// The greatest of responses and one more.
+/// The maximum of the responses so far and one more.
 fn or_greater(before: Option<u64>, response: u64) -> Option<u64>
     ensures { (responses : List ℕ) → before ≡ greatest responses → result ≡ greatest (response ∷ responses) }
 {
@@ -46,7 +46,7 @@ fn or_greater(before: Option<u64>, response: u64) -> Option<u64>
     }
 }
 
-/// How far the greatest response is from the deadline, where there are both.
+/// How far the worst response is from the deadline, if there are both.
 pub(crate) fn margin(deadline: u64, greatest: Option<u64>) -> Option<Margin>
     ensures { result ≡ margin deadline greatest }
 {
@@ -59,7 +59,8 @@ pub(crate) fn margin(deadline: u64, greatest: Option<u64>) -> Option<Margin>
 }
 
 impl Account {
-    /// Before the first round of a thread with this deadline, in a run up to the horizon.
+    /// The account before the first round of a thread with this deadline, in a run up to the
+    /// horizon.
     pub(crate) fn new(alloc: Global, horizon: Tick, deadline: u64) -> Result<Self, NoMemory>
         ensures { IfOk result (λ account. account ≡ account_with horizon deadline [] 0) }
     {
@@ -72,7 +73,8 @@ impl Account {
         })
     }
 
-    /// A round ended with this response from its activation, and this one from its beginning, which its row tells.
+    /// Takes a round that ended. `response` counts from its activation; `told`, that of its row,
+    /// from its beginning.
     pub(crate) fn end(&mut self, response: u64, told: u64)
         ensures { (horizon deadline late : ℕ) (responses : List ℕ) → self.old ≡ account_with horizon deadline responses late →
             self.new ≡ account_with horizon deadline (response ∷ responses) ((if is_above deadline told then 1 else 0) + late) }
@@ -83,7 +85,7 @@ impl Account {
         self.responses.record(response);
     }
 
-    /// What is told of the rounds.
+    /// Returns the figures of the rounds.
     pub(crate) fn rounds(&self) -> Rounds
         ensures { (horizon deadline late : ℕ) (responses : List ℕ) → self.now ≡ account_with horizon deadline responses late →
             result ≡ rounds_of horizon deadline responses late }

@@ -11,7 +11,7 @@ use mcs_ticks::{NoMemory, Row, Tick};
 use mcs_verdict::Watch;
 use std::alloc::Global;
 
-/// What the watch tells of the row, the table takes.
+/// Takes one more row into the watch, and with the watch's results into the table.
 fn see(watch: &mut Watch, table: &mut Table, row: &Row)
     ensures watch { (system : TheSystem) (past : List TheRow) → watch.old ≡ watch_of system past → UpTo row.now.moment past →
         watch.new ≡ watch_of system (row.now ∷ past) }
@@ -35,7 +35,8 @@ fn see_all(watch: &mut Watch, table: &mut Table, rows: &[Row])
     }
 }
 
-/// The watch over a list of rows, and their table, in a run of the system up to the horizon. `NoMemory` where a growth was refused.
+/// Returns the watch and the table after a list of rows, in a run of the system up to the horizon.
+/// `NoMemory` if memory runs out.
 pub fn tabulate(
     alloc: Global,
     system: &System,

@@ -6,14 +6,14 @@ use mcs_ticks::{NoMemory, NoteId, What};
 use mcs_verdict::Finding;
 use std::alloc::Global;
 
-/// No signal at any of so many notifications.
+/// A count of 0 for each of `notes` notifications.
 pub(crate) fn no_counts(alloc: Global, notes: usize) -> Result<Vec<u64>, NoMemory>
     ensures { IfOk result (λ counts. counts.items ≡ counts_of (λ note. 0) notes) }
 {
     Ok(vec![in alloc; 0; notes]?)
 }
 
-/// One more at this notification, if there is one.
+/// Counts one more at this notification, if there is one.
 pub(crate) fn count_at(counts: &mut [u64], place: Option<NoteId>)
     ensures { (before : ℕ → ℕ) (notes : ℕ) → counts.old ≡ counts_of before notes →
         counts.new ≡ counts_of (λ note. (if is_note note place then 1 else 0) + before note) notes }
@@ -25,7 +25,7 @@ pub(crate) fn count_at(counts: &mut [u64], place: Option<NoteId>)
     }
 }
 
-/// The notification at which a signal is lost that is found so.
+/// The notification of a lost signal, if that is the finding.
 pub(crate) fn lost_note(found: Option<Finding>) -> Option<NoteId>
     ensures { result ≡ lost_note found }
 {
@@ -35,7 +35,7 @@ pub(crate) fn lost_note(found: Option<Finding>) -> Option<NoteId>
     }
 }
 
-/// The notification whose word a row tells after a signal.
+/// The notification that a signal changed, if the row shows one.
 fn held_note(what: &What) -> Option<NoteId>
     ensures { result ≡ held_note what.now }
 {
@@ -45,7 +45,7 @@ fn held_note(what: &What) -> Option<NoteId>
     }
 }
 
-/// The notification at which a row merges a signal, where it merges one.
+/// The notification at which the row merges a signal, if it does.
 pub(crate) fn merged_note(is_merged: bool, what: &What) -> Option<NoteId>
     ensures { result ≡ merged_note is_merged what.now }
 {

@@ -1,5 +1,6 @@
-//! Figures of a schedule, row by row: of each thread how many rounds ended and how long they took, how near its deadline it came, how much of
-//! its core it was granted and used, and which signals were lost or merged; and of each context the budget that was never used.
+//! Figures of a schedule, row by row. For each thread: its rounds and their responses, its margin
+//! to the deadline, its share of the core, and its coalesced signals. For each context: the budget
+//! that was never used.
 #![tactic(auto)]
 
 mod account;

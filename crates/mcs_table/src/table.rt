@@ -23,8 +23,9 @@ use mcs_verdict::{Finding, Job, Watch};
 use std::alloc::Global;
 use std::marker::Model;
 
-/// What is kept of a schedule's rows so far: of each thread what its rounds came to, and of each notification how many signals were lost and
-/// merged. A row more takes constant time and no memory, since all room is taken when the table is made: at most 18 kB a thread.
+/// The figures kept of a schedule's rows so far: for each thread of its rounds, for each
+/// notification of lost and merged signals. All memory is taken when the table is made, at most
+/// 18 kB a thread; a row takes constant time.
 #[derive(Drop)]
 pub struct Table {
     horizon: Tick,
@@ -64,7 +65,7 @@ fn opened_accounts(
     Ok(accounts)
 }
 
-/// The job is the round that the row ends, if it ends one.
+/// Takes the round that the row ends, if it ends one.
 fn end_round(accounts: &mut [Account], job: Option<Job>, row: &Row)
     ensures { (system : TheSystem) (horizon : ℕ) (past : List TheRow) → accounts.old ≡ accounts_of system horizon 0 system.threads past →
         job ≡ job_of system past row.now.moment row.now.what →
@@ -80,7 +81,8 @@ fn end_round(accounts: &mut [Account], job: Option<Job>, row: &Row)
 }
 
 impl Table {
-    /// What is kept before the first row of a run of the system up to the horizon. `NoMemory` where a growth was refused.
+    /// A table before the first row of a run of the system up to the horizon. `NoMemory` if memory
+    /// runs out.
     pub fn new(alloc: Global, system: &System, horizon: Tick) -> Result<Self, NoMemory>
         ensures { IfOk result (λ table. table ≡ table_of system.now horizon []) }
     {
@@ -93,7 +95,8 @@ impl Table {
         })
     }
 
-    /// The same of any row. It stands apart, so that other rows, which are most, copy no job.
+    /// `see` for any row. It is kept out of line, since most rows end no round and need no copy of
+    /// a job.
     #[inline(never)]
     fn see_any(&mut self, job: Option<Job>, found: Option<Finding>, is_merged: bool, row: &Row)
         ensures { (system : TheSystem) (horizon : ℕ) (past : List TheRow) → self.old ≡ table_of system horizon past →
@@ -109,8 +112,8 @@ impl Table {
         );
     }
 
-    /// One row more, in constant time and without memory. A watch over the same rows tells of it the round that it ends, what is found, and
-    /// whether it merges a signal.
+    /// Takes one more row, in constant time and without memory. A watch over the same rows has the
+    /// other arguments: the round that the row ends, its finding, and whether it merges a signal.
     #[inline(always)]
     pub fn see(&mut self, job: Option<Job>, found: Option<Finding>, is_merged: bool, row: &Row)
         ensures { (system : TheSystem) (horizon : ℕ) (past : List TheRow) → self.old ≡ table_of system horizon past →
@@ -118,13 +121,13 @@ impl Table {
             is_merged ≡ merges system past row.now.what →
             self.new ≡ table_of system horizon (row.now ∷ past) }
     {
-        // others end no round, and change no count
+        // Other rows end no round and change no count.
         if let What::Round { .. } | What::Hold { .. } = row.what {
             self.see_any(job, found, is_merged, row);
         }
     }
 
-    /// Of the notification for which a script waits first.
+    /// The counts of the notification for which a script waits first.
     fn signals_for(&self, waits: Option<NoteId>) -> Option<Signals>
         ensures { (system : TheSystem) (horizon : ℕ) (past : List TheRow) → self.now ≡ table_of system horizon past →
             result ≡ signals_for system waits past }
@@ -140,7 +143,7 @@ impl Table {
         }
     }
 
-    /// What the table tells of a thread, where it and the watch saw all rows up to the horizon.
+    /// Returns the figures of a thread, if the table and the watch saw all rows up to the horizon.
     pub fn figures(&self, system: &System, watch: &Watch, thread: ThreadId) -> Figures
         requires known { thread < length system.now.threads }
         requires kept { length self.now.accounts ≡ length system.now.threads }
@@ -148,7 +151,7 @@ impl Table {
         ensures { (past : List TheRow) → self.now ≡ table_of system.now self.now.horizon past → watch.now ≡ watch_of system.now past →
             UpTo self.now.horizon past → result ≡ figures_of system.now self.now.horizon past thread }
     {
-        // so that no share is above 2^64 - 1
+        // Keeps every share below 2^64.
         prove!(self.horizon.get() <= Limits::TICK);
         let parts = system.parts();
         let part = parts.thread(thread);
@@ -167,9 +170,10 @@ impl Table {
         }
     }
 
-    /// How much of the context's budget was never used, where the watch saw all rows up to the horizon: the most ticks that it could let run
-    /// until then, its budget in each period from moment 0 on, less those that its threads ran. None where an order of the system names the
-    /// context, since that changes its budget. It takes time for each thread.
+    /// Returns how much of the context's budget was never used, if the watch saw all rows up to the
+    /// horizon: the maximum number of ticks that it can let run until then (its budget in each
+    /// period from time 0 on), less the ticks that its threads ran. `None` if an order of the
+    /// system names the context, since that changes its budget. Takes time for each thread.
     pub fn unused(&self, system: &System, watch: &Watch, context: ContextId) -> Option<u64>
         requires known { context < length system.now.contexts }
         requires watched { length watch.now.accounts ≡ length system.now.threads }

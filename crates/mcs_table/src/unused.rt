@@ -18,7 +18,8 @@ fn is_ordered(context: ContextId, orders: &[Order]) -> bool
     orders.iter().any(|order| order.context == context)
 }
 
-/// The most ticks that a context with this configuration can let run before the horizon.
+/// The maximum number of ticks that a context with this configuration can let run before the
+/// horizon.
 fn most_before(horizon: Tick, config: Config) -> u64
     requires { IsConfig config }
     ensures { result ≡ most_before horizon config }
@@ -27,7 +28,7 @@ fn most_before(horizon: Tick, config: Config) -> u64
     config.budget * (horizon / config.period) + config.budget.min(horizon % config.period)
 }
 
-/// How many ticks before the horizon the threads ran that are bound to the context.
+/// The ticks before the horizon that the threads of this context ran.
 fn ran(parts: &SystemParts, watch: &Watch, horizon: Tick, context: ContextId) -> u64
     requires { length watch.now.accounts ≡ length parts.now.threads }
     ensures { (past : List TheRow) → watch.now ≡ watch_of parts.now past → UpTo horizon past →
@@ -42,7 +43,8 @@ fn ran(parts: &SystemParts, watch: &Watch, horizon: Tick, context: ContextId) ->
     ran
 }
 
-/// The most ticks that a context can let run before the horizon, less what its threads ran; None where an order names it.
+/// The maximum that the context can let run before the horizon, less what its threads ran. `None`
+/// if an order names it.
 pub(crate) fn unused(
     system: &System,
     watch: &Watch,

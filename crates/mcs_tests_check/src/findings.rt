@@ -1,10 +1,10 @@
-//! Findings and rounds that ended, as text, and names that no notification has.
+//! Findings and jobs as text, and names that no notification has.
 
 use crate::runs::{LATE, SIGNALS, options, written};
 use mcs_check_words::Show;
 use std::test::Fail;
 
-/// It runs in [0, 2), [5, 7) and [10, 11).
+/// The thread of `LATE` runs in [0, 2), [5, 7) and [10, 11).
 const WHAT_IS_LATE: &str = "\
 11 0 miss A 1 11 deadline 10 activated 0 queued 0 ready 0 running 5 throttled 6 blocked 0 woken 0
 missed 1 overdue 0 lost 0 never 0 merged 0 allowed 0 hints 0
@@ -16,7 +16,8 @@ const WHAT_IS_LOST: &str = "\
 missed 0 overdue 0 lost 2 never 0 merged 0 allowed 0 hints 0
 ";
 
-/// The one round of `LATE`, and the three of `SIGNALS` that end up to 5, each of which begins where the one before ended.
+/// The one job of `LATE`. `SIGNAL_JOBS` has the two of `SIGNALS` up to 5; the second begins when
+/// the first ends.
 const LATE_JOBS: &str = "\
 11 0 job A 1 activated 0 begun 0 response 11 queued 0 preemptions 0 ready 0 running 5 throttled 6 blocked 0 woken 0
 missed 1 overdue 0 lost 0 never 0 merged 0 allowed 0 hints 0
@@ -58,7 +59,7 @@ fn lost_signals_are_written_or_allowed(rt: HostRuntime) -> Result<(), Fail> {
     Ok(())
 }
 
-/// No finding is written, and what is found is counted.
+/// No finding is written, but findings are counted.
 #[test]
 fn rounds_that_ended_are_written(rt: HostRuntime) -> Result<(), Fail> {
     for (system, horizon, want) in [(LATE, 20, LATE_JOBS), (SIGNALS, 5, SIGNAL_JOBS)] {
@@ -70,7 +71,7 @@ fn rounds_that_ended_are_written(rt: HostRuntime) -> Result<(), Fail> {
     Ok(())
 }
 
-/// A name of two lines is told in one, and one of more than 64 bytes is near to none.
+/// A name of two lines is written in one line, and one of more than 64 bytes has no nearest name.
 #[test]
 fn names_that_are_not_known(rt: HostRuntime) -> Result<(), Fail> {
     for (system, name, want) in [

@@ -1,4 +1,4 @@
-//! Findings, rounds and the table in each format.
+//! Findings, jobs and the table in each format.
 
 use crate::runs::{LATE, options, written};
 use mcs_check_words::{Format, Show};
@@ -36,7 +36,7 @@ fn other_formats_are_written(rt: HostRuntime) -> Result<(), Fail> {
     Ok(())
 }
 
-/// It runs 5 of 20 ticks, of which 4 periods have 8, and is throttled for 6.
+/// The thread runs 5 of 20 ticks and is throttled for 6; its 4 periods have a budget of 8.
 const LATE_TABLE: &str = "\
 thread A core 0 priority 5 budget 2 period 5 granted 400000 used 250000 rounds 1 greatest 11 p50 11 p90 11 p99 11 deadline 10 margin -1 \
 missed 1 late 1 lost - merged - ticks_pending 0 ticks_ready 0 ticks_running 5 ticks_throttled 6 ticks_blocked 0 ticks_woken 0 ticks_done 9

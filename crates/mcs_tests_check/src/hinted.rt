@@ -5,7 +5,7 @@ use mcs_load::load;
 use mcs_ticks::{CoreId, NoteId};
 use std::test::Fail;
 
-/// On a notification that is waited on and that no script signals.
+/// A hint on a notification that is waited on and that no script signals.
 #[test]
 fn hints_of_a_file(rt: HostRuntime) -> Result<(), Fail> {
     let text = r#"
@@ -25,8 +25,8 @@ thread = [{ name = "A", context = "a", priority = 5, script = ["wait tick", "com
     Ok(())
 }
 
-/// Three contexts take all of the core, and two have a part of it that is less than a millionth: more than all, though the shares,
-/// each rounded down, sum to less.
+/// Three contexts have all of the core, and two more have less than a millionth each. Their sum is
+/// more than the core, though the shares, each rounded down, sum to less.
 #[test]
 fn a_core_that_is_granted_a_little_more_than_all(rt: HostRuntime) -> Result<(), Fail> {
     let full = r#"

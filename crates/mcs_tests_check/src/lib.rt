@@ -1,4 +1,4 @@
-//! Tests of `mcs_check`, and of the calls of `mcs_verdict` and `mcs_hints` that it doesn't make, over their public items.
+//! Tests of `mcs_check`, and of calls of `mcs_verdict` and `mcs_hints` that it doesn't make.
 #![tactic(auto)]
 
 #[cfg(test)]

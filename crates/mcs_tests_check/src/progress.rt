@@ -1,4 +1,4 @@
-//! How far a run is, as it is told to who shows it.
+//! The progress of a run, as it is reported.
 
 use crate::runs::{SIGNALS, options};
 use mcs_check::{Progress, check};
@@ -10,7 +10,7 @@ use std::sync::Wait;
 use std::test::Fail;
 use std::thread::Threads;
 
-/// Counts what it is told.
+/// Counts the reports.
 #[derive(Drop)]
 struct Told {
     passed: usize,
@@ -49,7 +49,8 @@ fn progress_of(
     Ok(told)
 }
 
-/// What was shown gives way before each piece that is written, and at the end: two lines are two pieces.
+/// The display is cleared before each piece that is written, and at the end: two lines are two
+/// pieces.
 #[test]
 fn what_was_shown_gives_way(rt: HostRuntime) -> Result<(), Fail> {
     let none = progress_of(&rt, rt.alloc(), SIGNALS, &options(rt.alloc(), 0, 1, &[])?)?;
@@ -59,8 +60,9 @@ fn what_was_shown_gives_way(rt: HostRuntime) -> Result<(), Fail> {
     Ok(())
 }
 
-/// In ten ticks are 5 signals, 5 words that are held, 5 ends of rounds, a stop and a run: 17 rows. It is told after each 16,384 rows: for the
-/// fourth time between 38,500 and 39,500, and not again before the end.
+/// Ten ticks have 5 signals, 5 held words, 5 ends of rounds, a stop and a run: 17 rows. The
+/// progress is reported after each 16,384 rows: the fourth time between 38,500 and 39,500, and not
+/// again.
 #[test]
 fn a_long_run_is_told_of(rt: HostRuntime) -> Result<(), Fail> {
     let long = progress_of(

@@ -1,4 +1,4 @@
-//! Two systems, how they are run, and what is written of them.
+//! Two systems, their options, and what is written about them.
 ghost use Rattle.std.specs.Prelude.{◌≤◌, ◌^◌};
 
 use mcs_check::{Quiet, check};
@@ -11,7 +11,7 @@ use std::sync::Wait;
 use std::test::Fail;
 use std::thread::Threads;
 
-/// A thread that computes for 5 ticks, of which it gets 2 in 5, and so needs 11 where it has 10.
+/// A thread that computes for 5 ticks and gets 2 in 5. It needs 11 ticks, and its deadline is 10.
 pub(crate) const LATE: &str = r#"
 version = 1
 cores = 1
@@ -20,7 +20,7 @@ context = [{ name = "a", core = 0, budget = 2, period = 5 }]
 thread = [{ name = "A", context = "a", priority = 5, rounds = 1, deadline = 10, script = ["compute 5"] }]
 "#;
 
-/// A thread that signals at 1, 3 and 5, and nobody waits.
+/// A thread that signals at 1, 3 and 5, for which nobody waits.
 pub(crate) const SIGNALS: &str = r#"
 version = 1
 cores = 1
@@ -30,7 +30,7 @@ note = [{ name = "tick", core = 0 }]
 thread = [{ name = "A", context = "a", priority = 5, script = ["signal tick 1", "compute 1"] }]
 "#;
 
-/// Findings as text, up to a horizon, by so many workers, with lost signals allowed on these notifications.
+/// Options for findings as text, with lost signals allowed at these notifications.
 pub(crate) fn options(
     alloc: Global,
     horizon: u64,
@@ -58,7 +58,7 @@ pub(crate) fn options(
     })
 }
 
-/// What is written of a system, and behind it the line of the fault.
+/// The text that is written about a system, followed by the line of the fault.
 pub(crate) fn written(
     rt: &(impl Threads + Wait + Sync),
     alloc: Global,

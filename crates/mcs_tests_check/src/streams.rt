@@ -1,4 +1,4 @@
-//! What a run reads, and what it writes to.
+//! The source and the target of a run.
 
 use crate::runs::{LATE, SIGNALS, options};
 use mcs_check::{CheckFault, Counts, Quiet, check, check_with};
@@ -10,7 +10,7 @@ use std::sync::Wait;
 use std::test::Fail;
 use std::thread::Threads;
 
-/// The first of three texts has room.
+/// There is room for the first line and a part of the next.
 #[test]
 fn a_target_that_is_full_has_failed(rt: HostRuntime) -> Result<(), Fail> {
     let mut room = [b'-'; 20];
@@ -41,7 +41,7 @@ fn of_input(
     Ok(check_with(rt, alloc, &mut source, &mut target, &options, &mut Quiet))
 }
 
-/// A file that is not there was not read; where none is named the input is.
+/// A file that does not exist cannot be read. Without a name the input is read.
 #[test]
 fn files_and_the_input(rt: HostRuntime) -> Result<(), Fail> {
     let name = String::from_str(rt.alloc(), "no_folder/no_file.toml")?;

@@ -1,4 +1,4 @@
-//! Why a round took so long, as text and as JSON.
+//! Explanations of rounds, as text and as JSON.
 ghost use Rattle.std.specs.Prelude.{◌≤◌, ◌^◌};
 
 use mcs_check::{Quiet, WhyFault, explain, explain_with};
@@ -12,7 +12,8 @@ use std::sync::Wait;
 use std::test::Fail;
 use std::thread::Threads;
 
-/// Low takes the lock at 2, and High waits for it from 5 to 29; Mid, which has nothing to do with it, keeps Low from running from 6 to 26.
+/// Low takes the lock at 2, and High waits for it from 5 to 29. Mid has nothing to do with it, and
+/// keeps Low from running from 6 to 26.
 const LOCK: &str = r#"
 version = 1
 cores = 1
@@ -57,7 +58,7 @@ ran High 3
 idle 0
 ";
 
-/// Up to 6 it has not begun.
+/// Up to 6 the round has not begun.
 const NOT_BEGUN: &str = "\
 {\"moment\":5,\"core\":0,\"kind\":\"stop\",\"thread\":\"High\",\"why\":\"wait\",\"charged\":1}
 {\"moment\":5,\"core\":0,\"kind\":\"run\",\"thread\":\"Low\"}
@@ -69,7 +70,7 @@ const NOT_BEGUN: &str = "\
 {\"kind\":\"idle\",\"ticks\":0}
 ";
 
-/// T never gets to its wait: from its start on Busy runs.
+/// T never reaches its wait: Busy runs from T's start on.
 const STARVED: &str = r#"
 version = 1
 cores = 1
@@ -116,7 +117,7 @@ fn question(alloc: Global, thread: &str, round: &str) -> Result<Question, Fail> 
     })
 }
 
-/// What is written of a round of the lock, and behind it the line of the fault.
+/// The text about a round of the lock, followed by the exit code and line of the fault.
 fn written(
     rt: &(impl Threads + Wait + Sync),
     alloc: Global,
@@ -126,7 +127,7 @@ fn written(
     written_of(rt, alloc, LOCK, options, question)
 }
 
-/// And of a round of this system.
+/// `written` for a round of this system.
 fn written_of(
     rt: &(impl Threads + Wait + Sync),
     alloc: Global,
@@ -172,7 +173,8 @@ fn a_lock_is_told(rt: HostRuntime) -> Result<(), Fail> {
     Ok(())
 }
 
-/// A thread that never reached the wait with which its rounds begin is told from its start on, and before it no round is.
+/// If a thread never reached the wait with which its rounds begin, the span begins at its start.
+/// Before that there is no round.
 #[test]
 fn who_ran_before_a_first_wait(rt: HostRuntime) -> Result<(), Fail> {
     let question = question(rt.alloc(), "T", "1")?;
@@ -188,7 +190,7 @@ fn who_ran_before_a_first_wait(rt: HostRuntime) -> Result<(), Fail> {
     Ok(())
 }
 
-/// A name of two lines is told in one, and one of more than 64 bytes is near to none.
+/// A name of two lines is written in one line, and one of more than 64 bytes has no nearest name.
 #[test]
 fn rounds_that_are_not_there(rt: HostRuntime) -> Result<(), Fail> {
     for (thread, round, want) in [
@@ -227,7 +229,7 @@ fn rounds_that_are_not_there(rt: HostRuntime) -> Result<(), Fail> {
         let text = written(&rt, rt.alloc(), &options(rt.alloc(), 100, 1), &question)?;
         assert_eq!(rt; text.as_str(), want);
     }
-    // none has begun before the start
+    // no round has begun before the start
     let question = question(rt.alloc(), "High", "1")?;
     let text = written(&rt, rt.alloc(), &options(rt.alloc(), 3, 1), &question)?;
     assert_eq!(rt;
@@ -276,7 +278,7 @@ fn of_input(
     ))
 }
 
-/// A file that is not there was not read; where none is named the input is.
+/// A file that does not exist cannot be read. Without a name the input is read.
 #[test]
 fn files_and_the_input(rt: HostRuntime) -> Result<(), Fail> {
     let name = String::from_str(rt.alloc(), "no_folder/no_file.toml")?;

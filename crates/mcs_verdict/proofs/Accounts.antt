@@ -1,4 +1,4 @@
--- What is kept of a thread after one row more.
+-- The account of a thread after one more row.
 use Rattle.std.proofs.Common.{◌≡◌, ℕ, ◌-◌, ◌≤◌, true, false, List, [], ◌∷◌, Option, Some, None, refl, sym, ap, arith}
 use Rattle.std.proofs.lemmas.Bool.Decides.{nat_tests}
 use Rattle.mcs_ticks.specs.declared.row.Row.{Row}
@@ -22,12 +22,12 @@ none_passed next rows from n e = ap (stood_for next rows from) e
 pub none_active : (next : Option What) (rows : List Row) (from n : ℕ) → n ≡ 0 → first_for next rows from n ≡ None
 none_active next rows from n e = ap (first_for next rows from) e
 
--- where the round begins at the moment of the latest row or later
+-- if the round begins at the time of the latest row or later
 pub none_yet : (rows : List Row) (m : ℕ) → since_of rows ≤ m → (stood_of (Some m) rows ≡ no_ticks) × (active_of (Some m) rows ≡ None)
 none_yet [] m h = (refl, refl)
 none_yet (r ∷ rows) m h = (none_passed (Some r.what) rows m (r.moment - m) (omega arith), none_active (Some r.what) rows m (r.moment - m) (omega arith))
 
--- what is kept is enough to tell how the thread stood up to some moment
+-- the account is enough to say how the thread stood up to some time
 pub since-kept : (deadline : ℕ) (waits bits : Option ℕ) (from : ℕ) (word : Option ℕ) (k m : ℕ) (next : Option What) (rows : List Row) → since_of rows ≤ m
     → stood_since (Some from) m (settled next (standing_of rows)) (kept deadline waits bits (Some from) word k rows) ≡ stood_for next rows from (m - from)
 since-kept deadline waits bits from word k m next [] h = grind (arith, stretch_pending next from (m - from))
@@ -39,13 +39,13 @@ pub active-kept : (deadline : ℕ) (waits bits : Option ℕ) (from : ℕ) (word 
 active-kept deadline waits bits from word k m next [] h = sym (first_pending next from (m - from))
 active-kept deadline waits bits from word k m next (r ∷ rows) h = sym (stretch_first next r rows from m h)
 
--- and how it stood from moment 0 on
+-- how it stood from time 0 on
 pub total-kept : (deadline : ℕ) (waits bits began word : Option ℕ) (k m : ℕ) (next : Option What) (rows : List Row) → since_of rows ≤ m
     → total_at m (settled next (standing_of rows)) (kept deadline waits bits began word k rows) ≡ stood_for next rows 0 (m - 0)
 total-kept deadline waits bits began word k m next [] h = grind (arith, stretch_pending next 0 m)
 total-kept deadline waits bits began word k m next (r ∷ rows) h = grind (arith, stretch next r rows 0 m h)
 
--- where no row follows, a standing is as it was told
+-- if no row follows, a standing is settled as it is
 pub unsettled : (s : Standing) → settled None s ≡ s
 unsettled s = grind arith
 
@@ -85,7 +85,7 @@ given-kept : (deadline : ℕ) (waits bits began word : Option ℕ) (k m set give
     ≡ kept deadline waits bits (begun_by_word waits bits given_word m began) (called_by waits bits given_word set began word) k rows
 given-kept deadline waits bits began word k m set given_word rows h = grind (arith, none_yet rows m h)
 
--- where the row is about another thread
+-- if the row is about another thread
 pub same : (firsts : List Held) (part : ThreadPart) (thread : ℕ) (past : List Row) (m core : ℕ) (what : What) → is_about thread what ≡ false
     → account_of firsts part thread (record { moment = m; core = core; what = what } ∷ past) ≡ account_of firsts part thread past
 same firsts part thread past m core what e = grind (arith, nat_tests)

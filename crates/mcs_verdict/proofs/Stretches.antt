@@ -1,4 +1,4 @@
--- From one telling row to the next a thread stands in one way.
+-- Between two telling rows the state of a thread stays.
 use Rattle.std.proofs.Common.{◌≡◌, ℕ, zero, suc, ◌+◌, ◌-◌, ◌≤◌, max, Bool, List, [], ◌∷◌, Option, Some, None, refl, sym, ap, ◌∙◌, arith}
 use Rattle.std.proofs.lemmas.Bool.Decides.{nat_tests}
 use Rattle.mcs_ticks.specs.declared.row.Row.{Row}
@@ -16,7 +16,7 @@ earlier : (next : Option What) (r : Row) (rows : List Row) (from n : ℕ) → n 
 earlier next r rows from zero h = refl
 earlier next r rows from (suc n) h = grind (arith, nat_tests, earlier next r rows from n (omega arith))
 
--- and from then on it stands in one way
+-- and from then on its state stays
 later : (next : Option What) (r : Row) (rows : List Row) (from n k m : ℕ) → r.moment ≤ from + n → m ≡ k + n
     → stood_for next (r ∷ rows) from m
     ≡ counted (settled next (standing_after r.what)) k (stood_for next (r ∷ rows) from n)

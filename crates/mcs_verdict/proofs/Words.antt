@@ -57,7 +57,7 @@ pub word_kept : (note : ℕ) (firsts : List Held) (past : List Row) (words : Lis
 word_kept note firsts past words d e h =
     ap (λ words. get_or words note d) e ∙ word_from 0 note note firsts past d (omega arith) (omega (arith, ap length e, length-words 0 firsts past))
 
--- which is the word of one of so many notifications
+-- the word of one of these notifications
 pub word_of : (place note : ℕ) (firsts : List Held) (past : List Row) (words : List Held) (d : Held) → place ≡ note → words ≡ words_of 0 firsts past
     → place < length words → d ≡ get_or words place d → d ≡ held_of firsts note past
 word_of place note firsts past words d same e h is =

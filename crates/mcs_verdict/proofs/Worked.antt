@@ -109,7 +109,8 @@ too_slow_in_each :
     ≡ found 3 (finding.Miss 0 1 3 2 0 0 (parts 0 3 0 0)) ∷ found 13 (finding.Miss 0 2 3 2 10 0 (parts 0 3 7 0)) ∷ []
 too_slow_in_each = refl
 
--- a woken thread was throttled where `release` is its next row, ready where `run` is, and nobody knows where the rows end
+-- a woken thread was throttled if `release` is its next row and ready if `run` is; at the end of
+-- the rows nobody knows
 abbrev woken : List Row → List Row
 woken rest = at 0 (row.Release 1) ∷ at 0 (row.Run 1) ∷ at 1 (row.Stop 1 why.Wait 1 None) ∷ at 5 (row.Wake 1 0 1) ∷ rest
 
@@ -137,7 +138,7 @@ not_taken = refl
 yet_to_be_taken : findings (two (thread 0 0 (Compute 100 ∷ [])) (thread 1 5 (Wait 0 ∷ Compute 2 ∷ []))) 6 held_for ≡ []
 yet_to_be_taken = refl
 
--- a signal is merged where it adds bits, and lost where it adds none
+-- a signal is merged if it adds bits, and lost if it adds none
 merged : merges (two (thread 0 0 (Compute 1 ∷ [])) (thread 1 0 (Compute 1 ∷ []))) (at 1 (row.Hold 0 1) ∷ []) (row.Hold 0 3) ≡ true
 merged = refl
 
@@ -165,8 +166,9 @@ job thread number activated begun ended response queued preemptions stood =
 preempted_once : jobs_in (two (thread 0 0 (Signal 0 1 ∷ [])) (thread 1 6 (Wait 0 ∷ Compute 12 ∷ []))) [] looped ≡ job 1 1 1 2 16 15 1 1 (parts 2 12 0 0) ∷ []
 preempted_once = refl
 
--- Of a loop that waits first, a preemption before the word is taken belongs to no round, at the moment of its beginning too; one at that
--- moment after the word is taken does; one after the round's end does not.
+-- If the loop waits first, a preemption before the word is taken belongs to no round, even at the
+-- time of its beginning. One after the word is taken counts, even at that time; one after the
+-- round's end does not.
 abbrev preempts : List Row
 preempts =
     at 0 (row.Release 1) ∷ at 0 (row.Run 1) ∷ at 1 (row.Stop 1 why.Preempt 1 None) ∷ at 4 (row.Hold 0 1) ∷ at 5 (row.Run 1)
@@ -178,8 +180,8 @@ preempted_in_the_first : jobs_in (two (thread 0 0 (Signal 0 1 ∷ [])) (thread 1
     ≡ job 1 1 4 5 8 4 1 1 (parts 1 2 0 0) ∷ job 1 2 9 10 12 3 1 0 (parts 0 2 0 0) ∷ []
 preempted_in_the_first = refl
 
--- Of a loop that begins where the round before ended, such a preemption belongs to the next round. A stop of another cause is none, and the
--- preemption of another thread is not counted.
+-- If the loop begins when the round before ends, such a preemption belongs to the next round. A
+-- stop of another cause is no preemption, and that of another thread is not counted.
 abbrev spends : List Row
 spends =
     at 0 (row.Release 0) ∷ at 0 (row.Release 1) ∷ at 0 (row.Run 0) ∷ at 2 (row.Stop 0 why.Spent 2 (Some 10)) ∷ at 2 (row.Run 1)
@@ -230,7 +232,7 @@ not_later_thread h = no (ap (λ (account : Account). account.begun) (h.later no_
 later_word : IsLaterWord 10 first second 0
 later_word = record { known_before = lit< tt; known_after = lit< tt; later = λ d. refl }
 
--- a word that is taken is 0, as it was before
+-- a word that is taken is 0, as before
 same_word : IsSameWord first second 0
 same_word = record { known_before = lit< tt; known_after = lit< tt; same = λ d. refl }
 
@@ -244,7 +246,8 @@ of_no_thread_later h = absurd (omega (arith, h.known_before))
 of_no_note : IsSetWord first 1 → ⊥
 of_no_note h = absurd (omega (arith, h.known))
 
--- Thread 0 on core 0 signals twice across to a notification of core 1, where the word is still held when the second signal arrives.
+-- Thread 0 on core 0 signals twice to a notification of core 1. The first word is still pending
+-- when the second signal arrives.
 abbrev across : System
 across =
     record {
@@ -283,8 +286,8 @@ lost_on_its_core = refl
 none_on_the_other : found_in across [] (rows_on 0 crossed) ≡ []
 none_on_the_other = refl
 
--- Words with one of these bits leave something to do: those of handlers that have an item. Where an item stands before all handlers, or there
--- is none, each word does.
+-- Words with one of these bits leave something to do: those of handlers that have an item. If an
+-- item comes before all handlers, or there is no handler, every word does.
 of_handlers : called_for (Wait 0 ∷ On 1 ∷ Compute 2 ∷ On 2 ∷ On 12 ∷ Compute 1 ∷ On 16 ∷ []) ≡ Some 13
 of_handlers = refl
 
@@ -310,7 +313,7 @@ woken_for_something = refl
 never_for_something : findings (handles 3) 9 (woken_for_nothing []) ≡ found 9 (finding.Never 1 3) ∷ []
 never_for_something = refl
 
--- Of a word that is held, the first bit for which there is something to do counts, since it was last taken.
+-- The first bit that leaves something to do counts, since the word was last taken.
 abbrev held_for_nothing : List Row → List Row
 held_for_nothing rest =
     at 0 (row.Release 0) ∷ at 0 (row.Release 1) ∷ at 0 (row.Run 0) ∷ at 1 (row.Signal 0 0 4) ∷ at 1 (row.Hold 0 4)

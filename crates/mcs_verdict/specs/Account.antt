@@ -1,4 +1,4 @@
--- What is kept of a thread: a few numbers, by which the rows so far need not be kept.
+-- The account of a thread: a few numbers that replace the rows so far.
 use Rattle.std.specs.Prelude.{ℕ, ◌+◌, ◌-◌, max, Bool, true, false, ◌==◌, ◌&&◌, nat_lt, if◌then◌else◌, List, [], ◌∷◌, Option, Some, None}
 use Rattle.mcs_ticks.specs.declared.row.Row.{Row}
 use Rattle.mcs_ticks.specs.declared.row.What.{What}
@@ -21,7 +21,7 @@ use Rattle.mcs_verdict.specs.Words.{held_of}
 use Rattle.mcs_verdict.specs.Jobs.{with_preemption, preemptions, or_now, ended}
 use Rattle.mcs_verdict.specs.Misses.{missed, overdue_at, yet_to_begin, was_activated, never_at, first_of}
 
--- of the telling rows: what the latest says, its moment, and how the thread stood up to it since some moment
+-- how the thread stands by its latest telling row, the time of that row, and how it stood up to it
 abbrev pub standing_of : List Row → Standing
 standing_of [] = Pending
 standing_of (r ∷ rows) = standing_after r.what
@@ -35,13 +35,13 @@ stood_of None rows = no_ticks
 stood_of (Some from) [] = no_ticks
 stood_of (Some from) (r ∷ rows) = stood_for (Some r.what) rows from (r.moment - from)
 
--- and when it was first ready or running
+-- when it was first ready or running, up to the latest telling row
 abbrev pub active_of : Option ℕ → List Row → Option ℕ
 active_of None rows = None
 active_of (Some from) [] = None
 active_of (Some from) (r ∷ rows) = first_for (Some r.what) rows from (r.moment - from)
 
--- what is kept of a thread whose round began at this moment, by its telling rows
+-- the account of a thread whose round began at `began`, by its telling rows
 abbrev pub kept : ℕ → Option ℕ → Option ℕ → Option ℕ → Option ℕ → ℕ → List Row → Account
 kept deadline waits bits began word preemptions rows =
     record {
@@ -58,7 +58,7 @@ kept deadline waits bits began word preemptions rows =
       total = stood_of (Some 0) rows;
     }
 
--- the account of a thread after these rows, in a system where the words at first are these
+-- the account after the rows `past`, if the words at first are `firsts`
 abbrev pub account_of : List Held → ThreadPart → ℕ → List Row → Account
 account_of firsts part thread past =
     kept part.deadline (first_wait part) (bits_of part) (begun (first_wait part) (bits_of part) part.start thread past)
@@ -70,16 +70,17 @@ account_of firsts part thread past =
 abbrev pub all_kept : Account → ℕ
 all_kept account = all_ticks account.stood + all_ticks account.total
 
--- how the thread stood since its round began, up to some moment, where it stood so since its latest telling row
+-- how the thread stood since its round began, up to `moment`, if it stood so since its latest
+-- telling row
 abbrev pub stood_since : Option ℕ → ℕ → Standing → Account → Stood
 stood_since None moment standing account = account.stood
 stood_since (Some from) moment standing account = counted standing (moment - max account.since from) account.stood
 
--- how it stood from moment 0 on
+-- how it stood from time 0 up to `moment`
 abbrev pub total_at : ℕ → Standing → Account → Stood
 total_at moment standing account = counted standing (moment - account.since) account.total
 
--- an earlier tick, or the first one of [from, to) where the thread may run in them
+-- the earlier tick, or the first one of [from, to) if the thread is active in them
 abbrev pub or_first : Option ℕ → Bool → ℕ → ℕ → Option ℕ
 or_first (Some earlier) active from to = Some earlier
 or_first None active from to = if active && nat_lt from to then Some from else None
@@ -89,7 +90,7 @@ abbrev pub active_since : Option ℕ → ℕ → Standing → Account → Option
 active_since None moment standing account = account.active
 active_since (Some from) moment standing account = or_first account.active (is_active standing) (max account.since from) moment
 
--- the ticks up to some moment, in which it stood so, in the round that is under way
+-- the ticks up to `moment`, in which it stood so, counted into its round
 abbrev pub passed : ℕ → Standing → Account → Account
 passed moment standing account =
     record account {
@@ -97,7 +98,7 @@ passed moment standing account =
       stood = stood_since account.begun moment standing account;
     }
 
--- a telling row, before which it stood so
+-- a telling row, before which it stood as `standing`
 abbrev pub told_from : Standing → ℕ → What → Account → Account
 told_from standing moment what account =
     record (passed moment standing account) {
@@ -109,11 +110,11 @@ told_from standing moment what account =
 abbrev pub told : ℕ → What → Account → Account
 told moment what account = told_from (settled (Some what) account.standing) moment what account
 
--- a round begins, or none is under way any more, and nothing is counted yet
+-- a round begins at `began`, or no round is under way; no tick is counted yet
 abbrev pub begins : Option ℕ → Account → Account
 begins began account = record account { begun = began; active = None; stood = no_ticks }
 
--- and the round before it ended
+-- the round before it ended
 abbrev pub ends : Option ℕ → Account → Account
 ends began account = record (begins began account) { preemptions = 0 }
 
@@ -121,7 +122,7 @@ ends began account = record (begins began account) { preemptions = 0 }
 abbrev pub preempted : Account → Account
 preempted account = record account { preemptions = with_preemption account.begun account.preemptions }
 
--- the thread has a word, which was set at some moment, and leaves something to do or not
+-- the thread has a word that was set at `set`; the Boolean is whether it leaves something to do
 abbrev pub given_by : ℕ → ℕ → Bool → Option ℕ → Option ℕ → Account → Account
 given_by moment set true (Some note) None account = begins (Some moment) (record account { called = Some set })
 given_by moment set _ _ _ account = account
@@ -129,25 +130,25 @@ given_by moment set _ _ _ account = account
 abbrev pub given : ℕ → ℕ → ℕ → Account → Account
 given moment set word account = given_by moment set (calls account.bits word) account.waits account.begun account
 
--- what a telling row begins or ends
+-- the round that a telling row begins or ends, or the preemption that it counts
 abbrev pub turned : ℕ → What → Account → Account
 turned moment (row.Stop x why.Done charged until) account = ends None account
 turned moment (row.Stop x why.Preempt charged until) account = preempted account
 turned moment (row.Wake x note word) account = given moment moment word account
 turned moment _ account = account
 
--- one row of this thread more; a word that is taken was set at some moment
+-- one more row of this thread; a word that is taken was set at `set`
 abbrev pub seen_own : ℕ → ℕ → What → Account → Account
 seen_own set moment (row.Got x note word) account = given moment set word account
 seen_own set moment (row.Round x number response) account = ends (begun_at account.waits moment) account
 seen_own set moment what account = turned moment what (told moment what account)
 
--- when the word was set that a row says is taken
+-- when the word that the row takes was set
 abbrev pub set_for : List Held → List Row → What → ℕ
 set_for firsts past (row.Got x note word) = (held_of firsts note past).since
 set_for firsts past _ = 0
 
--- the thread of a row that changes what is kept of it
+-- the thread of a row that changes an account
 abbrev pub subject : What → Option ℕ
 subject (row.Release x) = Some x
 subject (row.Run x) = Some x
@@ -164,22 +165,22 @@ is_some_of (Some x) thread = x == thread
 abbrev pub is_about : ℕ → What → Bool
 is_about thread what = is_some_of (subject what) thread
 
--- when the round was activated that is under way, by what is kept
+-- when the round that is under way was activated, by the account
 abbrev pub activated_since : ℕ → Account → Option ℕ
 activated_since moment account =
     activated_by account.waits account.called (active_since account.begun moment account.standing account)
 
--- the round that ends, told by what is kept
+-- the round that ends, by the account
 abbrev pub job_by : ℕ → ℕ → ℕ → Account → Job
 job_by moment thread number account =
     ended moment thread number (or_now moment account.begun) (or_now moment (activated_since moment account))
     account.preemptions (stood_since account.begun moment account.standing account)
 
--- whether it missed its deadline
+-- its deadline miss, if it missed its deadline
 abbrev pub miss_by : ℕ → ℕ → ℕ → Account → Option Finding
 miss_by moment thread number account = missed account.deadline (job_by moment thread number account)
 
--- and what is overdue
+-- the round that is overdue at the horizon
 abbrev pub overdue_from : ℕ → ℕ → Held → Option ℕ → Account → Option Finding
 overdue_from horizon thread held None account =
     overdue_at horizon thread account.deadline horizon no_ticks (yet_to_begin account.standing account.bits held)

@@ -6,19 +6,19 @@ use Rattle.mcs_verdict.specs.declared.standing.Standing.{Standing}
 use Rattle.mcs_verdict.specs.declared.standing.Standing.TheVariants.{Ready, Running}
 use Rattle.mcs_verdict.specs.Standing.{standing_at, telling}
 
--- it has budget, and nothing to wait for
+-- it has budget and waits for nothing
 abbrev pub is_active : Standing → Bool
 is_active Ready = true
 is_active Running = true
 is_active _ = false
 
--- an earlier tick, or this one
+-- the earlier tick, or this one if the thread is active
 abbrev pub or_tick : Option ℕ → Bool → ℕ → Option ℕ
 or_tick (Some earlier) active tick = Some earlier
 or_tick None true tick = Some tick
 or_tick None false tick = None
 
--- the first of the ticks from a moment on, so many of them, in which the thread is ready or running
+-- the first of the n ticks from `from` on in which the thread is ready or running
 abbrev pub first_for : Option What → List Row → ℕ → ℕ → Option ℕ
 first_for next rows from zero = None
 first_for next rows from (suc n) =

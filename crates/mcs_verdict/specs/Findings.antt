@@ -1,4 +1,4 @@
--- What is found in rows: what each row tells, by the rows before it, and what is found at the horizon.
+-- The findings of rows, each by the rows before it, and the findings at the horizon.
 use Rattle.std.specs.Prelude.{ℕ, suc, ◌≤◌, List, [], ◌∷◌, ◌++◌, Option, Some, None}
 use Rattle.mcs_ticks.specs.declared.row.Row.{Row}
 use Rattle.mcs_ticks.specs.declared.row.What.{What}
@@ -10,18 +10,18 @@ use Rattle.mcs_verdict.specs.declared.finding.Found.{Found}
 use Rattle.mcs_verdict.specs.Misses.{miss, unended}
 use Rattle.mcs_verdict.specs.Words.{lost}
 
--- what a row that comes after these tells
+-- the finding of a row that comes after these
 abbrev pub finding : System → List Row → ℕ → What → Option Finding
 finding system past moment (row.Round thread number response) = miss system past moment thread number
 finding system past moment (row.Hold note word) = lost system past note word
 finding system past moment _ = None
 
--- no row so far is of a later moment
+-- no row so far is later than this time
 abbrev pub UpTo : ℕ → List Row → Type 0
 UpTo moment [] = Unit {0}
 UpTo moment (r ∷ past) = (r.moment ≤ moment) × UpTo moment past
 
--- each row is of no earlier moment than those before it
+-- no row is earlier than the rows before it
 abbrev pub InOrder : List Row → List Row → Type 0
 InOrder past [] = Unit {0}
 InOrder past (r ∷ rows) = UpTo r.moment past × InOrder (r ∷ past) rows
@@ -35,19 +35,19 @@ abbrev pub found_at : ℕ → ℕ → Option Finding → List Found
 found_at moment core None = []
 found_at moment core (Some found) = record { moment = moment; core = core; finding = found } ∷ []
 
--- what these rows tell, each by those before it
+-- the findings of these rows, each by the rows before it
 abbrev pub found_in : System → List Row → List Row → List Found
 found_in system past [] = []
 found_in system past (r ∷ rows) =
     found_at r.moment r.core (finding system past r.moment r.what) ++ found_in system (r ∷ past) rows
 
--- what is found at the horizon of the threads from this number on
+-- the findings at the horizon, of the threads from number n on
 abbrev pub found_at_end : System → List Row → ℕ → ℕ → List ThreadPart → List Found
 found_at_end system past horizon n [] = []
 found_at_end system past horizon n (part ∷ parts) =
     found_at horizon (core_of system part) (unended system past horizon n) ++ found_at_end system past horizon (suc n) parts
 
--- all that is found in the rows of a run up to the horizon
+-- all findings of a run up to the horizon
 abbrev pub findings : System → ℕ → List Row → List Found
 findings system horizon rows =
     found_in system [] rows ++ found_at_end system (past_of [] rows) horizon 0 system.threads

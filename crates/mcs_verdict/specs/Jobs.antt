@@ -1,4 +1,4 @@
--- Rounds that ended, as jobs: what a round was, by the rows before its end.
+-- Rounds that ended (jobs), each by the rows before its end.
 use Rattle.std.specs.Prelude.{ℕ, ◌-◌, ◌==◌, nat_lt, if◌then◌else◌, List, [], ◌∷◌, ◌++◌, length, Option, Some, None, option_to_list}
 use Rattle.mcs_ticks.specs.Capped.{one_more}
 use Rattle.mcs_ticks.specs.declared.row.Row.{Row}
@@ -12,19 +12,19 @@ use Rattle.mcs_verdict.specs.Stood.{stood_in}
 use Rattle.mcs_verdict.specs.Calls.{bits_of}
 use Rattle.mcs_verdict.specs.Rounds.{first_wait, begun, begun_of, activated}
 
--- a preemption counts where a round is under way
+-- a preemption counts if a round is under way
 abbrev pub with_preemption : Option ℕ → ℕ → ℕ
 with_preemption None n = n
 with_preemption (Some begun) n = one_more n
 
--- what this row makes of how often the round under way was preempted; a round that ends leaves 0 to the next
+-- the preemptions of the round under way after this row; a round that ends leaves 0
 abbrev pub preemptions_after : ℕ → Option ℕ → What → ℕ → ℕ
 preemptions_after thread begun (row.Round x number response) n = if x == thread then 0 else n
 preemptions_after thread begun (row.Stop x why.Done charged until) n = if x == thread then 0 else n
 preemptions_after thread begun (row.Stop x why.Preempt charged until) n = if x == thread then with_preemption begun n else n
 preemptions_after thread begun _ n = n
 
--- how often the round of the thread that is under way was preempted, 0 where none is
+-- how often the thread's round under way was preempted; 0 if no round is under way
 abbrev pub preemptions : Option ℕ → Option ℕ → ℕ → ℕ → List Row → ℕ
 preemptions waits bits start thread [] = 0
 preemptions waits bits start thread (r ∷ past) =
@@ -35,12 +35,12 @@ preemptions_of system thread past =
     let part = thread_part system thread in
     preemptions (first_wait part) (bits_of part) part.start thread past
 
--- a moment of which no row tells is taken to be this one
+-- the earlier time, or this one if the rows have none
 abbrev pub or_now : ℕ → Option ℕ → ℕ
 or_now moment None = moment
 or_now moment (Some earlier) = earlier
 
--- a round that ends at this moment
+-- a round that ends at this time
 abbrev pub ended : ℕ → ℕ → ℕ → ℕ → ℕ → ℕ → Stood → Job
 ended moment thread number begun activated preemptions stood =
     record {
@@ -55,14 +55,14 @@ ended moment thread number begun activated preemptions stood =
       stood = stood;
     }
 
--- as the rows before its end tell
+-- the round, by the rows before its end
 abbrev pub job : System → List Row → ℕ → ℕ → ℕ → Job
 job system past moment thread number =
     let begun = or_now moment (begun_of system thread past) in
     ended moment thread number begun (or_now moment (activated system thread past begun moment))
     (preemptions_of system thread past) (stood_in thread past begun moment)
 
--- of a thread that the system has
+-- only for a thread of the system
 abbrev pub job_known : System → List Row → ℕ → ℕ → ℕ → Option Job
 job_known system past moment thread number =
     if nat_lt thread (length system.threads) then Some (job system past moment thread number) else None

@@ -1,4 +1,4 @@
--- When the round of a thread that is under way began and was activated, by the rows so far, the latest first.
+-- When a thread's round under way began and was activated, by the rows so far, the latest first.
 use Rattle.std.specs.Prelude.{ℕ, List, [], ◌∷◌, ◌==◌, if◌then◌else◌, Option, Some, None}
 use Rattle.mcs_ticks.specs.declared.row.Row.{Row}
 use Rattle.mcs_ticks.specs.declared.row.What.{What}
@@ -11,17 +11,18 @@ use Rattle.mcs_verdict.specs.declared.held.Held.{Held}
 use Rattle.mcs_verdict.specs.Words.{held_of, firsts_of}
 pub use Rattle.mcs_verdict.specs.Calls.{waited_on, first_wait}
 
--- a round that begins where the round before ended, or the thread started, unless its script begins with a wait
+-- a round begins when the one before it ends or the thread starts, unless the script begins with a
+-- wait
 abbrev pub begun_at : Option ℕ → ℕ → Option ℕ
 begun_at (Some note) moment = None
 begun_at None moment = Some moment
 
--- the first word that leaves something to do begins a round whose script begins with a wait
+-- if the script begins with a wait, the first word that leaves something to do begins a round
 abbrev pub begun_by_word : Option ℕ → Option ℕ → ℕ → ℕ → Option ℕ → Option ℕ
 begun_by_word (Some note) bits word moment None = if calls bits word then Some moment else None
 begun_by_word waits bits word moment begun = begun
 
--- what this row makes of the beginning of the round that is under way
+-- the beginning of the round under way, after this row
 abbrev pub begun_after : Option ℕ → Option ℕ → ℕ → ℕ → What → Option ℕ → Option ℕ
 begun_after waits bits thread moment (row.Round x number response) begun = if x == thread then begun_at waits moment else begun
 begun_after waits bits thread moment (row.Got x note word) begun = if x == thread then begun_by_word waits bits word moment begun else begun
@@ -29,7 +30,7 @@ begun_after waits bits thread moment (row.Wake x note word) begun = if x == thre
 begun_after waits bits thread moment (row.Stop x why.Done charged until) begun = if x == thread then None else begun
 begun_after waits bits thread moment _ begun = begun
 
--- when the round of the thread that is under way began, if one is
+-- when the thread's round under way began, if there is one
 abbrev pub begun : Option ℕ → Option ℕ → ℕ → ℕ → List Row → Option ℕ
 begun waits bits start thread [] = begun_at waits start
 begun waits bits start thread (r ∷ past) = begun_after waits bits thread r.moment r.what (begun waits bits start thread past)
@@ -39,12 +40,12 @@ begun_of system thread past =
     let part = thread_part system thread in
     begun (first_wait part) (bits_of part) part.start thread past
 
--- where a word begins a round it is activated at this moment
+-- a round that a word begins is activated at this time
 abbrev pub called_by : Option ℕ → Option ℕ → ℕ → ℕ → Option ℕ → Option ℕ → Option ℕ
 called_by (Some note) bits word moment None before = if calls bits word then Some moment else before
 called_by waits bits word moment begun before = before
 
--- a word that was held was set before it was taken; a wake is at the moment of its signal
+-- a held word was set before it was taken; a wake has the time of its signal
 abbrev pub called_after : List Held → Option ℕ → Option ℕ → ℕ → List Row → ℕ → What → Option ℕ → Option ℕ → Option ℕ
 called_after firsts waits bits thread past moment (row.Got x note word) begun before =
     if x == thread then called_by waits bits word (held_of firsts note past).since begun before else before
@@ -52,7 +53,7 @@ called_after firsts waits bits thread past moment (row.Wake x note word) begun b
     if x == thread then called_by waits bits word moment begun before else before
 called_after firsts waits bits thread past moment _ begun before = before
 
--- when the latest round of the thread that a word began was activated, if there was one
+-- when the latest round that a word began was activated, if there was one
 abbrev pub called : List Held → Option ℕ → Option ℕ → ℕ → ℕ → List Row → Option ℕ
 called firsts waits bits start thread [] = None
 called firsts waits bits start thread (r ∷ past) =
@@ -64,12 +65,13 @@ called_of system thread past =
     let part = thread_part system thread in
     called (firsts_of system) (first_wait part) (bits_of part) part.start thread past
 
--- a round is activated by its word where its script begins with a wait, and else where the thread is first ready or running
+-- a round is activated by its word if the script begins with a wait, else when the thread is first
+-- ready or running
 abbrev pub activated_by : Option ℕ → Option ℕ → Option ℕ → Option ℕ
 activated_by (Some note) called active = called
 activated_by None called active = active
 
--- when the round that began at this moment was activated, if it was before some moment
+-- when the round that began at `begun` was activated, if that was before `moment`
 abbrev pub activated : System → ℕ → List Row → ℕ → ℕ → Option ℕ
 activated system thread past begun moment =
     activated_by (first_wait (thread_part system thread)) (called_of system thread past) (first_active thread past begun moment)

@@ -1,4 +1,4 @@
--- The words of notifications, and signals that are lost or merged, by the rows so far, the latest first.
+-- The words of notifications, and lost or merged signals, by the rows so far, the latest first.
 use Rattle.std.specs.Prelude.{ℕ, suc, Bool, false, ◌==◌, ◌&&◌, not, nat_lt, if◌then◌else◌, List, [], ◌∷◌, length, get_or, fold, Option, Some, None}
 use Rattle.mcs_ticks.specs.declared.row.Row.{Row}
 use Rattle.mcs_ticks.specs.declared.row.What.{What}
@@ -11,11 +11,11 @@ use Rattle.mcs_verdict.specs.declared.finding.Finding.TheVariants.{Lost}
 use Rattle.mcs_verdict.specs.declared.held.Held.{Held}
 use Rattle.mcs_verdict.specs.Calls.{first_wait, is_set, bits_of, either}
 
--- of a notification that the system does not have
+-- the word of a notification that the system does not have
 abbrev pub no_word : Held
 no_word = record { word = 0; since = 0; bits = Some 0 }
 
--- a word after a signal; where it left nothing to do before, it is set from this moment on
+-- a word after a signal; it is set from now on if it left nothing to do before
 abbrev pub held_with : ℕ → ℕ → Held → Held
 held_with moment word before =
     record before { word = word; since = if is_set before.bits before.word then before.since else moment }
@@ -24,18 +24,18 @@ held_with moment word before =
 abbrev pub taken : Held → Held
 taken before = record before { word = 0 }
 
--- what a row says of a notification: `hold` tells its word, and who got it left 0
+-- a word after a row: `hold` has the new word, and `got` leaves 0
 abbrev pub held_after : ℕ → ℕ → What → Held → Held
 held_after note moment (row.Hold x word) before = if x == note then held_with moment word before else before
 held_after note moment (row.Got thread x word) before = if x == note then taken before else before
 held_after note moment _ before = before
 
--- the notification's word, at first this, and when it was first set since it was last taken
+-- the notification's word, `first` to begin with, and when it was first set since it was last taken
 abbrev pub held : Held → ℕ → List Row → Held
 held first note [] = first
 held first note (r ∷ past) = held_after note r.moment r.what (held first note past)
 
--- of notifications whose words at first are these
+-- the same for a notification among those whose first words are `firsts`
 abbrev pub held_of : List Held → ℕ → List Row → Held
 held_of firsts note past = if nat_lt note (length firsts) then held (get_or firsts note no_word) note past else no_word
 
@@ -44,14 +44,14 @@ abbrev pub waits_for : ℕ → Option ℕ → Bool
 waits_for note None = false
 waits_for note (Some first) = first == note
 
--- the words that leave something to do to a thread that waits first for the notification, where this is one more
+-- the words that leave something to do, with this thread if it waits first for the notification
 abbrev pub hears : ℕ → Option ℕ → ThreadPart → Option ℕ
 hears note bits part = if waits_for note (first_wait part) then either bits (bits_of part) else bits
 
 abbrev pub heard_at : ℕ → List ThreadPart → Option ℕ
 heard_at note threads = fold (hears note) (Some 0) threads
 
--- the words at first, of the notifications from this number on
+-- the words at first, of the notifications from number n on
 abbrev pub firsts_from : ℕ → List ThreadPart → List NotePart → List Held
 firsts_from n threads [] = []
 firsts_from n threads (part ∷ parts) =
@@ -60,11 +60,11 @@ firsts_from n threads (part ∷ parts) =
 abbrev pub firsts_of : System → List Held
 firsts_of system = firsts_from 0 system.threads system.notes
 
--- a signal that leaves the word as it was is lost
+-- a signal that does not change the word is lost
 abbrev pub leaves : ℕ → ℕ → Bool
 leaves before word = before == word
 
--- one that adds bits to a word is merged with those that set it
+-- a signal that adds bits to a word other than 0 is merged with those that set it
 abbrev pub adds : ℕ → ℕ → Bool
 adds before word = not (before == 0) && not (before == word)
 

@@ -1,4 +1,4 @@
-//! What is kept of a thread, row by row.
+//! The account of a thread: a few numbers, updated row by row.
 ghost use Rattle.std.specs.Prelude.{◌≡◌, ℕ, ◌+◌, ◌<◌, ◌^◌, [], Some, None, max};
 ghost use Rattle.mcs_verdict.specs.Account.{all_kept, account_of, stood_since, total_at, active_since, or_first, passed, told_from, begins, ends, preempted, given, turned, seen_own, activated_since};
 ghost use Rattle.mcs_verdict.specs.Activation.{is_active};
@@ -9,25 +9,29 @@ use crate::{Standing, Stood};
 use mcs_system::ThreadPart;
 use mcs_ticks::{NoteId, Tick, What, Why};
 
-/// What is kept of a thread: how it stands, since when, when its round began and was activated, and how it stood up to `since`, from then on
-/// and in all.
+/// The account of a thread. Times and counts are in ticks.
 #[derive(Clone, Copy, Debug, PartialEq, Eq)]
 pub(crate) struct Account {
+    /// The thread's deadline; 0 if it has none.
     pub deadline: u64,
-    /// The notification on which its script waits first, where it begins with a wait.
+    /// The notification of the wait with which its script begins, if it begins with one.
     pub waits: Option<NoteId>,
-    /// The bits of which a word of that wait must have one to begin a round; None where each word does.
+    /// A word of that wait begins a round if it has one of these bits; `None` if every word does.
     pub bits: Option<u32>,
     pub standing: Standing,
+    /// When the thread began to stand as `standing` says.
     pub since: Tick,
+    /// When the round under way began; `None` between rounds.
     pub begun: Option<Tick>,
     /// When the latest round that a word began was activated.
     pub called: Option<Tick>,
-    /// When it was first ready or running since its round began.
+    /// When the thread was first ready or running in this round, up to `since`.
     pub active: Option<Tick>,
-    /// How often it was preempted since its round began, 0 where none is under way.
+    /// Preemptions in this round; 0 between rounds.
     pub preemptions: u64,
+    /// How the thread stood in this round, up to `since`.
     pub stood: Stood,
+    /// How the thread stood from time 0 up to `since`.
     pub total: Stood,
 }
 
@@ -55,7 +59,7 @@ fn or_first(earlier: Option<Tick>, active: bool, from: Tick, to: Tick) -> Option
     }
 }
 
-/// The same, kept where the earlier tick is.
+/// `or_first` in place: stores the result in `earlier`.
 #[inline(always)]
 fn note_first(earlier: &mut Option<Tick>, active: bool, from: Tick, to: Tick)
     ensures { earlier.new ≡ or_first earlier.old active from to }
@@ -66,7 +70,7 @@ fn note_first(earlier: &mut Option<Tick>, active: bool, from: Tick, to: Tick)
 }
 
 impl Account {
-    /// Before the first row, whatever the number of the thread and of notifications.
+    /// The account before the first row. It depends on no number of a thread or a notification.
     pub(crate) fn new(part: &ThreadPart) -> Self
         ensures { result ≡ account_of [] part.now 0 [] }
     {
@@ -89,7 +93,8 @@ impl Account {
         }
     }
 
-    /// How the thread stood since its round began, up to some moment, where no row tells of it since `since`.
+    /// How the thread stood in the round that began at `begun`, up to `moment`, if no row changed
+    /// that after `since`.
     pub(crate) fn stood_since(&self, begun: Option<Tick>, moment: Tick) -> Stood
         ensures { all_kept self.now + moment < 2 ^ 64 → result ≡ stood_since begun moment self.now.standing self.now }
     {
@@ -104,7 +109,7 @@ impl Account {
         }
     }
 
-    /// How the thread stood from moment 0 on, up to some moment, where no row tells of it since `since`.
+    /// How the thread stood from time 0 up to `moment`, if no row changed that after `since`.
     pub(crate) fn total_at(&self, moment: Tick) -> Stood
         ensures { all_kept self.now + moment < 2 ^ 64 → result ≡ total_at moment self.now.standing self.now }
     {
@@ -114,7 +119,8 @@ impl Account {
         stood
     }
 
-    /// When it was first ready or running since its round began, up to some moment, where no row tells of it since `since`.
+    /// When the thread was first ready or running in the round that began at `begun`, up to
+    /// `moment`, if no row changed how it stands after `since`.
     fn active_since(&self, begun: Option<Tick>, moment: Tick) -> Option<Tick>
         ensures { result ≡ active_since begun moment self.now.standing self.now }
     {
@@ -129,7 +135,7 @@ impl Account {
         }
     }
 
-    /// When the round was activated that is under way.
+    /// When the round under way was activated, if it was before `moment`.
     pub(crate) fn activated_since(&self, moment: Tick) -> Option<Tick>
         ensures { result ≡ activated_since moment self.now }
     {
@@ -139,7 +145,7 @@ impl Account {
         }
     }
 
-    /// The ticks up to some moment, in which the thread stood so, are of the round that is under way.
+    /// Counts the ticks up to `moment`, in which the thread stood as `standing`, into its round.
     #[inline(always)]
     fn pass(&mut self, moment: Tick, standing: Standing)
         ensures { all_kept self.old + moment < 2 ^ 64 → self.new ≡ passed moment standing self.old }
@@ -152,7 +158,8 @@ impl Account {
         }
     }
 
-    /// A row that says how the thread stands from now on, which stood so until now.
+    /// Takes a row after which the thread stands differently. Until `moment` it stood as
+    /// `standing`.
     #[inline(always)]
     fn tell(&mut self, standing: Standing, moment: Tick, what: &What)
         ensures { all_kept self.old + moment < 2 ^ 64 → self.new ≡ told_from standing moment what.now self.old }
@@ -172,7 +179,9 @@ impl Account {
         self.stood = Stood::new();
     }
 
-    /// A word that was set at some moment.
+    /// Takes a word that was set at `set` and that the thread has from `moment` on. It begins a
+    /// round if the script begins with a wait, no round is under way, and the word leaves something
+    /// to do.
     #[inline(always)]
     fn give(&mut self, moment: Tick, set: Tick, word: u32)
         ensures { self.new ≡ given moment set word self.old }
@@ -183,7 +192,7 @@ impl Account {
         }
     }
 
-    /// The round that was under way ended.
+    /// Ends the round under way. `begun` is when the next one began, if it has begun.
     fn end(&mut self, begun: Option<Tick>)
         ensures { self.new ≡ ends begun self.old }
     {
@@ -191,7 +200,7 @@ impl Account {
         self.preemptions = 0;
     }
 
-    /// Another thread took the processor.
+    /// Counts a preemption, if a round is under way.
     #[inline(always)]
     fn preempt(&mut self)
         ensures { self.new ≡ preempted self.old }
@@ -201,7 +210,7 @@ impl Account {
         }
     }
 
-    /// What a telling row begins or ends.
+    /// Begins or ends a round, or counts a preemption, as the row says.
     #[inline(always)]
     fn turn(&mut self, moment: Tick, what: &What)
         ensures { self.new ≡ turned moment what.now self.old }
@@ -217,7 +226,7 @@ impl Account {
         }
     }
 
-    /// A row of this thread; a word that it takes was set at some moment.
+    /// Takes a row of this thread. A word that a `got` row takes was set at `set`.
     #[inline(always)]
     pub(crate) fn see(&mut self, set: Tick, moment: Tick, what: &What)
         ensures { all_kept self.old + moment < 2 ^ 64 → self.new ≡ seen_own set moment what.now self.old }

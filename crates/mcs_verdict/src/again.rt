@@ -7,14 +7,14 @@ use crate::{Standing, Watch};
 use mcs_ticks::{NoMemory, NoteId, ThreadId, Tick};
 use std::alloc::Global;
 
-/// Whether a moment is so many ticks after another.
+/// Whether `moment` is `by` ticks after `before`.
 fn is_later(moment: Tick, before: Tick, by: u64) -> bool
     ensures { IsTrue result ↔ (moment ≡ before + by) }
 {
     before.get() <= moment.get() && moment.get() - before.get() == by
 }
 
-/// The same of moments that may be missing: there are both or neither.
+/// `is_later` for times that may be missing; both missing counts as later.
 fn is_later_moment(moment: Option<Tick>, before: Option<Tick>, by: u64) -> bool
     ensures { IsTrue result ↔ (moment ≡ later_moment by before) }
 {
@@ -37,7 +37,7 @@ fn are_moments_later(after: &Account, before: &Account, by: u64) -> bool
         && is_later_moment(after.active, before.active, by)
 }
 
-/// Whether all else is the same, but for how the thread stood from moment 0 on.
+/// Whether everything but the times is equal, except how the thread stood from time 0 on.
 fn stands_so(after: &Account, before: &Account) -> bool
     ensures { IsTrue result ↔ ((after.now.deadline ≡ before.now.deadline)
         × (after.now.waits ≡ before.now.waits)
@@ -61,7 +61,7 @@ fn is_later_account(after: &Account, before: &Account, by: u64) -> bool
 }
 
 impl Watch {
-    /// The same once more. `NoMemory` where a growth was refused.
+    /// Returns a copy. `NoMemory` if memory runs out.
     pub fn copy(&self, alloc: Global) -> Result<Watch, NoMemory>
         ensures { IfOk result (λ copy. copy ≡ self.now) }
     {
@@ -71,8 +71,9 @@ impl Watch {
         })
     }
 
-    /// Whether this is kept of the thread as in the watch `before`, with each moment `by` ticks later, but for how the thread stood from
-    /// moment 0 on, which grows. False where one of the two does not know the thread.
+    /// Whether the account of the thread is that of `before` with each time `by` ticks later. How
+    /// the thread stood from time 0 on is not compared, since it grows. False if either watch does
+    /// not know the thread.
     pub fn thread_is_later(&self, before: &Watch, thread: ThreadId, by: u64) -> bool
         ensures { IsTrue result ↔ IsLaterThread by before.now self.now thread }
     {
@@ -81,7 +82,8 @@ impl Watch {
             && is_later_account(&self.accounts[thread.0], &before.accounts[thread.0], by)
     }
 
-    /// Whether the notification's word is the same as in the watch `before`. False where one of the two does not know the notification.
+    /// Whether the notification's word is the same as in `before`. False if either watch does not
+    /// know the notification.
     pub fn word_is_same(&self, before: &Watch, note: NoteId) -> bool
         ensures { IsTrue result ↔ IsSameWord before.now self.now note }
     {
@@ -90,8 +92,9 @@ impl Watch {
             && self.words[note.0].word == before.words[note.0].word
     }
 
-    /// Whether the moment at which the notification's word was first set, since it was last 0, is `by` ticks later than in the watch
-    /// `before`. False where one of the two does not know the notification.
+    /// Whether the time at which the word was set to leave something to do, first since it was last
+    /// taken, is `by` ticks later than in `before`. False if either watch does not know the
+    /// notification.
     pub fn word_is_later(&self, before: &Watch, note: NoteId, by: u64) -> bool
         ensures { IsTrue result ↔ IsLaterWord by before.now self.now note }
     {
@@ -100,7 +103,7 @@ impl Watch {
             && is_later(self.words[note.0].since, before.words[note.0].since, by)
     }
 
-    /// Whether the notification's word is not 0. False where there is no such notification.
+    /// Whether the notification's word is not 0. False if there is no such notification.
     pub fn word_is_set(&self, note: NoteId) -> bool
         ensures set { IsTrue result ↔ IsSetWord self.now note }
         ensures unset { result ≡ false → note < length self.now.words → (d : TheHeld) → (get_or self.now.words note d).word ≡ 0 }
@@ -108,14 +111,14 @@ impl Watch {
         note.0 < self.words.len() && self.words[note.0].word != 0
     }
 
-    /// Whether no round of the thread is under way. False where there is no such thread.
+    /// Whether no round of the thread is under way. False if there is no such thread.
     pub fn is_between_rounds(&self, thread: ThreadId) -> bool
         ensures { IsTrue result ↔ IsBetweenRounds self.now thread }
     {
         thread.0 < self.accounts.len() && self.accounts[thread.0].begun.is_none()
     }
 
-    /// Whether the last round of the thread ended. False where there is no such thread.
+    /// Whether the last round of the thread ended. False if there is no such thread.
     pub fn is_done(&self, thread: ThreadId) -> bool
         ensures { IsTrue result ↔ IsDoneThread self.now thread }
     {

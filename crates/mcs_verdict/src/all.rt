@@ -9,7 +9,7 @@ use mcs_system::{System, SystemParts};
 use mcs_ticks::{CoreId, NoMemory, Row, ThreadId, Tick};
 use std::alloc::Global;
 
-/// Adds what was found at a moment on a core, if something was. `NoMemory` where a growth was refused: then nothing is added.
+/// Appends the finding, if there is one. `NoMemory` if memory runs out; then `found` is unchanged.
 pub fn keep_finding(
     found: &mut Vec<Found>,
     moment: Tick,
@@ -57,7 +57,8 @@ fn keep_unended(
     Ok(())
 }
 
-/// What is found at the horizon, in the order of the threads, where this is kept of all rows. `NoMemory` where a growth was refused.
+/// Returns the findings at the horizon, in the order of the threads, if `watch` has seen all rows.
+/// `NoMemory` if memory runs out.
 pub fn find_unended(
     alloc: Global,
     system: &System,
@@ -72,8 +73,9 @@ pub fn find_unended(
     Ok(found)
 }
 
-/// All that is found in the rows of a run of the system up to the horizon: each once, in the order of the rows, and then what is found at
-/// the horizon, in the order of the threads. `NoMemory` where a growth was refused.
+/// Returns the findings of a run up to the horizon, each once: those of the rows in order, then
+/// those at the horizon in the order of the threads. Requires rows in the order of their times, up
+/// to the horizon. `NoMemory` if memory runs out.
 pub fn find_all(
     alloc: Global,
     system: &System,

@@ -7,17 +7,17 @@ use mcs_system::System;
 use mcs_ticks::{NoMemory, Refused, Row, Sink};
 use std::alloc::Global;
 
-/// A watch of rows as they come, and what they told so far, in their order.
+/// A sink of rows that watches them and keeps their findings in order.
 #[derive(Drop)]
 pub struct Finder {
-    /// What is kept of the rows.
+    /// The watch of the rows so far.
     pub watch: Watch,
-    /// What they told.
+    /// The findings of the rows so far.
     pub found: Vec<Found>,
 }
 
 impl Finder {
-    /// Before the first row of a run of the system. `NoMemory` where a growth was refused.
+    /// A finder before the first row of a run of the system. `NoMemory` if memory runs out.
     pub fn new(alloc: Global, system: &System) -> Result<Self, NoMemory>
         ensures watch { IfOk result (λ finder. finder.watch ≡ watch_of system.now []) }
         ensures found { IfOk result (λ finder. finder.found.items ≡ []) }
@@ -29,8 +29,8 @@ impl Finder {
     }
 }
 
-/// Rows in the order of their moments are watched, and what each tells is kept. A row is refused only where there is no memory for what it
-/// tells: then that is missing among what was found, and the watch has seen the row.
+/// Takes rows in the order of their times and keeps the finding of each. A row is refused only if
+/// there is no memory for its finding: the watch has then seen the row, but its finding is missing.
 impl Sink for Finder {
     ghost use Rattle.mcs_verdict.specs.Found.{Finds};
 

@@ -1,11 +1,11 @@
 use crate::Stood;
 use mcs_ticks::{CoreId, NoteId, ThreadId, Tick};
 
-/// What is found. Amounts are in ticks.
+/// A finding about a thread or a notification. Amounts are in ticks.
 #[derive(Clone, Copy, Debug, PartialEq, Eq)]
 pub enum Finding {
-    /// A round of the thread ended, and its response from its activation was above the deadline. The round began `queued` ticks after
-    /// it was activated, and from its beginning the thread stood so many ticks in each way.
+    /// A deadline miss: a round ended, and its response from its activation was above the deadline.
+    /// It began `queued` ticks after its activation; `stood` counts from its beginning.
     Miss {
         thread: ThreadId,
         number: u64,
@@ -15,7 +15,8 @@ pub enum Finding {
         queued: u64,
         stood: Stood,
     },
-    /// At the horizon a round of the thread is activated and not ended, at least a deadline ago: it can only end with a miss.
+    /// A round that was activated at least a deadline before the horizon and has not ended. It can
+    /// only end with a miss, unless another thread takes the word that activated it.
     Overdue {
         thread: ThreadId,
         deadline: u64,
@@ -23,19 +24,19 @@ pub enum Finding {
         queued: u64,
         stood: Stood,
     },
-    /// A signal left the notification's word as it was, since its bits stood there already.
+    /// A lost activation: a signal or an interrupt changed nothing, since its bits were pending.
     Lost {
         note: NoteId,
         word: u32,
     },
-    /// No round of the thread, which has a deadline, was activated up to the horizon.
+    /// A thread with a deadline that was not activated up to the horizon.
     Never {
         thread: ThreadId,
         deadline: u64,
     },
 }
 
-/// A finding, and where it stands among the rows: at their moments, and of one moment by core and place.
+/// A finding with the time and the core of its row. Findings are in the order of the rows.
 #[derive(Clone, Copy, Debug, PartialEq, Eq)]
 pub struct Found {
     pub moment: Tick,

@@ -1,4 +1,4 @@
-//! The wait with which a thread's script begins, and which of its words leave the thread something to do.
+//! The wait with which a script begins, and which of its words leave the thread something to do.
 ghost use Rattle.std.specs.Prelude.{◌≡◌, slice_get};
 ghost use Rattle.mcs_script.specs.Script.{ends_handler};
 ghost use Rattle.mcs_verdict.specs.Calls.{first_wait, calls, is_set, badges_at, called_for, bits_of, either};
@@ -7,7 +7,8 @@ use mcs_script::{Item, Script};
 use mcs_system::ThreadPart;
 use mcs_ticks::NoteId;
 
-/// The notification on which the thread's script waits first, where it begins with a wait.
+/// Returns the notification of the wait with which the thread's script begins, if it begins with
+/// one.
 pub fn first_wait(part: &ThreadPart) -> Option<NoteId>
     ensures { result ≡ first_wait part.now }
 {
@@ -17,7 +18,7 @@ pub fn first_wait(part: &ThreadPart) -> Option<NoteId>
     }
 }
 
-/// Whether a word leaves something to do: one that has one of these bits does, and each where there are none of which it must have one.
+/// Whether a word leaves something to do: it has one of these bits, or `bits` is `None`.
 pub fn calls(bits: Option<u32>, word: u32) -> bool
     ensures { result ≡ calls bits word }
 {
@@ -27,14 +28,15 @@ pub fn calls(bits: Option<u32>, word: u32) -> bool
     }
 }
 
-/// Whether such a word is set.
+/// Whether the word is not 0 and leaves something to do.
 pub(crate) fn is_set(bits: Option<u32>, word: u32) -> bool
     ensures { result ≡ is_set bits word }
 {
     word != 0 && calls(bits, word)
 }
 
-/// Words that leave something to do to one of two threads.
+/// The bits of words that leave something to do to at least one of two threads; `None` if every
+/// word does.
 pub(crate) fn either(bits: Option<u32>, others: Option<u32>) -> Option<u32>
     ensures { result ≡ either bits others }
 {
@@ -44,7 +46,7 @@ pub(crate) fn either(bits: Option<u32>, others: Option<u32>) -> Option<u32>
     }
 }
 
-/// Whether a handler begins with this item, or the script ends before it.
+/// Whether a handler ends before this item: the item begins another one, or the script ends.
 fn ends_handler(script: &Script, item: usize) -> bool
     ensures { result ≡ ends_handler (slice_get script.now item) }
 {
@@ -54,7 +56,7 @@ fn ends_handler(script: &Script, item: usize) -> bool
     }
 }
 
-/// The badges of a handler that begins with this item.
+/// The badges of the handler that begins with this item; 0 if none does.
 fn badges_at(script: &Script, item: usize) -> u32
     ensures { result ≡ badges_at (slice_get script.now item) }
 {
@@ -64,8 +66,8 @@ fn badges_at(script: &Script, item: usize) -> u32
     }
 }
 
-/// The bits of a word for each of which, alone, there is something to do behind the first item: those of the handlers that have an item.
-/// None where there is something to do for each word.
+/// The badges of the handlers that have an item: each bit, alone, leaves something to do after the
+/// first item. `None` if every word does.
 fn called_for(script: &Script) -> Option<u32>
     ensures { result ≡ called_for script.now }
 {
@@ -81,7 +83,8 @@ fn called_for(script: &Script) -> Option<u32>
     Some(bits)
 }
 
-/// The bits of which a word must have one to begin a round of the thread; None where each does.
+/// Returns the bits that begin a round of the thread: a word needs one of them. `None` if every
+/// word begins one.
 pub fn bits_of(part: &ThreadPart) -> Option<u32>
     ensures { result ≡ bits_of part.now }
 {

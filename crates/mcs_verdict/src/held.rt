@@ -4,17 +4,19 @@ ghost use Rattle.mcs_verdict.specs.Words.{no_word, held_with, taken};
 use crate::heard::is_set;
 use mcs_ticks::Tick;
 
-/// The word of a notification, and when it first left something to do since it was last taken.
+/// The word of a notification, and when it was first set to leave something to do since it was last
+/// taken.
 #[derive(Clone, Copy, Debug, PartialEq, Eq)]
 pub(crate) struct Held {
     pub word: u32,
     pub since: Tick,
-    /// The bits of which a word must have one to leave something to do to a thread that waits for it first; None where each word does.
+    /// A word leaves something to do if it has one of these bits, to a thread that waits here
+    /// first; `None` if every word does.
     pub bits: Option<u32>,
 }
 
 impl Held {
-    /// Of a notification that the system does not have.
+    /// The word of a notification that the system does not have.
     pub(crate) fn none() -> Self
         ensures { result ≡ no_word }
     {
@@ -25,7 +27,7 @@ impl Held {
         }
     }
 
-    /// A signal leaves this word.
+    /// Sets the word that a signal leaves.
     pub(crate) fn hold(&mut self, moment: Tick, word: u32)
         ensures { self.new ≡ held_with moment word self.old }
     {
@@ -35,7 +37,7 @@ impl Held {
         self.word = word;
     }
 
-    /// A thread takes the word.
+    /// Takes the word: it is 0 afterwards.
     pub(crate) fn take(&mut self)
         ensures { self.new ≡ taken self.old }
     {

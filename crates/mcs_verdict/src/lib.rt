@@ -1,5 +1,5 @@
-//! What a schedule's rows say of its threads and notifications, row by row: rounds that missed their deadline or can only do so, how a
-//! thread stood meanwhile, threads that were never activated, and signals that are lost.
+//! Findings in a schedule's rows, row by row: deadline misses, rounds that can only end with one,
+//! threads that were never activated, and lost signals. It also counts how each thread stood.
 #![tactic(auto)]
 
 mod account;

@@ -1,4 +1,4 @@
-//! What is found of a thread by its account: of the round that ends, and of what has not ended at the horizon.
+//! The findings of a thread by its account: when a round ends, and at the horizon.
 ghost use Rattle.std.specs.Prelude.{◌≡◌, ◌+◌, ◌<◌, ◌^◌};
 ghost use Rattle.mcs_verdict.specs.Account.{all_kept, job_by, miss_by, overdue_by, never_by, unended_by};
 ghost use Rattle.mcs_verdict.specs.Misses.{is_above, missed, is_reached, overdue_at, set_at, yet_to_begin, was_activated};
@@ -21,7 +21,7 @@ fn is_reached(deadline: u64, ticks: u64) -> bool
     deadline != 0 && deadline <= ticks
 }
 
-/// When a word was set that leaves something to do.
+/// When the held word was set, if it leaves something to do.
 pub(crate) fn set_at(bits: Option<u32>, held: &Held) -> Option<Tick>
     ensures { result ≡ set_at bits held.now }
 {
@@ -57,7 +57,7 @@ fn was_activated(
     }
 }
 
-/// The round, where at least a deadline has passed since it was activated.
+/// The finding about a round that was activated at least a deadline before the horizon.
 fn overdue_at(
     horizon: Tick,
     thread: ThreadId,
@@ -82,7 +82,7 @@ fn overdue_at(
     }
 }
 
-/// The job, where its response from its activation is above the deadline.
+/// The deadline miss of a job whose response from its activation is above the deadline.
 fn missed(deadline: u64, job: &Job) -> Option<Finding>
     ensures { result ≡ missed deadline job.now }
 {
@@ -101,9 +101,9 @@ fn missed(deadline: u64, job: &Job) -> Option<Finding>
     }
 }
 
-/// What is found of a round that ends, and at the horizon.
+/// Findings at the end of a round and at the horizon.
 impl Account {
-    /// The round that ends.
+    /// Returns the round that ends at `moment`.
     pub(crate) fn job(&self, moment: Tick, thread: ThreadId, number: u64) -> Job
         ensures { all_kept self.now + moment < 2 ^ 64 → result ≡ job_by moment thread number self.now }
     {
@@ -122,12 +122,12 @@ impl Account {
         }
     }
 
-    /// The round that ends, if it missed its deadline.
+    /// Returns the deadline miss of the round that ends at `moment`, if it missed its deadline.
     pub(crate) fn miss(&self, moment: Tick, thread: ThreadId, number: u64) -> Option<Finding>
         ensures { all_kept self.now + moment < 2 ^ 64 → result ≡ miss_by moment thread number self.now }
     {
         let activated = self.activated_since(moment).unwrap_or(moment);
-        // so that the parts of a round that is in time need not be counted
+        // The parts of a round that met its deadline are not counted.
         if is_above(self.deadline, moment.get().saturating_sub(activated.get())) {
             missed(self.deadline, &self.job(moment, thread, number))
         } else {
@@ -135,7 +135,8 @@ impl Account {
         }
     }
 
-    /// The round that is under way, or yet to begin by a word that is held, if it is overdue at the horizon.
+    /// The round that is under way, or that a held word will begin, if it is overdue at the
+    /// horizon.
     fn overdue(&self, horizon: Tick, thread: ThreadId, held: &Held) -> Option<Finding>
         ensures { all_kept self.now + horizon < 2 ^ 64 → result ≡ overdue_by horizon thread held.now self.now }
     {
@@ -173,7 +174,8 @@ impl Account {
         }
     }
 
-    /// What is found of the thread at the horizon, where this is the word for which its script waits first.
+    /// Returns the finding of the thread at the horizon. `held` is the word for which its script
+    /// waits first.
     pub(crate) fn unended(&self, horizon: Tick, thread: ThreadId, held: &Held) -> Option<Finding>
         ensures { all_kept self.now + horizon < 2 ^ 64 → result ≡ unended_by horizon thread held.now self.now }
     {

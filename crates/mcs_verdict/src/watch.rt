@@ -21,8 +21,8 @@ use mcs_ticks::{Limits, NoMemory, NoteId, Row, ThreadId, Tick, What};
 use std::alloc::Global;
 use std::marker::Model;
 
-/// What is kept of a schedule's rows so far: an account of each thread, and the word of each notification. A row more takes constant time
-/// and no memory, since all room is taken when the watch is made.
+/// The state that is kept of a schedule's rows so far: the account of each thread and the word of
+/// each notification. All memory is taken when the watch is made; a row takes constant time.
 #[derive(Drop)]
 pub struct Watch {
     pub(crate) accounts: Vec<Account>,
@@ -51,7 +51,7 @@ fn subject(what: &What) -> Option<ThreadId>
     }
 }
 
-/// When the word was set that this row says is taken.
+/// When the word that this row takes was set.
 fn set_for(words: &[Held], what: &What) -> Tick
     ensures { (firsts : List TheHeld) (past : List TheRow) → words.now ≡ words_of 0 firsts past →
         result ≡ set_for firsts past what.now }
@@ -62,7 +62,7 @@ fn set_for(words: &[Held], what: &What) -> Tick
     }
 }
 
-/// The word of a notification, 0 where there is none.
+/// The word of a notification, or `Held::none` if there is no such notification.
 fn word_at(words: &[Held], note: NoteId) -> Held
     ensures { (firsts : List TheHeld) (past : List TheRow) → words.now ≡ words_of 0 firsts past →
         result ≡ held_of firsts note past }
@@ -74,7 +74,7 @@ fn word_at(words: &[Held], note: NoteId) -> Held
     }
 }
 
-/// The word for which a script waits first.
+/// The word for which a script waits first, or `Held::none` if it does not begin with a wait.
 fn word_for(words: &[Held], waits: Option<NoteId>) -> Held
     ensures { (firsts : List TheHeld) (past : List TheRow) → words.now ≡ words_of 0 firsts past →
         result ≡ word_for firsts waits past }
@@ -85,7 +85,7 @@ fn word_for(words: &[Held], waits: Option<NoteId>) -> Held
     }
 }
 
-/// `set` is when the word was set that the row says is taken.
+/// Updates the account of the row's thread. `set` is when the word that the row takes was set.
 #[inline(always)]
 fn tell_accounts(accounts: &mut [Account], set: Tick, row: &Row)
     ensures { (firsts : List TheHeld) (parts : List TheThread) (past : List TheRow) → accounts.old ≡ accounts_of firsts 0 parts past →
@@ -94,7 +94,7 @@ fn tell_accounts(accounts: &mut [Account], set: Tick, row: &Row)
 {
     if let Some(thread) = subject(&row.what) {
         if thread.0 < accounts.len() {
-            // so that no count is above 2^64 - 1
+            // Keeps every count below 2^64.
             prove!(row.moment.get() <= Limits::TICK);
             accounts[thread.0].see(set, row.moment, &row.what);
         }
@@ -145,7 +145,7 @@ fn miss(accounts: &[Account], moment: Tick, thread: ThreadId, number: u64) -> Op
         UpTo moment past → result ≡ miss system past moment thread number }
 {
     if thread.0 < accounts.len() {
-        // so that no count is above 2^64 - 1
+        // Keeps every count below 2^64.
         prove!(moment.get() <= Limits::TICK);
         accounts[thread.0].miss(moment, thread, number)
     } else {
@@ -158,7 +158,7 @@ fn job(accounts: &[Account], moment: Tick, thread: ThreadId, number: u64) -> Opt
         UpTo moment past → result ≡ job_known system past moment thread number }
 {
     if thread.0 < accounts.len() {
-        // so that no count is above 2^64 - 1
+        // Keeps every count below 2^64.
         prove!(moment.get() <= Limits::TICK);
         Some(accounts[thread.0].job(moment, thread, number))
     } else {
@@ -178,7 +178,7 @@ fn opened_accounts(alloc: Global, parts: &SystemParts) -> Result<Vec<Account>, N
     Ok(accounts)
 }
 
-/// The words that leave something to do to a thread that waits first for the notification.
+/// The bits of words that leave something to do to a thread that waits first on the notification.
 fn heard_at(note: usize, threads: &[ThreadPart]) -> Option<u32>
     ensures { result ≡ heard_at note threads.now }
 {
@@ -208,7 +208,7 @@ fn opened_words(alloc: Global, parts: &SystemParts) -> Result<Vec<Held>, NoMemor
 }
 
 impl Watch {
-    /// What is kept before the first row of a run of the system. `NoMemory` where a growth was refused.
+    /// A watch before the first row of a run of the system. `NoMemory` if memory runs out.
     pub fn new(alloc: Global, system: &System) -> Result<Self, NoMemory>
         ensures { IfOk result (λ watch. watch ≡ watch_of system.now []) }
     {
@@ -234,7 +234,8 @@ impl Watch {
         }
     }
 
-    /// The same of any row. It stands apart, so that rows that only tell how a thread stands, which are most, make no room for a finding.
+    /// `see` for any row. It is kept out of line, since most rows have no finding and need no room
+    /// for one.
     #[inline(never)]
     fn see_any(&mut self, row: &Row) -> Option<Finding>
         ensures kept { (system : TheSystem) (past : List TheRow) → self.old ≡ watch_of system past → UpTo row.now.moment past →
@@ -249,7 +250,8 @@ impl Watch {
         found
     }
 
-    /// One row more, in constant time and without memory: what it tells.
+    /// Takes the next row, in the order of their times, and returns its finding. Takes constant
+    /// time and no memory.
     #[inline(always)]
     pub fn see(&mut self, row: &Row) -> Option<Finding>
         ensures kept { (system : TheSystem) (past : List TheRow) → self.old ≡ watch_of system past → UpTo row.now.moment past →
@@ -257,7 +259,7 @@ impl Watch {
         ensures found { (system : TheSystem) (past : List TheRow) → self.old ≡ watch_of system past → UpTo row.now.moment past →
             result ≡ finding system past row.now.moment row.now.what }
     {
-        // others tell nothing, and change no word
+        // Other rows have no finding and change no word.
         if let What::Round { .. } | What::Hold { .. } | What::Got { .. } = row.what {
             return self.see_any(row);
         }
@@ -265,7 +267,8 @@ impl Watch {
         None
     }
 
-    /// The round that the row, which is yet to be seen, ends, if it is one of a thread of the system.
+    /// Returns the round that this row ends, if its thread is one of the system. Call it before
+    /// `see`.
     pub fn job(&self, row: &Row) -> Option<Job>
         ensures { (system : TheSystem) (past : List TheRow) → self.now ≡ watch_of system past → UpTo row.now.moment past →
             result ≡ job_of system past row.now.moment row.now.what }
@@ -278,7 +281,7 @@ impl Watch {
         }
     }
 
-    /// Whether the row, which is yet to be seen, merges a signal with those that set the word.
+    /// Whether this row's signal adds bits to a pending word (coalesced). Call it before `see`.
     pub fn merges(&self, row: &Row) -> bool
         ensures { (system : TheSystem) (past : List TheRow) → self.now ≡ watch_of system past →
             result ≡ merges system past row.now.what }
@@ -289,13 +292,14 @@ impl Watch {
         }
     }
 
-    /// What is found of the thread at the horizon, in constant time: that a round of it is overdue, or that none was ever activated.
+    /// Returns the finding of the thread at the horizon, in constant time: an overdue round, or
+    /// that no round was ever activated.
     pub fn unended(&self, horizon: Tick, thread: ThreadId) -> Option<Finding>
         ensures { (system : TheSystem) (past : List TheRow) → self.now ≡ watch_of system past → UpTo horizon past →
             result ≡ unended system past horizon thread }
     {
         if thread.0 < self.accounts.len() {
-            // so that no count is above 2^64 - 1
+            // Keeps every count below 2^64.
             prove!(horizon.get() <= Limits::TICK);
             let account = &self.accounts[thread.0];
             let held = word_for(self.words.as_slice(), account.waits);
@@ -305,8 +309,8 @@ impl Watch {
         }
     }
 
-    /// When the word was set for which the thread's script waits first, where it leaves the thread something to do. None where there is no
-    /// such thread.
+    /// Returns when the word for which the thread's script waits first was set, if it leaves the
+    /// thread something to do. `None` if there is no such thread.
     pub fn word_set(&self, thread: ThreadId) -> Option<Tick>
         ensures { (system : TheSystem) (past : List TheRow) → self.now ≡ watch_of system past → result ≡ word_set system past thread }
     {
@@ -319,13 +323,13 @@ impl Watch {
         }
     }
 
-    /// How the thread stood in the ticks before a moment, in constant time.
+    /// Returns how the thread stood in the ticks before `moment`, in constant time.
     pub fn stood(&self, moment: Tick, thread: ThreadId) -> Stood
         requires { thread < length self.now.accounts }
         ensures { (system : TheSystem) (past : List TheRow) → self.now ≡ watch_of system past → UpTo moment past →
             result ≡ stood_in thread past 0 moment }
     {
-        // so that no count is above 2^64 - 1
+        // Keeps every count below 2^64.
         prove!(moment.get() <= Limits::TICK);
         self.accounts[thread.0].total_at(moment)
     }

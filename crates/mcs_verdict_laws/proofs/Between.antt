@@ -1,4 +1,4 @@
--- Between two horizons at which nothing is found of a group of cores nothing is found of it.
+-- A group of cores without findings at two horizons has no findings between them.
 use Rattle.std.proofs.Common.{◌≡◌, ◌≢◌, ℕ, zero, suc, ◌+◌, ◌-◌, ◌<◌, ◌≤◌, Bool, true, false, cond, ◌&&◌, ◌||◌, ◌==◌, nat_lt, List, [], ◌∷◌, ◌++◌, length, get_or, Option, Some, None, refl, sym, ap, subst, ◌∙◌, arith}
 use Rattle.std.specs.Prelude.{filter}
 use Rattle.std.specs.List.{AllByRecursion, list_any}
@@ -39,7 +39,7 @@ second-empty : {A : Type 0} (xs ys : List A) → xs ++ ys ≡ [] → ys ≡ []
 second-empty [] ys e = e
 second-empty (x ∷ xs) ys e = absurd (cc)
 
--- nothing is found of either
+-- both have no finding
 pub first-none : (a b : Option Finding) → first_of a b ≡ None → a ≡ None
 first-none None b e = refl
 first-none (Some found) b e = cc
@@ -161,7 +161,7 @@ module _ (group : ℕ → Bool) where
           ap (λ o. mine (found_at h (core_of system part) o)) nothing
       by false e = apart (unended system past h n) e
 
-  -- so where nothing is found on its core
+  -- if its core has no finding
   no-miss-at : (x m core : ℕ) (o : Option Finding) → ((f : Finding) → o ≡ Some f → is_miss_of x f ≡ true → group core ≡ true)
       → mine (found_at m core o) ≡ [] → has_miss_of x (found_at m core o) ≡ false
   no-miss-at x m core None own e = refl
@@ -211,7 +211,8 @@ alone-from system x from to (r ∷ rows) l alone =
     by true e = ap (λ b. b && is_taken_by_another x (first_wait (thread_part system x)) r.what) (sym (earlier r.moment e)) ∙ alone.0
     by false e = refl
 
--- of a thread of which no round missed its deadline up to a horizon, and of which nothing is found there and at an earlier one, nothing is found between
+-- if no round of a thread missed its deadline up to a horizon, and the thread has no finding there
+-- and at an earlier one, it has none between
 module _ (system : System) (well : IsWellFormed system) (earlier last m : ℕ) (from : earlier ≤ m) (to : m ≤ last) where
   -- the rows up to the later horizon begin with those up to this one
   more-rows : (rows : List Row) × (schedule system last ≡ schedule system m ++ rows)

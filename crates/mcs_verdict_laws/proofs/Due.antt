@@ -52,7 +52,7 @@ first-later None true u h k a l f = by (nat_lt u h) refl f
         let less : nat_lt u k ≡ true = grind (arith, nat_tests) in
         ap (λ t. cond t (Some u) None) less ∙ f
 
--- also after a row that tells how the thread stands
+-- the same after a row that decides the thread's state
 ready-stays : (after : Bool) (u v h m a : ℕ) → h < m → cond (nat_lt u h) (Some u) None ≡ Some a
     → or_first (cond (nat_lt u m) (Some u) None) after v h ≡ Some a
 ready-stays after u v h m a l f =
@@ -122,7 +122,7 @@ set-calls bits word e = by (word == 0) (calls bits word) e
     by true c e = absurd (contrary false refl e)
     by false c e = e
 
--- the word for which it waits may change where the word was set before
+-- the word for which it waits may change if the word was set before
 pub due-word : (k : ℕ) (account : Account) (held held' : Held) (a : ℕ) → (set_at account.bits held ≡ Some a → set_at account.bits held' ≡ Some a)
     → due_at k held account ≡ Some a → due_at k held' account ≡ Some a
 due-word k account held held' a g f = by account.begun f
@@ -141,7 +141,7 @@ due-later h k account held a l f = by account.begun account.waits f
     by (Some begun) (Some note) f = f
     by (Some begun) None f = first-later account.active (is_active account.standing) (max account.since begun) h k a l f
 
--- a row that tells how the thread stands from then on
+-- a row that decides the thread's state from then on
 pub due-told : (h m : ℕ) (what : What) (account : Account) (held : Held) (a : ℕ) → h < m → standing_after what ≢ Done
     → due_at h held account ≡ Some a → due_at h held (told m what account) ≡ Some a
 due-told h m what account held a l n f = by account.begun account.waits f
@@ -189,7 +189,8 @@ stopped-not_done why.Preempt (Some date) n e = cc
 stopped-not_done why.Order None n e = cc
 stopped-not_done why.Order (Some date) n e = cc
 
--- a signal leaves a word set when it was set, where what calls this thread calls one that waits first for the notification
+-- a signal leaves the time of a word as it is, if each word that calls this thread calls one that
+-- waits first for the notification
 held-set : (bits : Option ℕ) (m w a : ℕ) (before : Held) → (is_set bits before.word ≡ true → is_set bits w ≡ true)
     → (is_set bits before.word ≡ true → is_set before.bits before.word ≡ true)
     → set_at bits before ≡ Some a → set_at bits (held_with m w before) ≡ Some a
@@ -203,7 +204,7 @@ abbrev pub takes : ℕ → What → Bool
 takes note (row.Got y n w) = n == note
 takes note _ = false
 
--- the bits of which a word must have one are kept
+-- the bits that begin a round are kept
 pub bits-kept : (first : Held) (note : ℕ) (past : List Row) → (held first note past).bits ≡ first.bits
 bits-kept first note [] = refl
 bits-kept first note (r ∷ past) = bits-after note r.moment r.what (held first note past) ∙ bits-kept first note past
@@ -386,7 +387,7 @@ pub takes-none : (waits : Option ℕ) (what : What) → ((note : ℕ) → takes 
 takes-none None what n = refl
 takes-none (Some note) what n = n note
 
--- nor does a row of another thread that takes none of its words
+-- a row of another thread that takes no word of this one
 pub takes-another : (x y n w : ℕ) (waits : Option ℕ) → (y == x) ≡ false → is_taken_by_another x waits (row.Got y n w) ≡ false
     → takes_first waits (row.Got y n w) ≡ false
 takes-another x y n w None e f = refl

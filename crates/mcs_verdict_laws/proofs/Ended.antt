@@ -169,7 +169,7 @@ begins waits bits x t (row.Hold note word) before = Keeps refl
 begins waits bits x t (row.Order context) before = Keeps refl
 begins waits bits x t (row.Interrupt source at_note badge) before = Keeps refl
 
--- of a round that has just begun nothing is counted
+-- a round that has just begun has no ticks yet
 just_begun : (t : ℕ) (rows : List Row) → since_of rows ≤ t → IsParted (stood_of (Some t) rows)
 just_begun t [] h = no-ticks
 just_begun t (r ∷ rows) h =

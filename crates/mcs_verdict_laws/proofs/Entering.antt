@@ -302,7 +302,7 @@ module _ (system : System) (x : ℕ) where
       (stops_to_back-goes from t using why.Spent begun k (plain_spent x (first system x) t) h)
       record { last = told_of Running begun; walks = refl; holds = h; ended = λ before. tt }
 
-  -- what may follow an item where the thread neither ends nor blocks
+  -- what may follow an item if the thread neither ends nor blocks
   abbrev pub IsCalm : AfterItem → Type 0
   IsCalm after.GoesOn = Unit {0}
   IsCalm after.Yields = Unit {0}

@@ -40,7 +40,7 @@ use Rattle.mcs_verdict_laws.proofs.Handlers.{goes-where, not-first, wait_goes, e
 use Rattle.mcs_verdict_laws.proofs.Holds.{waits_as, beginning_of, Awaits, first, IsUnderWay, IsStarted, IsWaiting, Holds, Loose, same-note, holds-same, Goes}
 use Rattle.mcs_verdict_laws.proofs.Entering.{self, equal, by_date, step-stop, step-round, step-got, step-wake, under-thread, started-thread, under-stands, started-stands, enters-back, enters-front, IsCalm, calm-goes}
 
--- where a round begins that does not begin with the thread's first wait
+-- when a round begins that does not begin with the thread's first wait
 pub unless_first : (script : List Item) (waits : Option ℕ) (item since : ℕ) → waits ≡ waited_on (slice_get script 0)
     → waited_on (slice_get script item) ≡ None
     → beginning_of waits item since ≡ Some since
@@ -54,7 +54,7 @@ unless_first script (Some note) item since e f = by (item == 0) refl
         absurd (cc)
     by false g = refl
 
--- where none is under way its thread is at that wait
+-- if no round is under way its thread is at that wait
 at_wait : (script : List Item) (waits : Option ℕ) (item since note : ℕ) → waits ≡ waited_on (slice_get script 0)
     → slice_get script item ≡ Some (Wait note) → beginning_of waits item since ≡ None → waits ≡ Some note
 at_wait script None item since note e f g = absurd (cc)
@@ -315,7 +315,7 @@ module _ (system : System) (well : IsWellFormed system) (x : ℕ) where
         ended = λ before. (tt, (λ own. self x, tt));
       }
 
-  -- a wait that is given a word goes on, and one that is given none blocks
+  -- a wait that is given a word continues, and one that is given no word blocks
   pub got-goes : (from t using note word : ℕ) (begun : Option ℕ) (k : Core) → Holds system x from t (told_of Running begun) k
       → slice_get (thread_part system x).script (thread_of k x).place.item ≡ Some (Wait note)
       → Goes system x from t (told_of Running begun)
@@ -420,7 +420,7 @@ module _ (system : System) (well : IsWellFormed system) (x : ℕ) where
         holds = blocks-holds from t using server begun k h known (subst (λ (o : Option Item). Awaits o server) (sym item) refl);
       }
 
-  -- behind the entering of a server its script goes on
+  -- after the entering of a server its script continues
   goes_behind : (server priority : ℕ) (k : Core) → x < length system.threads → turns.item_of system x k ≡ Some (Enter server priority)
       → turns.move_of system x k ≡ Next
   goes_behind server priority k known item =
@@ -467,7 +467,8 @@ module _ (system : System) (well : IsWellFormed system) (x : ℕ) where
   waits_one Woken l = absurd (omega (arith, l))
   waits_one Done l = absurd (omega (arith, l))
 
-  -- whoever waits for the signal of a notification is at a wait, and whoever waits for a server is about to enter it
+  -- a thread that waits for a notification is at a wait, and one that waits for a server is about
+  -- to enter it
   at-wait : (note : ℕ) (o : Option Item) → is_server system note ≡ false → Awaits o note
       → ((n priority : ℕ) → o ≡ Some (Enter n priority) → is_server system n ≡ true) → o ≡ Some (Wait note)
   at-wait note (Some (Wait n)) e a h = ap (λ n. Some (Wait n)) a

@@ -1,4 +1,5 @@
--- What the rows of a schedule keep to, of a thread and of the word for which its script waits first.
+-- Facts that the rows of a schedule keep: a thread and the word for which its script
+-- waits first.
 use Rattle.std.proofs.Common.{◌≡◌, ℕ, true, ◌==◌, List, [], ◌∷◌, ◌++◌, get_or, Some, None}
 use Rattle.std.specs.Prelude.{bit_or}
 use Rattle.mcs_ticks.specs.declared.row.Row.{Row}
@@ -25,8 +26,9 @@ abbrev pub held_in : System → ℕ → List Row → Held
 held_in system note past = held (first_held system note) note past
 
 module _ (system : System) (x : ℕ) where
-  -- a round that ends was under way, a thread is done right after one, a signal adds to the word, and a thread whose round is yet to begin
-  -- takes all of the word for which it waits first, or waits for it while it is 0
+  -- A round that ends was under way. A thread is done right after a round. A signal adds to the
+  -- word. A thread whose round is yet to begin takes all of the word for which it waits first, or
+  -- waits for it while it is 0.
   abbrev pub Fits : List Row → ℕ → What → Type 0
   Fits past moment (row.Round y number response) = (y == x) ≡ true → (begun : ℕ) × (begun_of system x past ≡ Some begun)
   Fits past moment (row.Stop y why.Done charged until) = (y == x) ≡ true → JustEnded x moment past

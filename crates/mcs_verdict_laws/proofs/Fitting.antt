@@ -23,7 +23,7 @@ use Rattle.mcs_verdict_laws.proofs.Fits.{JustEnded, held_in, Fits, AreFit}
 use Rattle.mcs_verdict_laws.proofs.Words.{IsRight}
 use Rattle.mcs_verdict_laws.proofs.WordsTold.{AreRight, right-clock}
 
--- a thread is done right after a round of its own
+-- a thread is done right after one of its rounds
 module _ (x : ℕ) where
   abbrev IsStopped : List Row → ℕ → What → Type 0
   IsStopped past moment (row.Stop y why.Done charged until) = (y == x) ≡ true → JustEnded x moment past

@@ -1,4 +1,4 @@
--- What a word of the first wait leaves to do, as the script goes on from there.
+-- The items that a word of the first wait leaves to do, as the script continues from there.
 use Rattle.std.proofs.Common.{◌≡◌, ℕ, zero, suc, ◌+◌, ◌<◌, ◌≤◌, Bool, true, false, cond, not, ◌==◌, ◌&&◌, List, [], ◌∷◌, length, drop, slice_get, Option, Some, None, refl, sym, ap, ◌∙◌, arith}
 use Rattle.std.specs.Prelude.{◌||◌, bit_and, bit_or, fold, is_none, unwrap_or}
 use Rattle.std.specs.Int.Bits.{and_zero_r, or_zero_r}
@@ -86,7 +86,7 @@ among [] some = tt
 among (item ∷ items) some =
     (all-kept items (bit_or some (badges_in item)) (badges_in item) (and_or_self (badges_in item) some), among items (bit_or some (badges_in item)))
 
--- an item that is found does not stand before those that are looked at
+-- an item that is found is not before those that are looked at
 taken-from : (word number next : ℕ) (passes : Bool) (items : List Item) → first_taken word number passes items ≡ Some next → number ≤ next
 taken-from word number next passes [] e = absurd (cc)
 taken-from word number next passes (item ∷ items) e =
@@ -123,7 +123,8 @@ taken-here word number (Spin ∷ items) e = refl
 taken-here word number (Enter server priority ∷ items) e = refl
 taken-here word number (Leave server priority ∷ items) e = refl
 
--- among items that are passed over at first one is found just where the word has a badge of a handler that has an item
+-- among items that are passed over at first, one is found just if the word has a badge of a handler
+-- that has an item
 abbrev Finds : ℕ → ℕ → ℕ → List Item → ℕ → Type 0
 Finds word all number items bits =
     (bit_and word (handled bits items) == 0) ≡ ((bit_and word bits == 0) && is_none (first_taken (bit_and word all) number true items))
@@ -171,13 +172,13 @@ finds word all number (Spin ∷ items) h bits = no-handler word all (number + 1)
 finds word all number (Enter server priority ∷ items) h bits = no-handler word all (number + 1) bits items (finds word all (number + 1) items h.1)
 finds word all number (Leave server priority ∷ items) h bits = no-handler word all (number + 1) bits items (finds word all (number + 1) items h.1)
 
--- behind a first wait the thread is at it again just where nothing is found
+-- after a first wait the thread is at it again just if no item is found
 again-where : (first : Item) (note : ℕ) (o : Option ℕ) → Some first ≡ Some (Wait note) → ((n : ℕ) → o ≡ Some n → 1 ≤ n)
     → (unwrap_or (or_again 0 (Some first) o) 0 == 0) ≡ is_none o
 again-where first note None e h = ap (λ b. unwrap_or (cond b (Some 0) None) 0 == 0) (ap is_wait e)
 again-where first note (Some n) e h = some-is n (h n refl)
 
--- a word leaves something to do just where the thread goes on from its first wait
+-- a word leaves something to do just if the thread continues from its first wait
 pub goes-where : (script : List Item) (word note : ℕ) → slice_get script 0 ≡ Some (Wait note)
     → (unwrap_or (next_item script (heard script word) 0) 0 == 0) ≡ not (calls (called_for script) word)
 goes-where [] word note e = absurd (cc)
@@ -215,7 +216,7 @@ wait_goes script rounds note place e = by (first_taken place.word (place.item + 
     by (Some n) = refl
     by None = ap (λ item. move_by (or_again place.item item None) rounds place) e
 
--- the first of several items is taken where no handler begins with it
+-- the first of several items is taken if no handler begins with it
 taken-next : (word number n : ℕ) (script : List Item) → ends_handler (slice_get script n) ≡ false
     → first_taken word number false (drop n script) ≡ Some number
 taken-next word number n [] e = let f : true ≡ false = e in absurd (cc)
@@ -226,7 +227,7 @@ taken-next word number zero (item ∷ items) e = by (is_on item) e
     by false f = refl
 taken-next word number (suc n) (item ∷ items) e = taken-next word number n items e
 
--- the script goes on behind an item where the next one begins no handler
+-- the script continues after an item if the next one begins no handler
 pub item_goes : (script : List Item) (rounds : ℕ) (place : Place) → ends_handler (slice_get script (place.item + 1)) ≡ false
     → move_after script rounds place ≡ Next
 item_goes script rounds place e =
@@ -242,7 +243,7 @@ none-past [] k item e = absurd (cc)
 none-past (next ∷ items) zero item e = omega arith
 none-past (next ∷ items) (suc k) item e = let l = none-past items k item e in omega (arith, l)
 
--- so it does behind the entering of a server
+-- the same after the entering of a server
 pub enter_goes : (script : List Item) (rounds server priority : ℕ) (place : Place) → IsScript script
     → slice_get script place.item ≡ Some (Enter server priority) → move_after script rounds place ≡ Next
 enter_goes script rounds server priority place is e =
@@ -250,7 +251,7 @@ enter_goes script rounds server priority place is e =
     (and-right (is_enter (slice_get script place.item)) (ends_handler (slice_get script (place.item + 1))) (ap is_enter e)
     (is.entering place.item (none-past script place.item (Enter server priority) e)))
 
--- nor does a thread that goes on from another item come to the first one
+-- a thread that continues from another item does not reach the first one
 pub goes-past : (script : List Item) (rounds : ℕ) (place : Place) → is_wait (slice_get script place.item) ≡ false → move_after script rounds place ≡ Next
     → (unwrap_or (next_of script place) 0 == 0) ≡ false
 goes-past script rounds place none e = by (next_of script place) (λ n f. next-later script place.word place.item n none f) e

@@ -1,4 +1,4 @@
--- What a core has of a thread, and what leaves it as it is.
+-- The places of a thread on its core, and the parts of a turn that do not change them.
 use Rattle.std.proofs.Common.{◌≡◌, ◌≢◌, ℕ, zero, suc, ◌+◌, ◌<◌, ◌≤◌, Bool, true, false, cond, ◌==◌, List, [], ◌∷◌, ◌++◌, length, set, get_or, slice_get, Option, Some, None, refl, sym, ap, subst, ◌∙◌, arith}
 use Rattle.std.specs.Prelude.{nat_lt}
 use Rattle.std.specs.List.{AllByRecursion}
@@ -117,7 +117,7 @@ module _ (system : System) (x : ℕ) where
     pub since : (thread_of k x).since ≡ start_at
     pub dates : AreDated start_at k.releases
 
-  -- what is kept of it, as it stands
+  -- the state that is kept of it
   abbrev pub Own : ℕ → ℕ → Standing → Option ℕ → Core → Type 0
   Own from now Pending begun k = IsUnderWay begun k × IsPending from k
   Own from now Ready begun k = IsUnderWay begun k × IsStarted now k
@@ -144,7 +144,7 @@ module _ (system : System) (x : ℕ) where
     pub under : IsUnderWay begun k
     pub started : IsStarted now k
 
-  -- a core on which all that concerns the thread is as it was
+  -- a core on which everything about the thread is unchanged
   pub record Same (k after : Core) : Type 0 where
     pub runs : times_running x after.running ≡ times_running x k.running
     pub ready : times_queued x after.ready ≡ times_queued x k.ready
@@ -377,7 +377,7 @@ module _ (system : System) (x : ℕ) where
   pub aside-silent : (k after : Core) → Same k after → Aside k (silent after)
   aside-silent k after s = record { same = s; rows = tt }
 
-  -- a part of a turn through which the thread goes on
+  -- a part of a turn that the thread passes
   pub record Goes (from now : ℕ) (told : Told) (turn : Turn) : Type 0 where
     pub last : Told
     pub walks : Walks x first now told turn.rows last
@@ -393,7 +393,7 @@ module _ (system : System) (x : ℕ) where
         ended = λ before. ended-other x before turn.rows a.rows;
       }
 
-  -- one part and then another, of which the first may end where other dates are to come
+  -- two parts in turn; the first may end if other dates are to come
   pub goes-then : (from to now : ℕ) (told : Told) (made : Turn) (part : Core → Turn) → Goes from now told made
       → ((last : Told) → Holds from now last made.core → Goes to now last (part made.core)) → Goes to now told (made followed_by part)
   goes-then from to now told made part p h =
@@ -421,7 +421,7 @@ module _ (system : System) (x : ℕ) where
       goes-then from from now told (part item k) (each part items) (h item told k holds)
       (λ last then. goes-each from now part h items last (part item k).core then)
 
-  -- where it goes through the part for items of which something is so
+  -- if it passes the part for all items with this property
   pub goes-where : {A : Type 0} (C : A → Type 0) (from now : ℕ) (part : A → Core → Turn)
       → ((item : A) (told : Told) (k : Core) → C item → Holds from now told k → Goes from now told (part item k))
       → (items : List A) (told : Told) (k : Core) → AllByRecursion C items → Holds from now told k → Goes from now told (each part items k)

@@ -1,4 +1,5 @@
--- What is of a core: the signals that arrive there, who runs there, and the rounds that end there.
+-- The things of a core: the signals that arrive there, who runs there, and the rounds that end
+-- there.
 use Rattle.std.proofs.Common.{◌≡◌, ◌≢◌, ℕ, zero, suc, ◌+◌, ◌<◌, ◌≤◌, ◌⊎◌, inl, inr, Bool, true, false, cond, ◌==◌, ◌&&◌, List, [], ◌∷◌, ◌++◌, Some, refl, sym, ap, subst, ◌∙◌, arith}
 use Rattle.std.specs.Prelude.{filter, flat_map}
 use Rattle.std.specs.List.{AllByRecursion, range_with_len}

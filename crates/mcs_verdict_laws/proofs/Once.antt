@@ -57,7 +57,7 @@ counted-longer Blocked n m stood l = omega arith
 counted-longer Woken n m stood l = omega arith
 counted-longer Done n m stood l = omega arith
 
--- also where it is told what it waited for
+-- also if the row shows what it waited for
 counted-settled : (s : Standing) (what : What) (n : ℕ) (stood : Stood)
     → active_ticks (counted s n stood) ≤ active_ticks (counted (settled (Some what) s) n stood)
 counted-settled Woken what n stood = counted-least (settled (Some what) Woken) n stood

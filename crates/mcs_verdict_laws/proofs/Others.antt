@@ -1,4 +1,4 @@
--- What is done to another thread leaves this one as it is.
+-- Parts of a turn that concern another thread leave this one as it is.
 use Rattle.std.proofs.Common.{◌≡◌, ℕ, Bool, true, false, cond, ◌==◌, [], ◌∷◌, Option, Some, refl, ap, arith}
 use Rattle.mcs_ticks.specs.Queue.{by_priority}
 use Rattle.mcs_ticks.specs.declared.row.What.TheVariants as row

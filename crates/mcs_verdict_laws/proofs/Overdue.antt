@@ -109,7 +109,7 @@ module _ (system : System) (x h a : ℕ) (late : is_reached (thread_part system 
       (due-word h (account past) (word past) (word (r ∷ past)) a
       (word-stays system x m core a (first_wait part) past what refl fits t) due)
 
-  -- a row of its own
+  -- a row of this thread
   own-row : (m core : ℕ) (what : What) (past : List Row) → UpTo m past → is_about x what ≡ true → Fits system x past m what
       → takes_first (first_wait part) what ≡ false
       → due_at h (word past) (seen_own (set_for (firsts_of system) past what) m what (account past)) ≡ Some a
@@ -122,7 +122,7 @@ module _ (system : System) (x h a : ℕ) (late : is_reached (thread_part system 
       (word-stays system x m core a (first_wait part) past what refl fits t)
       (subst P (own (firsts_of system) part x past m core set what e refl (since-up_to x m past up)) due)
 
-  -- it is activated, and no round of its own begins anew
+  -- it is activated, and no round of it begins again
   yet-set-at : (past : List Row) → (account past).begun ≡ None → IsDue past → set_at (bits_of part) (word past) ≡ Some a
   yet-set-at past e due =
       let kept = account past in
@@ -133,7 +133,7 @@ module _ (system : System) (x h a : ℕ) (late : is_reached (thread_part system 
   no-end m [] l ended ongoing = ended
   no-end m (r ∷ past) l ended ongoing = let before = ongoing ended.0 in let now = ended.1 in omega (arith, before, now, l)
 
-  -- a row that tells how it stands
+  -- a row that decides its state
   told-row : (m core : ℕ) (what : What) (past : List Row) → h < m → UpTo m past → is_about x what ≡ true → Fits system x past m what
       → ((note : ℕ) → takes note what ≡ false) → standing_after what ≢ Done
       → ((kept : Account) → due_at h (word past) (told m what kept) ≡ Some a
@@ -191,7 +191,7 @@ module _ (system : System) (x h a : ℕ) (late : is_reached (thread_part system 
       by true e = stop-own m core y charged cause until past l up e fits ongoing due
       by false e = stop-other m core y charged cause until past e fits due
 
-  -- a wake begins a round where none was activated
+  -- a wake begins a round if no round was activated
   wake-row : (m core y note w : ℕ) (past : List Row) → h < m → UpTo m past → Fits system x past m (row.Wake y note w) → IsDue past
       → Told m core (row.Wake y note w) past
   wake-row m core y note w past l up fits due = by (y == x) refl

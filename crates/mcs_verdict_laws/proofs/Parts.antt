@@ -1,4 +1,4 @@
--- A thread goes on through each part of its core's turn.
+-- A thread passes each part of its core's turn.
 use Rattle.std.proofs.Common.{◌≡◌, ℕ, ◌+◌, ◌≤◌, Bool, true, false, cond, ◌==◌, [], ◌∷◌, slice_get, Option, Some, None, refl, sym, ap, subst, ◌∙◌, arith}
 use Rattle.std.specs.Prelude.{nat_lt}
 use Rattle.mcs_ticks.specs.Queue.{by_priority, first_of, rest_of}
@@ -248,7 +248,7 @@ module _ (system : System) (well : IsWellFormed system) (x : ℕ) where
       (λ last holds. goes-aside system x from t last effect.core (turns.may_stop by_priority system t y using cause effect.core) holds
       (may_stop-aside system x t y using held cause effect.core (effect-running c t y item k ∙ r) e))
 
-  -- the round of the running thread is under way where its item is no wait
+  -- the round of the running thread is under way if its item is no wait
   begun_there : (from t : ℕ) (begun : Option ℕ) (k : Core) → Holds system x from t (told_of Running begun) k
       → waited_on (turns.item_of system x k) ≡ None → begun ≡ Some (thread_of k x).since
   begun_there from t begun k h e =

@@ -1,4 +1,4 @@
--- How a thread stands before each moment of the clock, and how it came there.
+-- The state of a thread before each time of the clock, and how it was reached.
 use Rattle.std.proofs.Common.{◌≡◌, ◌≢◌, ℕ, zero, suc, ◌+◌, ◌<◌, ◌≤◌, ◌⊎◌, inl, inr, List, [], ◌∷◌, ◌++◌, None, refl, sym, ap, subst, ◌∙◌, arith}
 use Rattle.std.specs.Prelude.{filter, flat_map}
 use Rattle.std.specs.List.{range_with_len, AllByRecursion}
@@ -84,7 +84,7 @@ module _ (system : System) (well : IsWellFormed system) (x : ℕ) where
       let P : Turn → Type 0 = λ made. AreOther x made.rows in
       subst P (sym (turn_of-kept system c t)) (walks-done x (first system x) t (told_of Done None) goes.last _ goes.walks refl)
 
-  -- the turn of its own
+  -- the turn of its core
   pub record OwnTurn (t : ℕ) (told : Told) : Type 0 where
     pub last : Told
     pub walks : Walks x (first system x) t told (clocks.turn_of system (core_of system (thread_part system x)) t).rows last
@@ -146,7 +146,7 @@ module _ (system : System) (well : IsWellFormed system) (x : ℕ) where
           (leads-stamped x (first system x) a t (clocks.turn_of system a t).rows told turn.last (here (omega (arith, at, before))))
           (leads-past t n (a + 1) turn.last (omega (arith, at)) (omega (arith, within)))
 
-  -- how it stands before moment t, and the turn at t
+  -- its state before time t, and the turn at t
   pub record Reached (t : ℕ) : Type 0 where
     pub told : Told
     pub leads : Leads x (first system x) (opening_told system x) (clocks.clock system t).rows told
@@ -187,7 +187,7 @@ module _ (system : System) (well : IsWellFormed system) (x : ℕ) where
   unfolding reached next
   after t = (turned t (reached t)).holds
 
-  -- the thread is done only after a round of its own
+  -- the thread is done only after one of its rounds
   pub turn_ended : (t c : ℕ) → c < system.cores → AreEnded x None (clocks.turn_of system c t).rows
   unfolding own_core
   turn_ended t c known = by (cases_eq c home)

@@ -37,7 +37,7 @@ running_counted Blocked stood = omega arith
 running_counted Woken stood = omega arith
 running_counted Done stood = omega arith
 
--- the rows tell whether it runs
+-- by the rows it is known if it runs
 same_runs : (r s : Standing) → TellsOf r s → runs_as r ≡ runs_as s
 same_runs Woken s (inl e) = sym (ap runs_as e)
 same_runs Woken s (inr e) = sym (ap runs_as e)

@@ -1,4 +1,5 @@
--- What goes for each part of a turn, by what posts and waits do to notifications: no other part tells of them or changes them.
+-- Facts of each part of a turn, by what posts and waits do to notifications. No other part has
+-- rows of them or changes them.
 use Rattle.std.proofs.Common.{◌≡◌, ℕ, ◌+◌, ◌<◌, ◌≤◌, ◌⊎◌, inl, inr, Bool, true, false, cond, not, ◌==◌, nat_lt, List, [], ◌∷◌, ◌++◌, length, slice_get, Option, Some, None, refl, sym, ap, subst, ◌∙◌, arith}
 use Rattle.std.specs.Prelude.{filter}
 use Rattle.std.specs.List.{AllByRecursion}
@@ -35,7 +36,7 @@ use Rattle.mcs_verdict_laws.proofs.Entering.{equal}
 use Rattle.mcs_verdict_laws.proofs.Finishing.{item_home}
 use Rattle.mcs_verdict_laws.proofs.Sources.{IsHeard, alarms-heard}
 
--- a row that tells of no notification's word
+-- a row that is about no notification's word
 abbrev pub IsPlain : What → Type 0
 IsPlain (row.Hold note word) = ⊥
 IsPlain (row.Got thread note word) = ⊥
@@ -178,7 +179,7 @@ wait_home system well y item note e = known (cases_lt y (length system.threads))
         in
         absurd (cc)
 
--- what goes for a turn of core c at moment t, where it goes for plain parts, posts, and waits
+-- what holds of a turn of core c at time t, if it holds of plain parts, posts and waits
 module _ (system : System) (well : IsWellFormed system) (c t : ℕ) (I : List Note → Type 0) (Q : List Note → Turn → Type 0)
     (inside : (notes : List Note) (made : Turn) → Q notes made → I made.core.notes)
     (plain : (notes : List Note) (made : Turn) → I notes → Plain notes made → Q notes made)
@@ -208,7 +209,8 @@ module _ (system : System) (well : IsWellFormed system) (c t : ℕ) (I : List No
       by false e =
           plain k.notes (record { core = k; rows = []; mails = turns.mail_to system c t note badge ∷ [] }) i record { rows = tt; same = refl }
 
-  -- the place of an item in its script, where it is a wait for a notification of this core; what it enters or leaves is a server of this core
+  -- the place of an item in its script, if it is a wait for a notification of this core; what it
+  -- enters or leaves is a server of this core
   abbrev IsOf : ℕ → Option Item → Type 0
   IsOf y (Some (Wait note)) = (place : ℕ) × (slice_get (thread_part system y).script place ≡ Some (Wait note)) × ((note_part system note).core ≡ c)
   IsOf y (Some (Enter server priority)) = (is_server system server ≡ true) × ((note_part system server).core ≡ c)

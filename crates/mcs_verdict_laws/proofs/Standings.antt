@@ -1,4 +1,4 @@
--- The rows of a schedule tell how a thread stands on its core.
+-- The state of a thread by the rows of a schedule is its place on its core.
 use Rattle.std.proofs.Common.{◌≡◌, ℕ, suc, ◌-◌, ◌<◌, ◌≤◌, ◌⊎◌, inl, inr, Bool, true, false, cond, ◌==◌, List, [], ◌∷◌, ◌++◌, length, Option, Some, None, refl, sym, ap, subst, ◌∙◌, arith}
 use Rattle.std.specs.Prelude.{nat_lt, nat_le}
 use Rattle.std.specs.List.{AllByRecursion}
@@ -117,7 +117,7 @@ module _ (x : ℕ) where
   first_told next [] = next
   first_told next (r ∷ rows) = cond (tells x r.what) (Some r.what) (first_told next rows)
 
-  -- rows after tick t do not change what is told of it, but for what a woken thread waited for
+  -- rows after tick t do not change its state by the rows, except what a woken thread waited for
   reads_on : (t : ℕ) (next : Option What) (past rows : List Row) → AllByRecursion (λ (r : Row). suc t ≤ r.moment) rows
       → standing_at t next (telling x (past_of past rows)) ≡ standing_at t (first_told next rows) (telling x past)
   reads_on t next past [] all = refl
@@ -170,7 +170,7 @@ pub past-append : (past rows more : List Row) → past_of past (rows ++ more) �
 past-append past [] more = refl
 past-append past (r ∷ rows) more = past-append (r ∷ past) rows more
 
--- the counts of a thread's places tell how it stands
+-- the counts of a thread's places decide its state
 counts_tell : (r q d w : ℕ) (dated s : Standing) → r ≡ runs_as s → q ≡ ready_as s → d ≡ dated_as s → w ≡ waits_as s → (d ≡ 1 → dated ≡ s)
     → (s ≡ Woken → ⊥)
     → cond (r == 1) Running (cond (q == 1) Ready (cond (d == 1) dated (cond (w == 1) Blocked Done))) ≡ s
@@ -203,7 +203,7 @@ module _ (system : System) (well : IsWellFormed system) (x : ℕ) where
   not_woken : (t : ℕ) (standing : Standing) (begun : Option ℕ) (k : Core) → Own system x (suc t) t standing begun k → standing ≡ Woken → ⊥
   not_woken t standing begun k o e = let P : Standing → Type 0 = λ s. Own system x (suc t) t s begun k in subst P e o
 
-  -- how it stands in tick t, by its core
+  -- its state in tick t, by its core
   clock_tells : (t : ℕ) → standing_in_clock system t x ≡ (reached system well x (suc t)).told.standing
   clock_tells t =
       let h = after system well x t in
@@ -233,7 +233,7 @@ module _ (system : System) (well : IsWellFormed system) (x : ℕ) where
   pub next_row : (horizon t : ℕ) → t ≤ horizon → Option What
   next_row horizon t within = first_told x None (later system well x (horizon - t) (suc t) (suc horizon) (omega (arith, within))).rows
 
-  -- how it stands in a tick by the rows of a whole schedule
+  -- its state in a tick, by the rows of a whole schedule
   pub tick_told : (horizon t : ℕ) (within : t ≤ horizon)
       → standing_at t None (telling x (past_of [] (clocks.schedule system horizon))) ≡ settled (next_row horizon t within)
       (said Pending (rows_of_tick t))

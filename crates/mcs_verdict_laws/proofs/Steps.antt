@@ -1,4 +1,4 @@
--- How a thread goes on from row to row: as its core has it, and not only as its rows tell.
+-- How a thread proceeds from row to row: as its core has it, and not only as its rows say.
 use Rattle.std.proofs.Common.{◌≡◌, ℕ, ◌+◌, ◌≤◌, ◌⊎◌, Bool, true, false, ◌==◌, List, [], ◌∷◌, ◌++◌, Option, Some, None, refl, sym, subst, ◌∙◌}
 use Rattle.mcs_ticks.specs.declared.row.Row.{Row}
 use Rattle.mcs_ticks.specs.declared.row.What.{What}
@@ -15,7 +15,7 @@ pub contrary : (b : Bool) → b ≡ false → b ≡ true → ⊥
 contrary true e f = let g : true ≡ false = e in cc
 contrary false e f = let g : false ≡ true = f in cc
 
--- how a thread stands on its core, and when its round began by the rows so far
+-- the place of a thread on its core, and when its round began by the rows so far
 pub record Told : Type 0 where
   pub standing : Standing
   pub begun : Option ℕ
@@ -23,7 +23,7 @@ pub record Told : Type 0 where
 abbrev pub told_of : Standing → Option ℕ → Told
 told_of standing begun = record { standing = standing; begun = begun }
 
--- a row of the thread that tells how it stands from then on
+-- a row of the thread that decides its state from then on
 abbrev pub Turns : Standing → What → Standing → Type 0
 Turns before (row.Release y) after = ((before ≡ Pending) ⊎ (before ≡ Throttled)) × (after ≡ Ready)
 Turns before (row.Run y) after = (before ≡ Ready) × (after ≡ Running)
@@ -63,7 +63,7 @@ module _ (x : ℕ) where
   ended_last None = false
   ended_last (Some what) = ends_round what
 
-  -- the thread is done right after a round of its own: the row before tells its end
+  -- the thread is done right after one of its rounds: the row before is its end
   abbrev pub EndsAfter : Option What → What → Type 0
   EndsAfter last (row.Stop y why.Done charged until) = (y == x) ≡ true → ended_last last ≡ true
   EndsAfter last _ = Unit {0}

@@ -1,4 +1,4 @@
--- A thread goes on through a whole turn of its core.
+-- A thread passes a whole turn of its core.
 use Rattle.std.proofs.Common.{◌≡◌, ◌≢◌, ℕ, suc, ◌+◌, ◌<◌, ◌≤◌, ◌⊎◌, inl, inr, Bool, true, false, cond, not, ◌==◌, List, [], ◌∷◌, Option, Some, None, refl, sym, subst, ◌∙◌, arith}
 use Rattle.std.specs.Prelude.{filter, nat_le}
 use Rattle.std.proofs.lemmas.Bool.{cases_lt}
@@ -23,7 +23,7 @@ use Rattle.mcs_verdict_laws.proofs.Entering.{equal, step-release, enters-back}
 use Rattle.mcs_verdict_laws.proofs.Sources.{IsHeard, IsSignalled, alarms-heard}
 use Rattle.mcs_verdict_laws.proofs.Parts.{tick_of-goes, interrupts-goes, arrives-goes, obeys-goes, preempts_by-goes, chooses_of-goes}
 
--- the release queue, of which those that are due leave
+-- the release queue without the threads that are due
 due-left : (x t : ℕ) (xs : List Dated)
     → times_dated x (filter (is_due t) xs) + times_dated x (filter (λ dated. not (is_due t dated)) xs) ≡ times_dated x xs
 due-left x t [] = refl
@@ -241,7 +241,7 @@ module _ (system : System) (x : ℕ) where
   loose-left t begun k Done (inl e) one h u s = absurd (cc)
   loose-left t begun k Done (inr e) one h u s = absurd (cc)
 
-  -- none of its dates is due, or it has one alone
+  -- no date of it is due, or it has one date only
   due-cases : (t : ℕ) (k : Core) → times_dated x k.releases ≤ 1
       → (times_dated x (filter (is_due t) k.releases) ≡ 0) ⊎ (times_dated x (filter (is_due t) k.releases) ≡ 1)
   due-cases t k l = by (cases_lt (times_dated x (filter (is_due t) k.releases)) 1)

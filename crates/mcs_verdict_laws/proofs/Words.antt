@@ -114,7 +114,7 @@ module _ (note : ℕ) where
           let Q : Note → Type 0 = λ made. (made.waiters ≡ []) ⊎ (made.word ≡ 0) in
           (ap (λ (made : Note). made.word) now, record { there = there; quiet = subst Q (sym now) sound.quiet })
 
-  -- of which a row tells
+  -- a row of it
   said-sounds : (n : ℕ) (state : Note) (what : What) (k : Core) → IsSound k.notes → IsRight (word_in k.notes) what
       → word_after what (word_in k.notes) ≡ cond (n == note) state.word (word_in k.notes)
       → ((n == note) ≡ true → (state.waiters ≡ []) ⊎ (state.word ≡ 0))
@@ -252,7 +252,7 @@ module _ (note : ℕ) where
       (plain-sounds k.notes (says (row.Signal y n 1) k) sound record { rows = (tt, tt); same = refl })
       (frees_as-sounds system t n (posted 1 (note_of k n)) k e sound)
 
-  -- rows that tell of other notifications
+  -- rows about other notifications
   abbrev pub IsStill : What → Type 0
   IsStill (row.Hold n word) = (n == note) ≡ false
   IsStill (row.Got y n word) = (n == note) ≡ false

@@ -83,7 +83,8 @@ it_ran_for_five = refl
 and_for_two_of_the_first_six : ticks_running 6 0 (schedule depletes 6) ≡ 2
 and_for_two_of_the_first_six = refl
 
--- Thread 1 waits, at the price of its budget of 1 in 10; thread 0 signals at 5 and is done. So thread 1 is woken at 5 and runs at 10.
+-- Thread 1 waits, at the price of its budget of 1 in 10; thread 0 signals at 5 and is done. Thread
+-- 1 is then woken at 5 and runs at 10.
 abbrev woken : System
 woken = one_core (context 20 20 ∷ context 1 10 ∷ []) (thread 0 5 0 1 (Compute 3 ∷ Signal 0 1 ∷ []) ∷ thread 1 9 0 0 (Wait 0 ∷ Compute 1 ∷ []) ∷ [])
 
@@ -129,14 +130,16 @@ its_parts = record { sum = refl; pending = refl; woken = refl; done = refl }
 its_throttled_ticks : (job woken (past_of [] (schedule woken 10)) 11 1 1).stood.throttled ≡ 5
 its_throttled_ticks = refl
 
--- whether a thread is overdue at a horizon, and whether a round of its own missed its deadline up to there
+-- whether a thread is overdue at a horizon, and whether one of its rounds missed its deadline up to
+-- there
 abbrev is_overdue : System → ℕ → ℕ → Bool
 is_overdue system horizon thread = is_some (overdue system (past_of [] (schedule system horizon)) horizon thread)
 
 abbrev missed_by : System → ℕ → ℕ → Bool
 missed_by system horizon thread = has_miss_of thread (found_in system [] (schedule system horizon))
 
--- Thread 0 signals at 4 and is done; thread 1 is behind a third one, which runs from 4 to 8. Its round was activated at 4, and it takes the word at 9.
+-- Thread 0 signals at 4 and is done; thread 1 comes after a third one, which runs from 4 to 8. Its
+-- round was activated at 4, and it takes the word at 9.
 abbrev late : System
 late =
     one_core (context 20 20 ∷ context 20 20 ∷ context 20 20 ∷ [])

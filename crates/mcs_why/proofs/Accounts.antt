@@ -1,4 +1,4 @@
--- What is kept of who ran, after a row more and at the end.
+-- The account of who ran, after one more row and at the end.
 use Rattle.std.proofs.Common.{◌≡◌, ℕ, ◌+◌, ◌-◌, ◌^◌, ◌<◌, ◌≤◌, min, true, false, eqb, ◌&&◌, cond, nat_lt, List, [], ◌∷◌, length, get_or, map, replicate, Option, None, refl, sym, ap, ◌∙◌, arith}
 use Rattle.std.specs.List.{range_with_len}
 use Rattle.std.proofs.lemmas.List.FromFn.{length-map-range_with_len}
@@ -32,7 +32,7 @@ pub exact : (new old more x z total n : ℕ) → new ≡ min (old + more) (2 ^ 6
     → new ≡ total
 exact new old more x z total n is a b e few small = omega arith
 
--- what the threads ran, where the same runs for the ticks that passed
+-- what the threads ran, if the same one runs for the ticks that passed
 pub ran_more : (rows : List Row) (from n m threads : ℕ) → n ≤ m → (n < m → since_of rows ≤ from + n)
     → map (with_more (runner_now rows) (m - n) (λ thread. ticks_for (is_thread thread) rows from n)) (range_with_len 0 threads)
     ≡ map (λ thread. ticks_for (is_thread thread) rows from m) (range_with_len 0 threads)
@@ -49,7 +49,7 @@ idle_more rows from n m new old more up small since is was adds =
     exact new old more (ticks_for is_nobody rows from n) (cond (is_nobody (runner_now rows)) (m - n) 0) (ticks_for is_nobody rows from m) m
     is was adds (passes is_nobody rows from n m up since) (few is_nobody rows from m) small
 
--- the same, where this one runs from then on
+-- the same, if this one runs from then on
 abbrev pub with_runner : Account → Option ℕ → Account
 with_runner kept who = account kept.core kept.from kept.to kept.passed who kept.ran kept.idle
 

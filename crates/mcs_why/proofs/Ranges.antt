@@ -30,7 +30,7 @@ set_number f g n y new has is others =
             ∙ ap g (sym e)
         by (inr differ) = get_or-set_other (map f (range_with_len 0 n)) y k new 0 differ ∙ at_number f n k h ∙ others k h differ
 
--- so many more for one thread
+-- more for one thread
 abbrev pub with_more : Option ℕ → ℕ → (ℕ → ℕ) → ℕ → ℕ
 with_more runner ticks before thread = cond (is_thread thread runner) ticks 0 + before thread
 
@@ -60,14 +60,14 @@ counts-at before threads y ticks d old new counts e has small was is =
     (uncapped old new ticks (before y) read (small y) is ∙ here (eqb y y) ticks (before y) (eq-eqb y y refl))
     (λ k h differ. other before y ticks k differ)
 
--- where there is no such thread
+-- if there is no such thread
 pub counts-past : (before : ℕ → ℕ) (threads y ticks : ℕ) (counts : List ℕ) → counts ≡ map before (range_with_len 0 threads) → length counts ≤ y
     → counts ≡ map (with_more (Some y) ticks before) (range_with_len 0 threads)
 counts-past before threads y ticks counts e past =
     let long : length counts ≡ threads = ap length e ∙ length-map-range_with_len before 0 threads in
     e ∙ same_numbers before (with_more (Some y) ticks before) threads (λ k h. other before y ticks k (λ same. omega arith))
 
--- where nobody runs
+-- if nobody runs
 pub counts-none : (before : ℕ → ℕ) (threads ticks : ℕ)
     → map before (range_with_len 0 threads) ≡ map (with_more None ticks before) (range_with_len 0 threads)
 counts-none before threads ticks =

@@ -73,7 +73,7 @@ follows_after firsts note bits thread past moment (row.Round x number response) 
 follows_after firsts note bits thread past moment (row.Order context) began word h = h
 follows_after firsts note bits thread past moment (row.Interrupt source n badge) began word h = h
 
--- where a round is under way that a word began, the word was set
+-- if a round is under way that a word began, the word was set
 follows : (firsts : List Held) (note : ℕ) (bits : Option ℕ) (start thread : ℕ) (past : List Row)
     → Follows (begun (Some note) bits start thread past) (called firsts (Some note) bits start thread past)
 follows firsts note bits start thread [] = tt
@@ -101,7 +101,7 @@ some_ticks : (next : Option What) (rows : List Row) (from n t : ℕ) → first_f
 some_ticks next rows from zero t e = absurd (cc)
 some_ticks next rows from (suc n) t e = omega arith
 
--- a round under way is told to be activated at the horizon where it is not yet
+-- if a round under way is not activated yet, the watch gives the horizon as its activation
 recovered : (waits called active : Option ℕ) (horizon : ℕ) → ((note : ℕ) → waits ≡ Some note → IsSet called)
     → ((t : ℕ) → active ≡ Some t → t < horizon)
     → told_by waits horizon (or_now horizon (activated_by waits called active)) ≡ activated_by waits called active
@@ -197,7 +197,7 @@ told_open system thread number past horizon trail at set e is word =
     (to_begin kept.standing set) (waits_since kept.standing kept.stopped) (comes_since kept.standing kept.free))
     word
 
--- what there is of the round that is sought, where it has not ended
+-- the round that is sought, if it has not ended
 pub told_sought : (system : System) (thread number : ℕ) (past : List Row) (horizon : ℕ) (trail : Trail) (unended : Option Span)
     → trail ≡ trail_of system thread number past
     → trail.found ≡ None → unended ≡ open_of system horizon past thread

@@ -1,4 +1,4 @@
--- What all threads ran, and what the core was idle, is each tick once.
+-- The ticks that all threads ran and the core's idle ticks are each tick once.
 use Rattle.std.proofs.Common.{◌≡◌, ◌≢◌, ℕ, zero, suc, ◌+◌, ◌<◌, ◌≤◌, ◌⊎◌, inl, inr, Bool, true, false, ◌&&◌, eqb, cond, nat_le, List, [], ◌∷◌, map, Option, Some, None, refl, ap, ◌∙◌, arith}
 use Rattle.std.specs.List.{range_with_len, sum, sum_by}
 use Rattle.std.proofs.lemmas.List.Sums.{sum-map, sum_by-cons}
@@ -9,7 +9,7 @@ use Rattle.mcs_ticks.specs.declared.row.What.TheVariants as row
 use Rattle.mcs_why.specs.Running.{is_turn, runner, turns, runner_at, is_thread, is_nobody, ticks_for}
 use Rattle.mcs_why.specs.laws.Sums.{IsKnown, AreKnown}
 
--- sums of the numbers from one on, so many of them
+-- sums of n numbers from one on
 abbrev total : (ℕ → ℕ) → ℕ → ℕ → ℕ
 total f a n = sum_by f (range_with_len a n)
 

@@ -51,7 +51,7 @@ later is rows from n (suc k) (suc m) h e =
     more (is (runner_now rows)) k (cond (is (runner_at (from + m) rows)) 1 0) (ticks_for is rows from m) (ticks_for is rows from n)
     (ap (λ x. cond (is x) 1 0) one) rest
 
--- so many ticks more, in which the latest runner runs
+-- n ticks more, in which the latest runner runs
 pub passes : (is : Option ℕ → Bool) (rows : List Row) (from n m : ℕ) → n ≤ m → (n < m → since_of rows ≤ from + n)
     → ticks_for is rows from m ≡ cond (is (runner_now rows)) (m - n) 0 + ticks_for is rows from n
 passes is rows from n m up h = later is rows from n (m - n) m (λ some. h (omega arith)) (omega arith)
@@ -60,7 +60,7 @@ one : (b : Bool) (x n : ℕ) → x ≤ n → cond b 1 0 + x ≤ suc n
 one true x n h = omega arith
 one false x n h = omega arith
 
--- no more than there are
+-- at most as many as there are
 pub few : (is : Option ℕ → Bool) (rows : List Row) (from n : ℕ) → ticks_for is rows from n ≤ n
 few is rows from zero = omega arith
 few is rows from (suc n) = one (is (runner_at (from + n) rows)) (ticks_for is rows from n) n (few is rows from n)

@@ -47,13 +47,14 @@ system threads =
 abbrev at : ℕ → What → Row
 at moment what = record { moment = moment; core = 0; what = what }
 
--- a round: its thread, number, and from when to when it is told, whether it ended, and when it was activated and begun
+-- a round: its thread, number and span, whether it ended, and its activation and beginning
 abbrev span : ℕ → ℕ → ℕ → ℕ → Bool → Option ℕ → Option ℕ → Span
 span thread number from to ended activated begun =
     record { thread = thread; number = number; core = 0; from = from; to = to; ended = ended; activated = activated; begun = begun }
 
--- A lock: thread 0 frees it first, 1 is the low thread, 2 the one between, and 3 the high one. The low one takes the lock at 2, the high one waits
--- for it from 5 on, the one between runs from 6 to 26, and the low one frees the lock at 29.
+-- A lock: thread 0 frees it first, 1 is the low thread, 2 the one between, and 3 the high one. The
+-- low one takes the lock at 2 and frees it at 29. The high one waits for it from 5 on, and the one
+-- between runs from 6 to 26.
 abbrev lock : System
 lock =
     system
@@ -103,7 +104,7 @@ no_second_round = refl
 no_round_is_number_0 : sought lock 1000 locked 3 0 ≡ Missing 1
 no_round_is_number_0 = refl
 
--- at 20 the high thread waits, and its round is told from there on; it is its first
+-- at 20 the high thread waits, and the span of its round begins there; it is its first
 abbrev waiting : List Row
 waiting = past_of [] (to_the_wait [])
 
@@ -127,8 +128,8 @@ under_way = refl
 not_started : sought lock 5 [] 2 1 ≡ Missing 0
 not_started = refl
 
--- A loop that spends its budget: its second round began where the first ended, at 3, and is activated by the release at 10. Its core is
--- idle meanwhile.
+-- A loop that exhausts its budget: its second round began at 3, when the first ended, and is
+-- activated by the release at 10. Its core is idle meanwhile.
 abbrev loop : System
 loop = system (thread 1 5 0 (Compute 3 ∷ []) ∷ [])
 
@@ -150,7 +151,7 @@ third_round = refl
 no_fourth_round : sought loop 15 (spends goes_on) 0 4 ≡ Missing 3
 no_fourth_round = refl
 
--- it ran 3 ticks from 2 to 12, of which the core was idle for 7
+-- it ran 3 ticks from 2 to 12, and its core was idle for 7
 around_its_pause : ran_in 0 0 (spends goes_on) 2 12 ≡ 3
 around_its_pause = refl
 
@@ -161,7 +162,8 @@ idle_meanwhile = refl
 other_core : idle_in 1 (spends goes_on) 2 12 ≡ 10
 other_core = refl
 
--- A word that is held while its thread still runs its round before: the round to come is told from where the word was set.
+-- A word that is held while its thread still runs the round before: the span of the next round
+-- begins when the word was set.
 abbrev late : System
 late = system (thread 1 5 0 (Wait 0 ∷ Compute 9 ∷ []) ∷ [])
 

@@ -1,4 +1,4 @@
--- What is kept of who ran on a core in a span.
+-- The account of who ran on a core in a span.
 use Rattle.std.specs.Prelude.{ℕ, ◌-◌, min, List, [], ◌∷◌, map, Option, None}
 use Rattle.std.specs.List.{range_with_len}
 use Rattle.mcs_ticks.specs.declared.row.Row.{Row}
@@ -14,16 +14,16 @@ pub record Account : Type 0 where
   pub ran : List ℕ
   pub idle : ℕ
 
--- who runs after these rows, which say who does
+-- who runs after these rows
 abbrev pub runner_now : List Row → Option ℕ
 runner_now [] = None
 runner_now (r ∷ rows) = runner r.what
 
--- the ticks of [from, to) before a moment
+-- the ticks of [from, to) before a time
 abbrev pub passed_at : ℕ → ℕ → ℕ → ℕ
 passed_at from to moment = min moment to - from
 
--- of so many threads, by such rows, where so many ticks of the span are counted
+-- the account of the threads by such rows, with `passed` ticks of the span counted
 abbrev pub account_at : ℕ → ℕ → ℕ → ℕ → List Row → ℕ → Account
 account_at threads core from to rows passed =
     record {
@@ -36,7 +36,7 @@ account_at threads core from to rows passed =
       idle = ticks_for is_nobody rows from passed;
     }
 
--- after these rows, where the ticks up to the latest that says who runs are counted
+-- the account after these rows; the ticks up to the latest that decides who runs are counted
 abbrev pub account_of : ℕ → ℕ → ℕ → ℕ → List Row → Account
 account_of threads core from to past =
     account_at threads core from to (turns core past) (passed_at from to (since_of (turns core past)))

@@ -4,22 +4,22 @@ use Rattle.mcs_ticks.specs.declared.row.Row.{Row}
 use Rattle.mcs_ticks.specs.declared.row.What.{What}
 use Rattle.mcs_ticks.specs.declared.row.What.TheVariants as row
 
--- whether this says who runs from then on
+-- whether the row decides who runs from then on
 abbrev pub is_turn : What → Bool
 is_turn (row.Run x) = true
 is_turn (row.Stop x cause charged until) = true
 is_turn _ = false
 
--- who does
+-- the thread that runs from then on
 abbrev pub runner : What → Option ℕ
 runner (row.Run x) = Some x
 runner _ = None
 
--- the rows of a core that say so
+-- the rows of a core that decide who runs
 abbrev pub turns : ℕ → List Row → List Row
 turns core past = filter (λ r. r.core == core && is_turn r.what) past
 
--- who runs in tick t by such rows: as the latest up to t says
+-- who runs in tick t, by the latest such row up to t
 abbrev pub runner_at : ℕ → List Row → Option ℕ
 runner_at t [] = None
 runner_at t (r ∷ past) = if nat_le r.moment t then runner r.what else runner_at t past
@@ -32,12 +32,12 @@ abbrev pub is_nobody : Option ℕ → Bool
 is_nobody None = true
 is_nobody (Some x) = false
 
--- of the ticks from a moment on, so many of them, those whose runner is such
+-- the number of the n ticks from `from` on whose runner is such
 abbrev pub ticks_for : (Option ℕ → Bool) → List Row → ℕ → ℕ → ℕ
 ticks_for is rows from zero = 0
 ticks_for is rows from (suc n) = (if is (runner_at (from + n) rows) then 1 else 0) + ticks_for is rows from n
 
--- how many ticks of [from, to) a thread ran on the core, and how many the core was idle
+-- the ticks of [from, to) that a thread ran on the core, and those in which the core was idle
 abbrev pub ran_in : ℕ → ℕ → List Row → ℕ → ℕ → ℕ
 ran_in core thread past from to = ticks_for (is_thread thread) (turns core past) from (to - from)
 

@@ -1,4 +1,4 @@
--- What is kept of a schedule's rows to find a round.
+-- The state that is kept of a schedule's rows to find a round.
 use Rattle.std.specs.Prelude.{ℕ, nat_lt, if◌then◌else◌, List, Option, Some, None}
 use Rattle.mcs_ticks.specs.declared.row.Row.{Row}
 use Rattle.mcs_system.specs.System.{System, thread_part, core_of}
@@ -10,7 +10,7 @@ use Rattle.mcs_why.specs.declared.trail.Trail.{Trail}
 use Rattle.mcs_why.specs.Waits.{stopped, waited_of, free}
 use Rattle.mcs_why.specs.Spans.{span_in, ended}
 
--- after these rows, of the round of the thread with this number
+-- the state after these rows, for the thread's round with this number
 abbrev pub trail_of : System → ℕ → ℕ → List Row → Trail
 trail_of system thread number past =
     let part = thread_part system thread in
@@ -29,7 +29,8 @@ trail_of system thread number past =
       standing = standing_of (telling thread past);
     }
 
--- when a round under way was activated, where it is told to be activated at the horizon if it is not yet: a word that begins a round activates it
+-- the activation of a round under way, by the watch's activation of a round that ends at the
+-- horizon: a word that begins a round activates it, any other activation is before the horizon
 abbrev pub told_by : Option ℕ → ℕ → ℕ → Option ℕ
 told_by (Some note) horizon moment = Some moment
 told_by None horizon moment = if nat_lt moment horizon then Some moment else None

@@ -1,4 +1,5 @@
--- From when to when the rows of a core tell why a round of a thread took so long, by the rows so far, the latest first.
+-- The span of rows that show why a round of a thread took so long, by the rows so far, the latest
+-- first.
 use Rattle.std.specs.Prelude.{ℕ, ◌==◌, ◌&&◌, Bool, true, false, nat_le, min, if◌then◌else◌, List, [], ◌∷◌, Option, Some, None}
 use Rattle.mcs_ticks.specs.declared.row.Row.{Row}
 use Rattle.mcs_ticks.specs.declared.row.What.{What}
@@ -18,7 +19,8 @@ use Rattle.mcs_why.specs.declared.span.Sought.{Sought}
 use Rattle.mcs_why.specs.declared.span.Sought.TheVariants.{There, Missing}
 use Rattle.mcs_why.specs.Waits.{stopped, waited_of, free}
 
--- from a round's activation on, or from where its thread began to wait for the word that began it, where that is earlier
+-- a round's activation, or when its thread began to wait for the word that began it, if that is
+-- earlier
 abbrev pub from_of : ℕ → Option ℕ → ℕ
 from_of activated None = activated
 from_of activated (Some since) = min since activated
@@ -37,7 +39,7 @@ span_of core waited job =
       begun = Some job.begun;
     }
 
--- where it is the one that is sought
+-- if it is the one that is sought
 abbrev pub is_sought : ℕ → ℕ → Job → Bool
 is_sought thread number job = job.thread == thread && job.number == number
 
@@ -49,14 +51,14 @@ abbrev pub or_later : Option Span → Option Span → Option Span
 or_later None later = later
 or_later (Some span) later = Some span
 
--- the span of the round with this number, where it ended
+-- the span of the round with this number, if it ended
 abbrev pub span_in : System → ℕ → ℕ → List Row → Option Span
 span_in system thread number [] = None
 span_in system thread number (r ∷ past) =
     or_later (span_in system thread number past)
     (span_if thread number (core_of system (thread_part system thread)) (waited_of system thread past) (job_of system past r.moment r.what))
 
--- the number of the thread's latest round that ended, 0 where none did
+-- the number of the thread's latest round that ended; 0 if no round ended
 abbrev pub ended_after : ℕ → What → ℕ → ℕ
 ended_after thread (row.Round x number response) before = if x == thread then number else before
 ended_after thread _ before = before
@@ -65,32 +67,33 @@ abbrev pub ended : ℕ → List Row → ℕ
 ended thread [] = 0
 ended thread (r ∷ past) = ended_after thread r.what (ended thread past)
 
--- a round under way is told from its activation or its wait on, or from its beginning on where it is not activated yet
+-- the span of a round under way begins as above, or at its beginning if it is not activated yet
 abbrev pub from_begun : ℕ → Option ℕ → Option ℕ → ℕ
 from_begun begun None waited = begun
 from_begun begun (Some activated) waited = from_of activated waited
 
--- when a round was activated that is under way
+-- when the round under way was activated
 abbrev pub activated_of : System → ℕ → List Row → ℕ → Option ℕ → Option ℕ
 activated_of system thread past horizon None = None
 activated_of system thread past horizon (Some begun) = activated system thread past begun horizon
 
--- a word that is held is the activation of the next round, if there is one to come
+-- a held word activates the next round, if there is one to come
 abbrev pub to_begin : Standing → Option ℕ → Option ℕ
 to_begin Done set = None
 to_begin _ set = set
 
--- since when the thread waits
+-- when the thread began to wait
 abbrev pub waits_since : Standing → Option ℕ → Option ℕ
 waits_since Blocked stopped = stopped
 waits_since _ stopped = None
 
--- since when the thread is on the way to its wait, where it is: there is nothing more to do for a thread whose last round ended
+-- when the thread began to proceed to its wait; a thread whose last round ended has nothing more to
+-- do
 abbrev pub comes_since : Standing → ℕ → Option ℕ
 comes_since Done free = None
 comes_since _ free = Some free
 
--- a round of a thread that has not ended at the horizon, after so many that ended
+-- the thread's round after the last one that ended, which has not ended at the horizon
 abbrev pub open_span : ℕ → ℕ → ℕ → ℕ → ℕ → Option ℕ → Option ℕ → Span
 open_span thread core before horizon from activated begun =
     record {
@@ -104,7 +107,8 @@ open_span thread core before horizon from activated begun =
       begun = begun;
     }
 
--- it is under way, or its word is held, or its thread waits for one, or is on the way to its wait and was so before the horizon
+-- it is under way, its word is held, its thread waits for the word, or its thread proceeds to the
+-- wait by the horizon
 abbrev pub open_by : ℕ → ℕ → ℕ → ℕ → Option ℕ → Option ℕ → Option ℕ → Option ℕ → Option ℕ → Option ℕ → Option Span
 open_by thread core before horizon (Some begun) activated waited set since comes =
     if nat_le begun horizon
@@ -127,7 +131,7 @@ open_of system horizon past thread =
     (activated_of system thread past horizon (begun_of system thread past)) (waited_of system thread past)
     (to_begin standing (word_set system past thread)) (waits_since standing (stopped thread past)) (comes_since standing (free part.start thread past))
 
--- a round that is there, or how many there are
+-- the span if it is the round with this number, else how many rounds there are
 abbrev pub open_if : ℕ → ℕ → Option Span → Sought
 open_if number before None = Missing before
 open_if number before (Some span) = if span.number == number then There span else Missing span.number

@@ -1,4 +1,5 @@
--- Since when a thread waited for the word that began its round, by the rows so far, the latest first.
+-- When a thread began to wait for the word that began its round, by the rows so far, the latest
+-- first.
 use Rattle.std.specs.Prelude.{ℕ, List, [], ◌∷◌, ◌==◌, if◌then◌else◌, Option, Some, None}
 use Rattle.mcs_ticks.specs.declared.row.Row.{Row}
 use Rattle.mcs_ticks.specs.declared.row.What.{What}
@@ -16,12 +17,12 @@ abbrev pub stopped : ℕ → List Row → Option ℕ
 stopped thread [] = None
 stopped thread (r ∷ past) = stopped_after thread r.moment r.what (stopped thread past)
 
--- where a word begins a round, this is since when the thread waited for it
+-- if this word begins a round, when the thread began to wait for it
 abbrev pub waited_by : Option ℕ → Option ℕ → ℕ → Option ℕ → Option ℕ → Option ℕ → Option ℕ
 waited_by (Some note) bits word None since before = if calls bits word then since else before
 waited_by waits bits word begun since before = before
 
--- a thread that is woken waited since it stopped; one that takes a word that is held did not wait
+-- a thread that is woken waited since it stopped; one that takes a held word did not wait
 abbrev pub waited_after : Option ℕ → Option ℕ → ℕ → Option ℕ → Option ℕ → What → Option ℕ → Option ℕ
 waited_after waits bits thread begun stopped (row.Wake x note word) before =
     if x == thread then waited_by waits bits word begun stopped before else before
@@ -29,7 +30,7 @@ waited_after waits bits thread begun stopped (row.Got x note word) before =
     if x == thread then waited_by waits bits word begun None before else before
 waited_after waits bits thread begun stopped _ before = before
 
--- since when the thread waited for the word that began its latest round, if one did, and if it waited
+-- when the thread began to wait for the word that began its latest round, if it waited
 abbrev pub waited : Option ℕ → Option ℕ → ℕ → ℕ → List Row → Option ℕ
 waited waits bits start thread [] = None
 waited waits bits start thread (r ∷ past) =
@@ -40,7 +41,7 @@ waited_of system thread past =
     let part = thread_part system thread in
     waited (first_wait part) (bits_of part) part.start thread past
 
--- when the thread's latest round ended, or else when it starts: from there on it is on the way to its first item
+-- when the thread's latest round ended, or its start; from then on it proceeds to its first item
 abbrev pub free_after : ℕ → ℕ → What → ℕ → ℕ
 free_after thread moment (row.Round x number response) before = if x == thread then moment else before
 free_after thread moment _ before = before

@@ -12,16 +12,16 @@ use mcs_ticks::{CoreId, NoMemory, Row, ThreadId, Tick, What};
 use std::alloc::Global;
 use std::marker::Model;
 
-/// Tells which rows belong to a span, and counts meanwhile how long each thread ran on its core and how long that was idle. A row more takes
-/// constant time and no memory, since all room is taken when the account is made: a count for each thread.
+/// Counts how long each thread ran on a core in a span, and how long the core was idle. All memory
+/// is taken when the account is made, a count for each thread; a row takes constant time.
 #[derive(Drop)]
 pub struct Account {
     core: CoreId,
     from: Tick,
     to: Tick,
-    /// The ticks of the span that are counted.
+    /// The ticks of the span that are counted so far.
     passed: u64,
-    /// Who runs since then.
+    /// The thread that runs since then.
     runner: Option<ThreadId>,
     ran: Vec<u64>,
     idle: u64,
@@ -36,7 +36,7 @@ impl Model for Account {
     ghost view = { λ a. record { core = a.core; from = a.from; to = a.to; passed = a.passed; runner = a.runner; ran = a.ran.items; idle = a.idle } };
 }
 
-/// Whether a row says who runs from then on.
+/// Whether the row decides who runs from then on.
 fn is_turn(what: &What) -> bool
     ensures { result ≡ is_turn what.now }
 {
@@ -52,7 +52,7 @@ fn runner(what: &What) -> Option<ThreadId>
     }
 }
 
-/// Whether a row is one of the core that says so.
+/// Whether the row is one of the core that decides who runs from then on.
 fn is_turn_on(core: CoreId, row: &Row) -> bool
     ensures { result ≡ ((row.now.core == core) && is_turn row.now.what) }
 {
@@ -83,21 +83,21 @@ fn is_thread(thread: ThreadId, runner: Option<ThreadId>) -> bool
     }
 }
 
-/// The ticks of a span before a moment.
+/// The ticks of a span before a time.
 fn passed_at(from: Tick, to: Tick, moment: Tick) -> u64
     ensures { result ≡ passed_at from to moment }
 {
     moment.get().min(to.get()).saturating_sub(from.get())
 }
 
-/// So many ticks, where this is so.
+/// The ticks if `is_so`, else 0.
 fn ticks_if(is_so: bool, ticks: u64) -> u64
     ensures { result ≡ (if is_so then ticks else 0) }
 {
     if is_so { ticks } else { 0 }
 }
 
-/// So many ticks more for who runs, where no sum is above 2^64 - 1.
+/// Adds ticks to the thread that runs. No sum may exceed 2^64 - 1.
 fn count(ran: &mut [u64], runner: Option<ThreadId>, ticks: u64)
     ensures { (before : ℕ → ℕ) (threads : ℕ) → ran.old ≡ map before (range_with_len 0 threads) →
         ((thread : ℕ) → before thread + ticks < 2 ^ 64) →
@@ -111,7 +111,7 @@ fn count(ran: &mut [u64], runner: Option<ThreadId>, ticks: u64)
 }
 
 impl Account {
-    /// Before the first row of a run of the system. `NoMemory` where a growth was refused.
+    /// An account before the first row of a run of the system. `NoMemory` if memory runs out.
     pub fn new(alloc: Global, system: &System, span: &Span) -> Result<Self, NoMemory>
         ensures { IfOk result (λ account. account ≡ account_of (length system.now.threads) span.now.core span.now.from span.now.to []) }
     {
@@ -126,7 +126,7 @@ impl Account {
         })
     }
 
-    /// The ticks of the span up to so many, in which the same runs.
+    /// Counts the ticks of the span up to `passed`, in which the same thread runs.
     fn pass(&mut self, passed: u64)
         ensures { (threads core from to before : ℕ) (rows : List TheRow) → self.old ≡ account_at threads core from to rows before →
             before ≤ passed → (before < passed → since_of rows ≤ from + before) →
@@ -140,7 +140,7 @@ impl Account {
             .saturating_add(ticks_if(is_nobody(self.runner), ticks));
     }
 
-    /// A row of the core that says who runs from then on.
+    /// Takes a row of the core that decides who runs from then on.
     fn turn(&mut self, row: &Row)
         ensures { (threads core from to : ℕ) (past : List TheRow) → self.old ≡ account_of threads core from to past →
             ((row.now.core == core) && is_turn row.now.what) ≡ true → UpTo row.now.moment past →
@@ -150,7 +150,8 @@ impl Account {
         self.runner = runner(&row.what);
     }
 
-    /// One row more, in constant time and without memory: whether it is one of the span.
+    /// Takes one more row and returns whether it is one of the span. Takes constant time and no
+    /// memory.
     pub fn see(&mut self, row: &Row) -> bool
         ensures shown { result ≡ is_within self.old.core self.old.from self.old.to row.now }
         ensures kept { (threads core from to : ℕ) (past : List TheRow) → self.old ≡ account_of threads core from to past →
@@ -163,7 +164,7 @@ impl Account {
         shown
     }
 
-    /// The ticks of the span that are yet to be counted.
+    /// The ticks of the span that are not yet counted.
     fn rest(&self) -> u64
         ensures value { result ≡ (self.now.to - self.now.from) - self.now.passed }
         ensures small { self.now.to ≤ 2 ^ 42 }
@@ -174,7 +175,8 @@ impl Account {
             .saturating_sub(self.passed)
     }
 
-    /// How many ticks of the span the thread ran, where this saw all rows up to its end: 0 where the system has no such thread.
+    /// Returns the ticks of the span that the thread ran, if all rows up to its end were seen. 0 if
+    /// the system has no such thread.
     pub fn ran(&self, thread: ThreadId) -> u64
         ensures { (threads core from to : ℕ) (past : List TheRow) → self.now ≡ account_of threads core from to past →
             result ≡ (if nat_lt thread threads then ran_in core thread past from to else 0) }
@@ -187,7 +189,8 @@ impl Account {
         }
     }
 
-    /// For how many ticks of the span its core was idle, where this saw all rows up to its end.
+    /// Returns the ticks of the span in which its core was idle, if all rows up to its end were
+    /// seen.
     pub fn idle(&self) -> u64
         ensures { (threads core from to : ℕ) (past : List TheRow) → self.now ≡ account_of threads core from to past →
             result ≡ idle_in core past from to }

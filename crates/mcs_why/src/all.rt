@@ -13,7 +13,7 @@ use mcs_ticks::{NoMemory, Row, ThreadId, Tick};
 use mcs_verdict::Watch;
 use std::alloc::Global;
 
-/// What the watch tells of the row, the search takes.
+/// Takes one more row into the watch, and with its job into the search.
 fn see(watch: &mut Watch, search: &mut Search, row: &Row)
     ensures watch { (system : TheSystem) (past : List TheRow) → watch.old ≡ watch_of system past → UpTo row.now.moment past →
         watch.new ≡ watch_of system (row.now ∷ past) }
@@ -36,7 +36,8 @@ fn see_all(watch: &mut Watch, search: &mut Search, rows: &[Row])
     }
 }
 
-/// What there is of a round in a list of rows, those of a run of the system up to the horizon. `NoMemory` where a growth was refused.
+/// Returns the span of a round in a list of rows, those of a run of the system up to the horizon.
+/// `NoMemory` if memory runs out.
 pub fn find(
     alloc: Global,
     system: &System,
@@ -65,7 +66,8 @@ fn tell_all(account: &mut Account, rows: &[Row])
     }
 }
 
-/// Who ran in a span of a list of rows, those of a run of the system. `NoMemory` where a growth was refused.
+/// Returns who ran in a span, by a list of rows of a run of the system. `NoMemory` if memory runs
+/// out.
 pub fn tell(alloc: Global, system: &System, span: &Span, rows: &[Row]) -> Result<Account, NoMemory>
     requires { InOrder [] rows.now }
     ensures { IfOk result (λ account. account

@@ -1,5 +1,5 @@
-//! Why a round of a thread took so long: from when to when the rows of its core tell it, which of them do, how long each thread ran
-//! meanwhile, and how long the core was idle. The rows of a schedule go by twice, and none is kept.
+//! Why a round of a thread took so long: the span of rows of its core that show it, how long each
+//! thread ran meanwhile, and how long the core was idle. The rows come twice, and no row is kept.
 #![tactic(auto)]
 
 mod account;

@@ -14,7 +14,8 @@ use mcs_ticks::{Row, ThreadId, Tick, What};
 use mcs_verdict::{Job, Watch};
 use std::marker::Model;
 
-/// Looks for a round of a thread while the rows of a schedule go by. A row more takes constant time, and no memory is taken.
+/// Looks for a round of a thread as the rows of a schedule come. A row takes constant time; no
+/// memory is taken.
 #[derive(Drop)]
 pub struct Search {
     trail: Trail,
@@ -29,7 +30,7 @@ impl Model for Search {
 }
 
 impl Search {
-    /// Before the first row.
+    /// A search before the first row.
     pub fn new(system: &System, thread: ThreadId, number: u64) -> Self
         requires { thread < length system.now.threads }
         ensures { result ≡ trail_of system.now thread number [] }
@@ -39,7 +40,8 @@ impl Search {
         }
     }
 
-    /// One row more, in constant time and without memory. A watch over the same rows tells of it the round that it ends (`Watch::job`).
+    /// Takes one more row, in constant time and without memory. A watch over the same rows has the
+    /// round that it ends (`Watch::job`).
     pub fn see(&mut self, job: Option<Job>, row: &Row)
         ensures { (system : TheSystem) (thread number : ℕ) (past : List TheRow) → self.old ≡ trail_of system thread number past →
             job ≡ job_of system past row.now.moment row.now.what → self.new ≡ trail_of system thread number (row.now ∷ past) }
@@ -47,13 +49,13 @@ impl Search {
         self.trail.see(job, row);
     }
 
-    /// What there is of the round, where this and the watch saw all rows up to the horizon.
+    /// Returns the span of the round, if the search and the watch saw all rows up to the horizon.
     pub fn sought(&self, watch: &Watch, horizon: Tick) -> Sought
         ensures { (system : TheSystem) (thread number : ℕ) (past : List TheRow) → self.now ≡ trail_of system thread number past →
             watch.now ≡ watch_of system past → UpTo horizon past → thread < length system.threads →
             result ≡ sought system horizon past thread number }
     {
-        // as if a round ended at the horizon: so the watch tells when the one under way was activated
+        // As if the round under way ended at the horizon: the watch then has its activation.
         let end = Row {
             moment: horizon,
             core: self.trail.core,

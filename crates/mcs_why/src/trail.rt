@@ -1,4 +1,4 @@
-//! What is kept of the rows so far to find a round of a thread, row by row.
+//! The state that is kept of rows to find a round of a thread.
 ghost use Rattle.std.specs.Prelude.{◌≡◌, ℕ, ◌<◌, List, [], ◌∷◌, length};
 ghost use Rattle.mcs_ticks.specs.declared.row.Row.{Row as TheRow};
 ghost use Rattle.mcs_system.specs.System.{System as TheSystem};
@@ -15,25 +15,25 @@ use mcs_system::SystemParts;
 use mcs_ticks::{CoreId, NoteId, Row, ThreadId, Tick, What, Why};
 use mcs_verdict::{Job, Standing, bits_of, calls, first_wait};
 
-/// What is kept of the rows so far to find a round of a thread.
+/// The state that is kept of the rows so far to find a round of a thread.
 #[derive(Clone, Copy, Debug, PartialEq, Eq)]
 pub(crate) struct Trail {
     pub thread: ThreadId,
     pub number: u64,
     pub core: CoreId,
-    /// The notification on which its script waits first, where it begins with a wait.
+    /// The notification of the wait with which its script begins, if it begins with one.
     pub waits: Option<NoteId>,
-    /// The bits of which a word of that wait must have one to begin a round; None where each word does.
+    /// A word of that wait begins a round if it has one of these bits; `None` if every word does.
     pub bits: Option<u32>,
-    /// The number of its latest round that ended, 0 where none did.
+    /// The number of its latest round that ended; 0 if no round ended.
     pub ended: u64,
     pub found: Option<Span>,
-    /// When the round began that is under way.
+    /// When the round under way began.
     pub begun: Option<Tick>,
-    /// Since when it waited for the word that began its latest round.
+    /// When the thread began to wait for the word that began its latest round.
     pub waited: Option<Tick>,
     pub stopped: Option<Tick>,
-    /// When its latest round ended, or else when it starts.
+    /// When its latest round ended; its start if no round ended.
     pub free: Tick,
     pub standing: Standing,
 }
@@ -60,7 +60,7 @@ fn stopped_after(thread: ThreadId, moment: Tick, what: &What, before: Option<Tic
     }
 }
 
-/// When the round began that is under way after this row.
+/// When the round under way after this row began.
 fn begun_after(
     waits: Option<NoteId>,
     bits: Option<u32>,
@@ -97,7 +97,7 @@ fn begun_after(
     }
 }
 
-/// Since when the thread waited for the word that began its latest round.
+/// When the thread began to wait for the word that began its latest round.
 fn waited_after(
     waits: Option<NoteId>,
     bits: Option<u32>,
@@ -127,7 +127,7 @@ fn waited_after(
     }
 }
 
-/// When the thread's latest round ended, or else when it starts.
+/// When the thread's latest round ended, or its start.
 fn free_after(thread: ThreadId, moment: Tick, what: &What, before: Tick) -> Tick
     ensures { result ≡ free_after thread moment what.now before }
 {
@@ -137,7 +137,7 @@ fn free_after(thread: ThreadId, moment: Tick, what: &What, before: Tick) -> Tick
     }
 }
 
-/// How a thread stands after a row that tells it.
+/// How a thread stands after one of its telling rows.
 fn standing_after(what: &What) -> Standing
     ensures { result ≡ standing_after what.now }
 {
@@ -169,7 +169,7 @@ fn standing_now(thread: ThreadId, what: &What, standing: Standing) -> Standing
     }
 }
 
-/// From when the rows of a round tell it.
+/// The beginning of a round's span.
 pub(crate) fn from_of(activated: Tick, waited: Option<Tick>) -> Tick
     ensures { result ≡ from_of activated waited }
 {
@@ -195,7 +195,7 @@ fn span_of(core: CoreId, waited: Option<Tick>, job: &Job) -> Span
 }
 
 impl Trail {
-    /// Before the first row.
+    /// The state before the first row.
     pub(crate) fn new(parts: &SystemParts, thread: ThreadId, number: u64) -> Self
         requires { thread < length parts.now.threads }
         ensures { result ≡ trail_of parts.now thread number [] }
@@ -221,7 +221,7 @@ impl Trail {
         }
     }
 
-    /// The round's span, where this is it.
+    /// The span of the job, if it is the round that is sought.
     fn span_if(&self, job: Option<Job>) -> Option<Span>
         ensures { result ≡ span_if self.now.thread self.now.number self.now.core self.now.waited job }
     {
@@ -233,7 +233,7 @@ impl Trail {
         }
     }
 
-    /// One row more, and the round that it ends, if it ends one.
+    /// Takes one more row, and the round that it ends, if it ends one.
     pub(crate) fn see(&mut self, job: Option<Job>, row: &Row)
         ensures { (system : TheSystem) (thread number : ℕ) (past : List TheRow) → self.old ≡ trail_of system thread number past →
             job ≡ job_of system past row.now.moment row.now.what → self.new ≡ trail_of system thread number (row.now ∷ past) }

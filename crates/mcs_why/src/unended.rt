@@ -1,4 +1,4 @@
-//! What there is of a round that has not ended at the horizon.
+//! A round that has not ended at the horizon.
 ghost use Rattle.std.specs.Prelude.{◌≡◌, ℕ, ◌<◌, List, length, Some, None};
 ghost use Rattle.mcs_ticks.specs.declared.row.Row.{Row as TheRow};
 ghost use Rattle.mcs_ticks.specs.declared.row.What.TheVariants as row;
@@ -42,8 +42,9 @@ fn comes_since(standing: Standing, free: Tick) -> Option<Tick>
     }
 }
 
-/// The moment at which a round under way was activated, where it is told to be activated at the horizon if it is not yet: a word that begins a
-/// round activates it.
+/// The activation of a round under way. `moment` is what the watch gives as if the round ended at
+/// the horizon. A word that begins a round activates it; any other round is activated only if that
+/// is before the horizon.
 fn told_by(waits: Option<NoteId>, horizon: Tick, moment: Tick) -> Option<Tick>
     ensures { result ≡ told_by waits horizon moment }
 {
@@ -65,7 +66,7 @@ fn open_if(number: u64, before: u64, unended: Option<Span>) -> Sought
 }
 
 impl Trail {
-    /// A round that has not ended at the horizon.
+    /// The span of a round that has not ended at the horizon.
     fn open_span(
         &self,
         horizon: Tick,
@@ -87,7 +88,7 @@ impl Trail {
         }
     }
 
-    /// The round that is under way since this moment, told by when it was activated.
+    /// The round that is under way since `begun`.
     fn under_way(
         &self,
         horizon: Tick,
@@ -130,7 +131,7 @@ impl Trail {
         }
     }
 
-    /// The round that has not ended at the horizon, if there is one, by when the one under way was activated.
+    /// The round that has not ended at the horizon, if there is one.
     fn open(&self, horizon: Tick, activated: Option<Tick>, set: Option<Tick>) -> Option<Span>
         ensures { result ≡ open_by self.now.thread self.now.core self.now.ended horizon self.now.begun activated self.now.waited
             (to_begin self.now.standing set) (waits_since self.now.standing self.now.stopped) (comes_since self.now.standing self.now.free) }
@@ -141,7 +142,7 @@ impl Trail {
         }
     }
 
-    /// When the round under way was activated, where this is what it would be if it ended at the horizon.
+    /// When the round under way was activated. `job` is that round, as if it ended at the horizon.
     fn activated(&self, horizon: Tick, job: Option<Job>) -> Option<Tick>
         ensures { (system : TheSystem) (thread number response : ℕ) (past : List TheRow) → self.now ≡ trail_of system thread number past →
             thread < length system.threads → job ≡ job_of system past horizon (row.Round thread number response) →
@@ -156,8 +157,8 @@ impl Trail {
         }
     }
 
-    /// What there is of the round, where this is the one under way as if it ended at the horizon, and this is when the word was set that is
-    /// held for its thread.
+    /// Returns the span of the round that is sought. `job` is the round under way, as if it ended
+    /// at the horizon; `set` is when the word that is held for its thread was set.
     pub(crate) fn sought(&self, horizon: Tick, job: Option<Job>, set: Option<Tick>) -> Sought
         ensures { (system : TheSystem) (thread number response : ℕ) (past : List TheRow) → self.now ≡ trail_of system thread number past →
             thread < length system.threads → job ≡ job_of system past horizon (row.Round thread number response) →

@@ -1,4 +1,5 @@
-//! The program: it reads its words, opens the file or takes standard input, and ends with the status of what was found.
+//! The program `mcscheck`: it reads its command line, checks the file or standard input, and ends
+//! with the exit code of the result.
 #![tactic(auto)]
 
 mod meter;
@@ -18,10 +19,10 @@ const NOT_UTF_8: &str = "error: invalid UTF-8 was detected in one or more argume
 
 const WRITE_FAILED: &str = "mcscheck: write failed\n";
 
-/// The status where something was found.
+/// Exit code if there is a finding.
 const FOUND: u8 = 5;
 
-/// The status where nothing was found so far, and not for ever.
+/// Exit code of `--forever` if there is no finding so far, but some cores were not found to repeat.
 const OPEN: u8 = 6;
 
 fn main(rt: HostRuntime) -> ExitCode {
@@ -61,7 +62,7 @@ fn main(rt: HostRuntime) -> ExitCode {
     }
 }
 
-/// The status of what was found, or of the fault, which is told.
+/// Returns the exit code of the counts, or of the fault, which it prints.
 fn end_check(rt: &HostRuntime, options: &Options, found: Result<Counts, CheckFault>) -> ExitCode {
     match found {
         Ok(counts) if counts.is_clean(options.strict) => ExitCode::SUCCESS,
@@ -74,7 +75,7 @@ fn end_check(rt: &HostRuntime, options: &Options, found: Result<Counts, CheckFau
     }
 }
 
-/// The status of an answer about a round, or of the fault, which is told.
+/// Returns the exit code of an explanation, or of the fault, which it prints.
 fn end_answer(rt: &HostRuntime, told: Result<(), WhyFault>) -> ExitCode {
     match told {
         Ok(()) => ExitCode::SUCCESS,
@@ -86,7 +87,7 @@ fn end_answer(rt: &HostRuntime, told: Result<(), WhyFault>) -> ExitCode {
     }
 }
 
-/// The status of what a look at all time came to, or of the fault, which is told.
+/// Returns the exit code of the verdict for all time, or of the fault, which it prints.
 fn end_look(rt: &HostRuntime, verdict: Result<Verdict, ForeverFault>) -> ExitCode {
     match verdict {
         Ok(Verdict::Clean) => ExitCode::SUCCESS,
@@ -100,7 +101,7 @@ fn end_look(rt: &HostRuntime, verdict: Result<Verdict, ForeverFault>) -> ExitCod
     }
 }
 
-/// Says why the words are not carried out: help on standard output, all else on standard error.
+/// Prints why the arguments are refused: help on standard output, anything else on standard error.
 fn tell(rt: &HostRuntime, fault: &WordsFault) -> ExitCode {
     match fault {
         WordsFault::Help(text) => match rt.print(text.as_str()) {
@@ -112,7 +113,7 @@ fn tell(rt: &HostRuntime, fault: &WordsFault) -> ExitCode {
     }
 }
 
-/// The words after the program's name.
+/// The arguments after the program's name.
 fn words_of(rt: &HostRuntime) -> io::Result<Vec<String>> {
     let mut words = Vec::new(rt.alloc());
     for word in env::args(rt)?.skip(1) {

@@ -4,18 +4,19 @@ use std::io::IsTerminal;
 use std::rt::HostRuntime;
 use std::time::{Duration, Instant};
 
-/// It is shown how far a run is once nothing was shown for so many milliseconds.
+/// Milliseconds of a run before its progress is first shown.
 const FIRST: u64 = 1_000;
 
-/// And shown anew after so many.
+/// Milliseconds between two updates of the progress.
 const AGAIN: u64 = 200;
 
-/// Shows on a terminal how far a run is, in a line that gives way to what is written. Standard error that is no terminal is told nothing.
+/// Shows the progress on a terminal, in a line that is cleared before output. If standard error is
+/// no terminal, no progress is shown.
 #[derive(Drop)]
 pub(crate) struct Meter<'a> {
     rt: &'a HostRuntime,
     horizon: Tick,
-    /// When the line was last written, or the run began; None where there is no terminal, or no clock.
+    /// When the line was last written, or the run began; `None` without a terminal or a clock.
     since: Option<Instant>,
     is_shown: bool,
 }

@@ -1,4 +1,4 @@
--- What was found of all rows of a run, and what was written then.
+-- The findings of all rows of a run, and the bytes written then.
 use Rattle.std.specs.Prelude.{◌≡◌, ℕ, Bool, List, [], Option, length, option_map}
 use Rattle.mcs_ticks.specs.declared.row.Row.{Row}
 use Rattle.mcs_system.specs.System.{System}
@@ -15,14 +15,14 @@ use Rattle.mcs_check.specs.declared.seen.Seen.{Seen}
 use Rattle.mcs_check.specs.Counts.{no_counts}
 use Rattle.mcs_check.specs.stored.Rows.{counts_in, kept_table, rows_text}
 
--- what is kept for figures, where a table is kept
+-- the state kept for figures, if there is a table
 abbrev pub kept_with : Watch → Option Table → Option Kept
 kept_with watch table = option_map (λ t. record { watch = watch; table = t }) table
 
 abbrev pub kept_of : Show → System → ℕ → List Row → Option Kept
 kept_of asked system horizon past = kept_with (watch_of system past) (kept_table asked system horizon past)
 
--- of each thread there is an account in both
+-- each thread has an account in both
 pub record IsKeptOf (system : System) (kept : Kept) : Type 0 where
   pub watched : length kept.watch.accounts ≡ length system.threads
   pub tabled : length kept.table.accounts ≡ length system.threads
@@ -31,18 +31,18 @@ module _ (system : System) (allowed : List Bool) (options : Options) where
   abbrev pub rows_of_run : List Row
   rows_of_run = schedule system options.horizon
 
-  -- the lines of what rows tell
+  -- the lines of the rows
   abbrev pub text_of_rows : List ℕ
   text_of_rows = rows_text system allowed options.format options.show rows_of_run
 
-  -- all rows of the run were seen, and of those lines all but the text were given to a target
+  -- all rows of the run were seen, and their lines were written except the text that waits
   pub record IsAllSeen (old new : Option (List ℕ)) (seen : Seen) : Type 0 where
     pub text : AppendsBefore old new text_of_rows seen.text.items
     pub watch : seen.watch ≡ watch_of system (past_of [] rows_of_run)
     pub counts : seen.counts ≡ counts_in system allowed [] rows_of_run no_counts
     pub table : seen.table ≡ kept_table options.show system options.horizon (past_of [] rows_of_run)
 
-  -- it is all of the run, and of those lines all but its text were given to a target
+  -- the findings of all rows of the run; their lines were written except the text that waits
   pub record IsAllFound (old new : Option (List ℕ)) (found : AllFound) : Type 0 where
     pub text : AppendsBefore old new text_of_rows found.text.items
     pub counts : found.counts ≡ counts_in system allowed [] rows_of_run no_counts

@@ -1,4 +1,4 @@
--- What each core finds in its own rows, and what all cores find together.
+-- The findings of each core in its rows, and those of all cores together.
 use Rattle.std.specs.Prelude.{ℕ, ◌+◌, Bool, List, [], flat_map, fold}
 use Rattle.std.specs.List.{range_with_len}
 use Rattle.mcs_ticks.specs.declared.row.Row.{Row}
@@ -24,23 +24,23 @@ together a b =
       hints = capped (a.hints + b.hints);
     }
 
--- the rows of core c before a moment, the latest first
+-- the rows of core c before time t, the latest first
 abbrev pub before_on : System → ℕ → ℕ → List Row
 before_on system c t = past_of [] (rows_between system c 0 t)
 
 module _ (system : System) (allowed : List Bool) where
-  -- what core c tells of its rows from one moment to before another
+  -- the reported findings of core c in its rows from one time to before another
   abbrev pub told_on : ℕ → ℕ → ℕ → List Found
   told_on c from to = told_in system allowed (before_on system c from) (rows_between system c from to)
 
-  -- what all cores tell of theirs, one core after another
+  -- the reported findings of all cores, one core after another
   abbrev pub told_on_all : ℕ → ℕ → List Found
   told_on_all from to = flat_map (λ c. told_on c from to) (range_with_len 0 system.cores)
 
-  -- what core c counts of its rows before a moment
+  -- the counts of core c before time t
   abbrev pub counts_on : ℕ → ℕ → Counts
   counts_on c t = counts_so_far system allowed (before_on system c t)
 
-  -- what all cores count
+  -- the counts of all cores
   abbrev pub counts_on_all : ℕ → Counts
   counts_on_all t = fold (λ counts c. together counts (counts_on c t)) no_counts (range_with_len 0 system.cores)

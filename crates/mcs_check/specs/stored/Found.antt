@@ -1,4 +1,4 @@
--- What is found in rows, each after those before it.
+-- The reported findings of rows, each by the rows before it.
 use Rattle.std.specs.Prelude.{ℕ, Bool, List, [], ◌∷◌, ◌++◌}
 use Rattle.mcs_ticks.specs.declared.row.Row.{Row}
 use Rattle.mcs_system.specs.System.{System}
@@ -9,21 +9,21 @@ use Rattle.mcs_check.specs.declared.counts.Counts.{Counts}
 use Rattle.mcs_check.specs.Counts.{no_counts, told_of}
 use Rattle.mcs_check.specs.stored.Rows.{counted_at}
 
--- the rows before a moment, the latest first
+-- the rows before time t, the latest first
 abbrev pub before_of : System → ℕ → List Row
 before_of system t = past_of [] (clock system t).rows
 
 module _ (system : System) (allowed : List Bool) where
-  -- what is counted of rows so far, the latest first
+  -- the counts of the rows so far, the latest first
   abbrev pub counts_so_far : List Row → Counts
   counts_so_far [] = no_counts
   counts_so_far (r ∷ past) = counted_at system allowed past r (counts_so_far past)
 
-  -- what is told of a row that comes after these, where it is told at all
+  -- the reported finding of a row that comes after these, if it has one
   abbrev pub told_by : List Row → Row → List Found
   told_by past r = found_at r.moment r.core (told_of allowed (finding system past r.moment r.what))
 
-  -- of these rows, each after those before it
+  -- the reported findings of these rows, each by the rows before it
   abbrev pub told_in : List Row → List Row → List Found
   told_in past [] = []
   told_in past (r ∷ rows) = told_by past r ++ told_in (r ∷ past) rows

@@ -1,4 +1,4 @@
--- What a core has seen of its own rows, and found in them from a moment on.
+-- The rows that a core has seen, and its findings in them from some time on.
 use Rattle.std.specs.Prelude.{◌≡◌, ℕ, Bool, true, false, List, [], ◌∷◌, ◌++◌, filter, nat_le, nat_lt, Option, Some, None}
 use Rattle.std.proofs.Common.{◌∙◌, ap, append-nil, append_assoc, refl, sym}
 use Rattle.std.proofs.lemmas.List.Elements.{filter-append}
@@ -14,32 +14,32 @@ use Rattle.mcs_check.specs.declared.core_watch.CoreWatch.{CoreWatch}
 use Rattle.mcs_check.specs.stored.Found.{counts_so_far, told_by, told_in}
 use Rattle.mcs_check.specs.stored.Rows.{counted_at}
 
--- what was found at this moment or later
+-- the findings at this time or later
 abbrev pub since : ℕ → List Found → List Found
 since from found = filter (λ f. nat_le from f.moment) found
 
--- and what was found before it
+-- the findings before this time
 abbrev pub until : ℕ → List Found → List Found
 until to found = filter (λ f. nat_lt f.moment to) found
 
--- how many rows were seen
+-- the number of rows seen
 abbrev pub rows_seen : Option CoreWatch → ℕ
 rows_seen None = 0
 rows_seen (Some own) = own.rows
 
 module _ (system : System) (allowed : List Bool) (from : ℕ) where
-  -- what is kept of these rows, of what is found in them from this moment on
+  -- the state kept of these rows, with the findings from `from` on
   pub record HasSeen (rows : List Row) (own : CoreWatch) : Type 0 where
     pub watch : own.watch ≡ watch_of system (past_of [] rows)
     pub counts : own.counts ≡ counts_so_far system allowed (past_of [] rows)
     pub found : own.found.items ≡ since from (told_in system allowed [] rows)
 
-  -- rows that are held where they come in order; what is closed holds none
+  -- a finder holds rows in order; a closed one holds no row
   abbrev pub HoldsOwn : Option CoreWatch → List Row → Type 0
   HoldsOwn None rows = rows ≡ []
   HoldsOwn (Some own) rows = (own.rows ≡ many_of rows) × (InOrder [] rows → HasSeen rows own)
 
--- how a row more is looked at, which is refused only where there is no memory for what is found
+-- one more row is seen, or refused because there is no memory for its finding
 abbrev pub SeesMore : List Bool → ℕ → CoreWatch → Row → Bool → CoreWatch → Type 0
 SeesMore allowed from before row taken after =
     (after.rows ≡ one_more before.rows)
@@ -48,7 +48,7 @@ SeesMore allowed from before row taken after =
     × (after.counts ≡ counted_at system allowed past row before.counts)
     × (taken ≡ true → after.found.items ≡ before.found.items ++ since from (told_by system allowed past row)))
 
--- what is closed takes no row
+-- a closed finder takes no row
 abbrev pub TakesOwn : List Bool → ℕ → Option CoreWatch → Row → Bool → Option CoreWatch → Type 0
 TakesOwn allowed from None row taken after = taken ≡ false
 TakesOwn allowed from (Some before) row taken None = taken ≡ false
@@ -58,7 +58,7 @@ order-but-one : (past rows : List Row) (r : Row) → InOrder past (rows ++ r ∷
 order-but-one past [] r order = (tt, order.0)
 order-but-one past (q ∷ rows) r order = let rest = order-but-one (q ∷ past) rows r order.1 in ((order.0, rest.0), rest.1)
 
--- what is told of rows, and then of others
+-- the findings of rows, followed by those of further rows
 pub told-append : (system : System) (allowed : List Bool) (past rows more : List Row)
     → told_in system allowed past (rows ++ more) ≡ told_in system allowed past rows ++ told_in system allowed (past_of past rows) more
 told-append system allowed past [] more = refl
@@ -82,7 +82,7 @@ module _ (system : System) (allowed : List Bool) (from : ℕ) where
             ∙ ap (since from) (sym told);
       }
 
-  -- a row more that is taken is held behind the others
+  -- a row that is taken is held after the others
   pub seen_more : (before after : Option CoreWatch) (held : List Row) (row : Row) → HoldsOwn system allowed from before held → TakesOwn allowed from before row true after
       → HoldsOwn system allowed from after (held ++ row ∷ [])
   seen_more None after held row holds takes = cc

@@ -1,4 +1,4 @@
--- Lines that are put behind those that wait to be written.
+-- Lines that are added to those that wait to be written.
 use Rattle.std.specs.Prelude.{◌≡◌, ℕ, Bool, true, false, List, ◌++◌, Option, flat_map}
 use Rattle.mcs_system.specs.System.{System}
 use Rattle.mcs_ticks.specs.declared.sink.FlowFault.{FlowFault}
@@ -11,13 +11,14 @@ use Rattle.mcs_check.specs.declared.found_lines.FoundLines.{FoundLines}
 use Rattle.mcs_check.specs.Formats.{found_line}
 use Rattle.mcs_check.specs.stored.Rows.{failed_after}
 
--- the lines of what is told
+-- the lines of findings
 abbrev pub founds_text : Format → System → List Found → List ℕ
 founds_text how system found = flat_map (found_line how system) found
 
--- a target's bytes, and whether it has failed
+-- the bytes that a target knows, and whether it has failed
 module _ {W P : Type 0} (contents : W → Option (List ℕ)) (failed : W → Bool) where
-  -- they stay lines for the same target, text, format and system; where its lines are refused the target has failed or there is no memory
+  -- the target, text, format and system stay; if lines are refused, the target has failed or memory
+  -- ran out
   abbrev pub PutsLines : FoundLines W P → List ℕ → Bool → FoundLines W P → Type 0
   PutsLines before lines taken after =
       (after.lines.target.ghost_name ≡ before.lines.target.ghost_name)
@@ -28,7 +29,7 @@ module _ {W P : Type 0} (contents : W → Option (List ℕ)) (failed : W → Boo
       × (taken ≡ false → failed after.lines.target.now ≡ failed_after after.lines.is_out_of_memory (failed before.lines.target.now))
       × TakesLine (contents before.lines.target.now) (contents after.lines.target.now) before.text.now.items after.text.now.items lines taken
 
-  -- not all of these lines are put
+  -- not all of these lines are added
   abbrev pub PutsSome : FoundLines W P → List ℕ → FlowFault → FoundLines W P → Type 0
   PutsSome before lines fault.Sink after = PutsLines before lines false after
   PutsSome before lines fault.NoMemory after =

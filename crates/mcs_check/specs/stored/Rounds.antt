@@ -1,4 +1,4 @@
--- Rounds of the cores, in which each core looks at its own rows.
+-- Rounds of the cores: in each, every core looks at its rows.
 use Rattle.std.specs.Prelude.{◌≡◌, ◌⊎◌, ℕ, ◌+◌, ◌<◌, ◌≤◌, Bool, false, List, [], ◌++◌, fold, length, slice_index, slice_index_or}
 use Rattle.mcs_core.specs.Clock.{clock}
 use Rattle.mcs_system.specs.System.{System}
@@ -13,12 +13,12 @@ use Rattle.mcs_check.specs.stored.ByCore.{together, told_on_all}
 use Rattle.mcs_check.specs.stored.Found.{told_in}
 use Rattle.mcs_check.specs.stored.OwnRows.{HasSeen}
 
--- what these have counted, as one
+-- the sum of their counts
 abbrev pub are_counted_together : List CoreWatch → Counts
 are_counted_together watches = fold (λ counts own. together counts own.counts) no_counts watches
 
 module _ (system : System) (allowed : List Bool) where
-  -- what core c keeps of its rows before a moment, of what is found in them from a moment on
+  -- the state of core c: its rows before `to`, with the findings from `from` on
   pub record IsWatched (from c to : ℕ) (own : CoreWatch) : Type 0 where
     pub many : own.rows ≡ many_of (rows_between system c 0 to)
     pub seen : HasSeen system allowed from (rows_between system c 0 to) own
@@ -28,7 +28,8 @@ module _ (system : System) (allowed : List Bool) where
     pub many_are : length watches ≡ system.cores
     pub each : (c : ℕ) (x : CoreWatch) → c < system.cores → IsWatched from c (slice_index clocks c) (slice_index_or watches c x)
 
-  -- between two rounds: nothing is lent or lost, and no clock is before the moment before which all is told
+  -- between two rounds: no core is lent or lost, and no clock is before `reached`; all earlier
+  -- findings were passed on
   pub record IsReady (horizon : ℕ) (cores : Cores) : Type 0 where
     pub system_is : cores.desk.system ≡ system
     pub horizon_is : cores.desk.horizon ≡ horizon
@@ -39,7 +40,7 @@ module _ (system : System) (allowed : List Bool) where
     pub most : (c : ℕ) → c < system.cores → clock_of cores.desk c ≤ horizon + 1
     pub watched : AreWatched cores.reached cores.desk.clocks cores.watches.items
 
-  -- what cores keep was taken from a desk, and what they found between two moments
+  -- the cores' state was taken from a desk, with their findings between two times
   pub record HasTaken (from : ℕ) (desk : Table) (cores : Cores) : Type 0 where
     pub desk_is : cores.desk ≡ record desk { taken = cores.desk.taken }
     pub ahead : from ≤ cores.reached
@@ -50,7 +51,8 @@ module _ (system : System) (allowed : List Bool) where
     pub watched : AreWatched cores.reached desk.clocks cores.watches.items
     pub found : cores.found.items ≡ told_on_all system allowed from cores.reached
 
-  -- a round later: what was found in it comes next in the schedule, and unless all turns were taken some were
+  -- one round later: its findings come next in the schedule, and some turns were taken unless all
+  -- were
   pub record IsNext (before after : Cores) : Type 0 where
     pub ready : IsReady before.desk.horizon after
     pub ahead : before.reached ≤ after.reached

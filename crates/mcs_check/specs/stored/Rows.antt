@@ -1,4 +1,4 @@
--- What is told and counted as rows go by.
+-- The lines and counts of rows as they come.
 use Rattle.std.specs.Prelude.{ℕ, Bool, true, if◌then◌else◌, List, [], ◌∷◌, ◌++◌, flat_map, Option, Some, None}
 use Rattle.mcs_ticks.specs.declared.row.Row.{Row}
 use Rattle.mcs_system.specs.System.{System}
@@ -25,12 +25,12 @@ use Rattle.mcs_check.specs.Figures.{table_lines}
 use Rattle.mcs_check.specs.Told.{found_lines}
 use Rattle.mcs_hints.specs.Hints.{hints_of}
 
--- what is found, as it is shown
+-- a finding, as it is shown
 abbrev pub shown_found : ℕ → ℕ → Option Finding → Option Shown
 shown_found moment core None = None
 shown_found moment core (Some found) = Some (shown.Found (record { moment = moment; core = core; finding = found }))
 
--- and a round that ended
+-- a job, as it is shown
 abbrev pub shown_job : Option Job → Option Shown
 shown_job None = None
 shown_job (Some job) = Some (shown.Job job)
@@ -41,41 +41,41 @@ shown_text how system (shown.Found found) = found_line how system found
 shown_text how system (shown.Job job) = job_line how system job
 shown_text how system (shown.Row row) = row_line how system row
 
--- if there is one
+-- the line, if there is one
 abbrev pub told_line : Format → System → Option Shown → List ℕ
 told_line how system None = []
 told_line how system (Some entry) = shown_text how system entry
 
--- what is shown after the last row, where this is found at the horizon
+-- the lines after the last row, with the findings at the horizon
 abbrev pub rest_lines : Format → Show → System → List Bool → List Found → List ℕ
 rest_lines how show.Findings system allowed found = found_lines how system allowed found ++ flat_map (hint_line how system) (hints_of system)
 rest_lines how show.Jobs system allowed found = []
 rest_lines how show.Table system allowed found = []
 rest_lines how show.Both system allowed found = found_lines how system allowed found ++ flat_map (hint_line how system) (hints_of system)
 
--- what is kept of these rows for figures, where they are asked for
+-- the table of these rows, if figures are asked for
 abbrev pub kept_table : Show → System → ℕ → List Row → Option Table
 kept_table show.Findings system horizon past = None
 kept_table show.Jobs system horizon past = None
 kept_table show.Table system horizon past = Some (table_of system horizon past)
 kept_table show.Both system horizon past = Some (table_of system horizon past)
 
--- their lines
+-- the lines of the table, if figures are asked for
 abbrev pub tabled_lines : Format → Show → System → ℕ → List Row → List ℕ
 tabled_lines how show.Findings system horizon past = []
 tabled_lines how show.Jobs system horizon past = []
 tabled_lines how show.Table system horizon past = table_lines how system horizon past
 tabled_lines how show.Both system horizon past = table_lines how system horizon past
 
--- whether a target has failed, where a line was refused
+-- whether the target has failed after a line was refused
 abbrev pub failed_after : Bool → Bool → Bool
 failed_after is_out_of_memory before = if is_out_of_memory then before else true
 
--- and why it was
+-- the fault of a refused line
 abbrev pub refusal : Bool → RunFault
 refusal is_out_of_memory = if is_out_of_memory then fault.Sim NoMemory else fault.Write
 
--- the lines of rows, each after those before it
+-- the lines of rows, each by the rows before it
 abbrev pub lines_of : (List Row → Row → List ℕ) → List Row → List Row → List ℕ
 lines_of line past [] = []
 lines_of line past (r ∷ rows) = line past r ++ lines_of line (r ∷ past) rows
@@ -96,11 +96,11 @@ module _ (system : System) (allowed : List Bool) where
       taken allowed (finding system past r.moment r.what)
       (if merges system past r.what then record counts { merged = one_more counts.merged } else counts)
 
-  -- of these rows, each after those before it
+  -- the lines of these rows, each by the rows before it
   abbrev pub lines_in : Format → Show → List Row → List Row → List ℕ
   lines_in how asked past rows = lines_of (told_at how asked) past rows
 
-  -- of all rows, behind the first line
+  -- the first line, and the lines of all rows
   abbrev pub rows_text : Format → Show → List Row → List ℕ
   rows_text how asked rows = head_text how asked ++ lines_in how asked [] rows
 
@@ -108,7 +108,7 @@ module _ (system : System) (allowed : List Bool) where
   counts_in past [] counts = counts
   counts_in past (r ∷ rows) counts = counts_in (r ∷ past) rows (counted_at past r counts)
 
--- all findings of a list are counted
+-- the counts with all findings of a list
 abbrev pub counts_found : List Bool → List Found → Counts → Counts
 counts_found allowed [] counts = counts
 counts_found allowed (f ∷ found) counts = counts_found allowed found (taken allowed (Some f.finding) counts)

@@ -1,4 +1,4 @@
--- Figures of a run count each round as it is.
+-- Figures of a run count each round exactly.
 use Rattle.std.specs.Prelude.{ℕ, ◌≡◌, ◌^◌, ◌<◌, List, length}
 use Rattle.mcs_ticks.specs.declared.row.Row.{Row}
 use Rattle.mcs_system.specs.System.{System, thread_part}
@@ -7,7 +7,7 @@ use Rattle.mcs_verdict.specs.Findings.{UpTo}
 use Rattle.mcs_table.specs.declared.figures.Rounds.{Rounds}
 use Rattle.mcs_table.specs.Rounds.{responses_of, greatest, missed_in, late_in, rounds_in}
 
--- a thread's rounds, with no limit to counts and responses
+-- a thread's rounds, with no limit on counts and responses
 abbrev pub exact_rounds : System → ℕ → List Row → Rounds
 exact_rounds system thread past =
     let deadline = (thread_part system thread).deadline in
@@ -22,7 +22,7 @@ exact_rounds system thread past =
       late = late_in deadline thread past;
     }
 
--- so it is of fewer than 2^64 rows up to the horizon
+-- this holds for fewer than 2^64 rows up to the horizon
 abbrev pub RoundsAreExact : Type 0
 RoundsAreExact =
     (system : System) (horizon thread : ℕ) (past : List Row) → UpTo horizon past → length past < 2 ^ 64

@@ -2,7 +2,7 @@ use mcs_check_words::{Format, Options, Show, WordsFault, options};
 use std::alloc::{AllocError, Global};
 use std::test::Fail;
 
-/// What words are answered: what they ask for; or the status and the text of their fault.
+/// The options of the arguments, or the exit code and the text of their fault.
 fn answer(alloc: Global, words: &[String]) -> Result<String, AllocError> {
     match options(alloc, words) {
         Ok(options) => asked_for(alloc, &options),
@@ -10,8 +10,8 @@ fn answer(alloc: Global, words: &[String]) -> Result<String, AllocError> {
     }
 }
 
-/// The file, the horizon, the workers, the names that are allowed, whether hints count, what is shown, whether the words say so, in which format, and
-/// the thread and the round that are asked about.
+/// The file, the horizon, the workers, the allowed names, `strict`, `show`, `show_given`, the
+/// format, and the thread and round that are asked about.
 fn asked_for(alloc: Global, options: &Options) -> Result<String, AllocError> {
     let file = options.file.as_ref().map_or("", |name| name.as_str());
     let horizon = options.horizon.get();
@@ -47,7 +47,7 @@ fn refusal(alloc: Global, fault: &WordsFault) -> Result<String, AllocError> {
     }
 }
 
-/// What the words of a line, with a space between two of them, are answered.
+/// The result for the arguments of a line, which are separated by spaces.
 fn answer_to(alloc: Global, line: &str) -> Result<String, AllocError> {
     let mut words = Vec::new(alloc);
     for word in line.split_whitespace() {
@@ -107,7 +107,7 @@ fn words_are_taken(rt: HostRuntime) -> Result<(), Fail> {
     Ok(())
 }
 
-/// Each line is not understood, and its text says what is wrong.
+/// Lines that are refused, each with a part of the text that names the mistake.
 static REFUSED: [(&str, &str); 18] = [
     ("--workers 65", "65"),
     ("--workers 0", "0"),

@@ -108,7 +108,8 @@ fn stood(pending: u64, running: u64) -> Stood {
     }
 }
 
-/// It is activated when the word is set, at 1, begins at 4, from where its row counts, and ends at 16. It runs from 1 on.
+/// The round is activated when the word is set, at 1, begins at 4, and ends at 16. Its row counts
+/// from 4. The thread runs from 1 on.
 fn rounds_of_waits() -> Figures {
     Figures {
         core: CoreId(0),
@@ -151,7 +152,7 @@ fn waits_are_told(rt: &impl Abort, alloc: Global, system: &System) -> Result<(),
     ];
     let (watch, table) = tabulate(alloc, system, Tick::new(20).unwrap(), rows.as_slice())?;
     is_told(rt, system, &watch, &table, 1, &rounds_of_waits());
-    // it ran 19 of 20 ticks, and the first thread none of the 6 that it might have run
+    // it ran 19 of 20 ticks, and the first thread ran in no tick; its maximum is 6
     is_unused(rt, system, &watch, &table, 0, Some(6));
     is_unused(rt, system, &watch, &table, 1, Some(1));
     Ok(())
@@ -163,7 +164,8 @@ fn a_round_that_waits_in_line(rt: HostRuntime) -> Result<(), Fail> {
     waits_are_told(&rt, rt.alloc(), &system)
 }
 
-/// Responses of 1, 4 and 2 ticks: the second in rising order is the 50th percentile, and the last the 90th and the 99th.
+/// Responses of 1, 4 and 2 ticks: in rising order the second is the 50th percentile, and the last
+/// the 90th and the 99th.
 fn rounds_of_computes() -> Figures {
     Figures {
         core: CoreId(0),
@@ -199,7 +201,7 @@ fn computes_are_told(rt: &impl Abort, alloc: Global, system: &System) -> Result<
     ];
     let (watch, table) = tabulate(alloc, system, Tick::new(18).unwrap(), rows.as_slice())?;
     is_told(rt, system, &watch, &table, 0, &rounds_of_computes());
-    // an order names the first context, and the second one let nothing run
+    // an order names the first context, and the second one let no thread run
     is_unused(rt, system, &watch, &table, 0, None);
     is_unused(rt, system, &watch, &table, 1, Some(18));
     Ok(())

@@ -1,4 +1,4 @@
--- Watching the rows of one core by themselves.
+-- Watching the rows of each core separately.
 use Rattle.std.specs.Prelude.{◌≡◌, ℕ, ◌==◌, List, [], ◌∷◌, filter, Option, Some, None}
 use Rattle.mcs_ticks.specs.declared.row.Row.{Row}
 use Rattle.mcs_ticks.specs.declared.row.What.{What}
@@ -14,7 +14,7 @@ use Rattle.mcs_verdict.specs.Findings.{UpTo, past_of, found_in}
 abbrev pub rows_on : ℕ → List Row → List Row
 rows_on c rows = filter (λ (r : Row). r.core == c) rows
 
--- what was found at rows of core c
+-- the findings at rows of core c
 abbrev pub found_on : ℕ → List Found → List Found
 found_on c found = filter (λ (f : Found). f.core == c) found
 
@@ -32,30 +32,30 @@ module _ (system : System) where
   abbrev pub note_home_of : ℕ → ℕ
   note_home_of note = (note_part system note).core
 
-  -- the row is one of the core of its thread, and of the notification whose word it changes
+  -- the row is on the core of its thread and of the notification whose word it changes
   pub record IsAtHome (r : Row) : Type 0 where
     pub thread : (x : ℕ) → subject r.what ≡ Some x → home_of x ≡ r.core
     pub note : (n : ℕ) → word_told r.what ≡ Some n → note_home_of n ≡ r.core
 
-  -- rows at home that come in the order of their moments, after these
+  -- rows at home in the order of their times, after the rows `past`
   abbrev pub ComeHome : List Row → List Row → Type 0
   ComeHome past [] = Unit {0}
   ComeHome past (r ∷ rows) = IsAtHome r × UpTo r.moment past × ComeHome (r ∷ past) rows
 
-  -- the thread's script begins with no wait for a notification of another core
+  -- the script does not begin with a wait for a notification of another core
   abbrev pub WaitsAtHome : ℕ → Type 0
   WaitsAtHome thread = (note : ℕ) → first_wait (thread_part system thread) ≡ Some note → note_home_of note ≡ home_of thread
 
-  -- what is found in the rows of a core alone is what is found at these rows among all
+  -- the findings in the rows of one core alone are the findings at these rows among all
   abbrev pub FoundByCore : Type 0
   FoundByCore = (rows : List Row) (c : ℕ) → ComeHome [] rows → found_in system [] (rows_on c rows) ≡ found_on c (found_in system [] rows)
 
-  -- and so is what is found of a thread of the core at the horizon
+  -- the findings at the horizon are the same for each thread that waits at home
   abbrev pub UnendedByCore : Type 0
   UnendedByCore =
       (rows : List Row) (horizon thread : ℕ) → ComeHome [] rows → UpTo horizon (past_of [] rows) → WaitsAtHome thread
       → unended system (past_of [] (rows_on (home_of thread) rows)) horizon thread ≡ unended system (past_of [] rows) horizon thread
 
--- so it is in every system
+-- both hold in every system
 abbrev pub CoresAreWatched : Type 0
 CoresAreWatched = (system : System) → FoundByCore system × UnendedByCore system

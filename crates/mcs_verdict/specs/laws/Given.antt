@@ -1,4 +1,4 @@
--- A finder that was given rows, one by one.
+-- A finder that took rows, one by one.
 use Rattle.std.specs.Prelude.{◌≡◌, Bool, List, ◌++◌}
 use Rattle.mcs_ticks.specs.declared.row.Row.{Row}
 use Rattle.mcs_ticks.specs.Given.{Given}
@@ -11,7 +11,7 @@ use Rattle.mcs_verdict.specs.Found.{Finds}
 abbrev pub FindsRow : Finder → Row → Bool → Finder → Type 0
 FindsRow before r taken after = Finds before.watch before.found.items r taken after.watch after.found.items
 
--- has seen these rows, where they come in order, and found what they tell
+-- if they come in order, it has seen these rows and kept their findings
 abbrev pub GivenAreFound : Type 0
 GivenAreFound =
     (system : System) (past rows : List Row) (before after : Finder) → Given FindsRow before rows after → InOrder past rows

@@ -1,4 +1,5 @@
--- What horizons tell: a round that is overdue stays so until it ends, too late, and a thread that was activated once was so ever after.
+-- Findings at two horizons: an overdue round stays overdue until it ends too late, and an activated
+-- thread stays activated.
 use Rattle.std.specs.Prelude.{◌≡◌, ◌≢◌, ℕ, ◌<◌, ◌≤◌, Bool, true, false, ◌==◌, ◌&&◌, not, nat_lt, List, [], filter, length, Option, Some, None}
 use Rattle.std.specs.List.{AllByRecursion, list_any, slice_get}
 use Rattle.mcs_ticks.specs.declared.row.Row.{Row}
@@ -20,13 +21,14 @@ abbrev pub is_taken_by_another : ℕ → Option ℕ → What → Bool
 is_taken_by_another thread (Some first) (row.Got x note word) = (note == first) && not (x == thread)
 is_taken_by_another thread first _ = false
 
--- in these rows no other thread takes it after some moment. Where one does, a round that was overdue is not activated any more
+-- in these rows no other thread takes the word after time `from`; if one does, an overdue round is
+-- no longer activated
 abbrev pub TakesItAlone : System → ℕ → ℕ → List Row → Type 0
 TakesItAlone system thread from rows =
     AllByRecursion
     (λ (row : Row). (nat_lt from row.moment && is_taken_by_another thread (first_wait (thread_part system thread)) row.what) ≡ false) rows
 
--- as it is where no other thread's script has a wait for it
+-- no other thread's script has a wait for that notification
 abbrev pub WaitsAlone : System → ℕ → Type 0
 WaitsAlone system thread =
     (note : ℕ) → first_wait (thread_part system thread) ≡ Some note → (other place : ℕ) →
@@ -45,7 +47,8 @@ is_miss_of thread _ = false
 abbrev pub has_miss_of : ℕ → List Found → Bool
 has_miss_of thread found = list_any (λ (f : Found). is_miss_of thread f.finding) found
 
--- where no round of the thread missed its deadline up to a horizon, and none is overdue there, none was overdue at an earlier one
+-- if no round of the thread missed its deadline up to a horizon, and no round is overdue there, no
+-- round was overdue at an earlier one
 abbrev pub OverdueStays : Type 0
 OverdueStays =
     (system : System) → IsWellFormed system → (thread earlier later : ℕ) → earlier ≤ later →
@@ -54,7 +57,7 @@ OverdueStays =
     overdue system (past_of [] (schedule system later)) later thread ≡ None →
     overdue system (past_of [] (schedule system earlier)) earlier thread ≡ None
 
--- a thread that was activated up to a horizon was so up to each later one
+-- a thread that was activated up to a horizon was activated up to each later one
 abbrev pub ActivationStays : Type 0
 ActivationStays =
     (system : System) → IsWellFormed system → (thread earlier later : ℕ) → earlier ≤ later →
@@ -62,11 +65,12 @@ ActivationStays =
     never system (past_of [] (schedule system earlier)) earlier thread ≡ None →
     never system (past_of [] (schedule system later)) later thread ≡ None
 
--- what is found of a group of cores in a run up to the horizon
+-- the findings of a group of cores in a run up to the horizon
 abbrev pub found_of : System → (ℕ → Bool) → ℕ → List Found
 found_of system group horizon = filter (λ (found : Found). group found.core) (findings system horizon (schedule system horizon))
 
--- where nothing is found of a group up to a horizon and up to a later one, nothing is found up to any between them
+-- a group without findings up to a horizon and up to a later one has no findings up to any horizon
+-- between them
 abbrev pub NothingIsFoundBetween : Type 0
 NothingIsFoundBetween =
     (system : System) (group : ℕ → Bool) → IsWellFormed system → (earlier later : ℕ) →
@@ -75,7 +79,7 @@ NothingIsFoundBetween =
     found_of system group earlier ≡ [] → found_of system group later ≡ [] →
     (horizon : ℕ) → earlier ≤ horizon → horizon ≤ later → found_of system group horizon ≡ []
 
--- and of all cores
+-- the same for all cores
 abbrev pub NothingAtAllIsFoundBetween : Type 0
 NothingAtAllIsFoundBetween =
     (system : System) → IsWellFormed system → (earlier later : ℕ) →

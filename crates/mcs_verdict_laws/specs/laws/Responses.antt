@@ -1,4 +1,4 @@
--- The responses that rows tell are counted from the beginnings that rows tell.
+-- The responses of rows, counted from the beginnings of rounds by the rows.
 use Rattle.std.specs.Prelude.{◌≡◌, ℕ, ◌+◌, List, [], ◌∷◌, Some}
 use Rattle.mcs_ticks.specs.declared.row.Row.{Row}
 use Rattle.mcs_ticks.specs.declared.row.What.{What}
@@ -10,24 +10,24 @@ use Rattle.mcs_verdict.specs.Jobs.{job}
 use Rattle.mcs_verdict.specs.Rounds.{begun_of}
 use Rattle.mcs_verdict.specs.declared.standing.Stood.{Stood}
 
--- the rows before the end of a round tell when it began, and its response is counted from there
+-- the rows before the end of a round have its beginning, and its response counts from there
 pub record IsTold (system : System) (past : List Row) (moment thread response : ℕ) : Type 0 where
   pub beginning : ℕ
   pub told : begun_of system thread past ≡ Some beginning
   pub response_is : moment ≡ beginning + response
 
--- so many ticks: ready, running, throttled and blocked ones, and none in which the thread stood otherwise
+-- the ready, running, throttled and blocked ticks sum to `ticks`, and there are no others
 pub record HasParts (ticks : ℕ) (stood : Stood) : Type 0 where
   pub sum : stood.ready + stood.running + stood.throttled + stood.blocked ≡ ticks
   pub pending : stood.pending ≡ 0
   pub woken : stood.woken ≡ 0
   pub done : stood.done ≡ 0
 
--- which are the parts of the round, as its job has them
+-- the parts of the round's job sum to its response
 abbrev pub IsSummed : System → List Row → ℕ → ℕ → ℕ → ℕ → Type 0
 IsSummed system past moment thread number response = HasParts response (job system past moment thread number).stood
 
--- that a round ended, by a row that comes after these
+-- the law for a row that comes after these, if it ends a round
 abbrev pub IsToldBy : System → List Row → ℕ → What → Type 0
 IsToldBy system past moment (row.Round thread number response) = IsTold system past moment thread response
 IsToldBy system past moment _ = Unit {0}
@@ -36,7 +36,7 @@ abbrev pub IsSummedBy : System → List Row → ℕ → What → Type 0
 IsSummedBy system past moment (row.Round thread number response) = IsSummed system past moment thread number response
 IsSummedBy system past moment _ = Unit {0}
 
--- of each row, by those before it
+-- the law for each row, by the rows before it
 abbrev pub AreTold : System → List Row → List Row → Type 0
 AreTold system past [] = Unit {0}
 AreTold system past (r ∷ rows) = IsToldBy system past r.moment r.what × AreTold system (r ∷ past) rows
@@ -45,7 +45,7 @@ abbrev pub AreSummed : System → List Row → List Row → Type 0
 AreSummed system past [] = Unit {0}
 AreSummed system past (r ∷ rows) = IsSummedBy system past r.moment r.what × AreSummed system (r ∷ past) rows
 
--- so it is in the schedule of the clock
+-- both laws hold for the schedule of the clock
 abbrev pub ResponsesAreTold : Type 0
 ResponsesAreTold = (system : System) → IsWellFormed system → (horizon : ℕ) → AreTold system [] (schedule system horizon)
 

@@ -1,4 +1,4 @@
--- The ticks that a thread stood running are those that its report says it ran.
+-- The ticks in which a thread stood running are those that its report says it ran.
 use Rattle.std.specs.Prelude.{◌≡◌, ℕ, ◌<◌, List, [], length, get_or, sum}
 use Rattle.mcs_ticks.specs.declared.row.Row.{Row}
 use Rattle.mcs_system.specs.System.{System}
@@ -10,11 +10,11 @@ use Rattle.mcs_report.specs.Tally.{no_report}
 use Rattle.mcs_verdict.specs.Findings.{past_of}
 use Rattle.mcs_verdict.specs.Stood.{stood_in}
 
--- in how many ticks of a run the thread stood running, by its rows
+-- the ticks of a run in which the thread stood running, by its rows
 abbrev pub ticks_running : ℕ → ℕ → List Row → ℕ
 ticks_running horizon thread rows = (stood_in thread (past_of [] rows) 0 horizon).running
 
--- its runs last so many ticks, and so many its report says that it ran, as far as that counts
+-- the lengths of its runs sum to that, and so does its report, up to the report's maximum
 pub record IsRan (system : System) (horizon thread : ℕ) (rows : List Row) : Type 0 where
   pub runs : ticks_running horizon thread rows ≡ sum (run_lengths horizon thread rows)
   pub reported : thread < length system.threads →

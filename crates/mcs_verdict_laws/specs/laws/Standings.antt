@@ -1,4 +1,4 @@
--- The standings that rows tell are those of the clock.
+-- The states of threads by rows are those of the clock.
 use Rattle.std.specs.Prelude.{ℕ, ◌<◌, ◌≤◌, [], None, length}
 use Rattle.mcs_system.specs.System.{System}
 use Rattle.mcs_system.specs.WellFormed.{IsWellFormed}
@@ -7,7 +7,7 @@ use Rattle.mcs_verdict.specs.Findings.{past_of}
 use Rattle.mcs_verdict.specs.Standing.{standing_at, telling}
 use Rattle.mcs_verdict_laws.specs.Standing.{standing_in_clock, TellsOf}
 
--- in each tick up to the horizon each thread stands as the rows of the schedule tell
+-- in each tick up to the horizon the state of each thread is that of the schedule's rows
 abbrev pub StandingsAreTheClocks : Type 0
 StandingsAreTheClocks =
     (system : System) → IsWellFormed system → (horizon tick thread : ℕ) → tick ≤ horizon → thread < length system.threads →

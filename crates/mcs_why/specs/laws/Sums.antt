@@ -6,7 +6,7 @@ use Rattle.mcs_ticks.specs.declared.row.What.{What}
 use Rattle.mcs_ticks.specs.declared.row.What.TheVariants as row
 use Rattle.mcs_why.specs.Running.{ran_in, idle_in}
 
--- who is said to run is one of so many threads
+-- the thread that runs is one of these
 abbrev pub IsKnown : ℕ → What → Type 0
 IsKnown threads (row.Run x) = x < threads
 IsKnown threads _ = Unit {0}
@@ -15,7 +15,7 @@ abbrev pub AreKnown : ℕ → List Row → Type 0
 AreKnown threads [] = Unit {0}
 AreKnown threads (r ∷ past) = IsKnown threads r.what × AreKnown threads past
 
--- what all threads ran on the core, and what it was idle, is each tick once
+-- the ticks that all threads ran on the core and its idle ticks are each tick once
 abbrev pub AllTicksAreTold : Type 0
 AllTicksAreTold =
     (threads core : ℕ) (past : List Row) (from to : ℕ) → AreKnown threads past →

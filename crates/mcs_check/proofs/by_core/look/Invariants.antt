@@ -7,7 +7,7 @@ use Rattle.mcs_check.specs.stored.Rows.{lines_in}
 use Rattle.mcs_check.proofs.Cores.{rounds_left}
 use Rattle.mcs_check.proofs.by_core.look.Given as goal
 
--- the system, and what is told so far
+-- the system, and the time before which findings were passed on
 abbrev pub ghosts-take_round : goal.ghosts-take_round
 ghosts-take_round g a = record { system = a.system.now; allowed = a.allowed.now; from = a.cores.reached }
 

@@ -11,7 +11,7 @@ use Rattle.clap.proofs.WalkLemmas.{find_row}
 use Rattle.mcs_check_words.specs.CommandLine.{is_by_words}
 use Rattle.mcs_check_words.proofs.words.is_given.Goals as goal
 
--- where the values of an id come from, by the rows
+-- the source of the values of an id, by the rows
 source-rows : (f : Found) (id : Text)
     → option_and_then (λ (a : MatchedArg). a.source) (matched_of f id) ≡ option_and_then (λ (r : Row). r.source) (find (λ r. bytes_eq r.id id) (rows_of f))
 source-rows f id =

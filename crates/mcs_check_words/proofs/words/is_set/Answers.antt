@@ -8,7 +8,7 @@ use Rattle.clap.specs.Words.{ReadsOne, Text, found_of, one_of, rows_of}
 use Rattle.clap.proofs.WalkLemmas.{one_text-rows}
 use Rattle.mcs_check_words.proofs.words.is_set.Goals as goal
 
--- a text reads as true where it is `true`, and no text and any other as false
+-- a text reads as true if it is `true`; no text and any other read as false
 read : (E : Type 0) (t : Option Text) (r : Option Bool) → (t ≡ None → r ≡ None) → ((u : Text) → t ≡ Some u → ReadsOne (ParsesBool {E = E}) u r)
     → unwrap_or r false ≡ bytes_eq (unwrap_or t []) (codes "true")
 read E None r none some = ap (λ o. unwrap_or o false) (none refl)
