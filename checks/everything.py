@@ -64,6 +64,8 @@ CHECKS = (
     Check('program', 'rules', 10),
     Check('program', 'readers', 5),
     Check('program', 'analyses', 20),
+    Check('program', 'worst', 30),
+    Check('program', 'compare', 30),
     Check('program', 'engines', 10),
     Check('program', 'refused_runs', 10, needs='`cc`'),
     Check('proofs', 'early', 8, tries_program=False, needs='`rt`'),

@@ -38,6 +38,7 @@ LEFT_OUT = '..'
 ANALYSES = ' --analyse'
 SEARCHES = (' --least ', ' --greatest ')
 SWEEP = 'tools/sweep '
+WORST, COMPARE = 'tools/worst ', 'tools/compare '
 # scripts of examples that ask the second for data frames, by Debian's Python
 FRAMES = ('examples/python/responses.py ',)
 DEBIAN_PYTHON = '/usr/bin/python3'
@@ -61,7 +62,7 @@ LEFT = re.compile(r'(sweep: \d+ values? (is|are) left at most, .*\n)?')
 SOURCES = ('.toml', '.csv', '<<', '--random')
 # a block that writes files is run elsewhere
 WRITES = ' -o '
-GUIDE_NAMES = ('CHECK.md', 'CI.md', 'FOREVER.md', 'FORMAT.md', 'KERNEL.md', 'LEFT_OUT.md', 'MODELLING.md', 'SWEEPS.md', 'WAYS_IN.md')
+GUIDE_NAMES = ('CHECK.md', 'CI.md', 'FOREVER.md', 'FORMAT.md', 'KERNEL.md', 'LEFT_OUT.md', 'MODELLING.md', 'SWEEPS.md', 'WAYS_IN.md', 'WORST.md')
 GUIDES = [TOP / 'docs' / name for name in GUIDE_NAMES]
 # pages with blocks beside those that a command wrote
 SHOW_OTHERS = tuple(pathlib.Path(name) for name in ('README.md', 'examples/README.md', 'docs/CHECK.md', 'docs/CI.md', 'docs/FORMAT.md', 'docs/WAYS_IN.md'))
@@ -157,14 +158,14 @@ def has_pandas() -> bool:
 
 def missing(block: str, has_checker: bool) -> str | None:
     """What a block of commands needs and is not there, if anything."""
-    if not has_checker and (gives_a_verdict(block) or SWEEP in block or wants_pandas(block)):
+    if not has_checker and (gives_a_verdict(block) or SWEEP in block or WORST in block or wants_pandas(block)):
         return 'mcscheck'
     return 'the package pandas of Python' if wants_pandas(block) and not has_pandas() else None
 
 
 def runs_a_system(block: str) -> bool:
     """Whether a block of commands runs a program with a file, or with a text in the block."""
-    runs = any(word in block for word in (PROGRAM, ANALYSES, SWEEP)) or gives_a_verdict(block) or wants_pandas(block)
+    runs = any(word in block for word in (PROGRAM, ANALYSES, SWEEP, WORST, COMPARE)) or gives_a_verdict(block) or wants_pandas(block)
     return runs and any(source in block for source in SOURCES) and WRITES not in block
 
 

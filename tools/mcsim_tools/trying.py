@@ -1,0 +1,170 @@
+"""Runs of a search: the maximum response of a thread in each, by mcscheck, on several processors."""
+from __future__ import annotations
+
+import contextlib
+import json
+import subprocess
+from collections.abc import Callable, Iterator, Sequence
+from dataclasses import dataclass
+from typing import Any, Optional
+
+from . import identity, verdict, writing
+from .climbing import Point, Value
+from .faults import Fault, first_line, why
+from .journal import Journal
+from .printable import printable
+from .searching import Progress
+from .settings import Tables
+from .verdict import FOUND, NOTHING, REFUSED, Result
+from .workers import Queue, Worker
+
+OPEN = 'open'
+
+
+@dataclass(frozen=True)
+class Seen:
+    """What a run came to: the maximum response, if a job was activated; whether that job had not
+    ended, so its response is this or more; or the fault of a system that is refused."""
+
+    value: Value = None
+    is_open: bool = False
+    fault: str = ''
+
+    def result(self, thread: str) -> Result:
+        """The form in which a journal keeps it."""
+        greatest = {} if self.value is None else {thread: self.value}
+        return Result(REFUSED if self.fault else NOTHING, self.fault, {OPEN: int(self.is_open)}, greatest)
+
+    @classmethod
+    def of(cls, result: Result, thread: str) -> Seen:
+        return cls(result.greatest.get(thread), bool(result.counts.get(OPEN)), result.fault)
+
+
+def program_of(checker: str) -> str:
+    """The program that a launcher runs, so that the launcher's own tests are made once and not in
+    each run. It is the file whose digest the launcher's is; another program is itself."""
+    path = identity.found(checker)
+    top, digest = path.resolve().parent, identity.digest(checker)
+    places = [top / 'crates' / path.name / 'out' / path.name, top / 'bin' / path.name]
+    return next((str(place) for place in places if place.is_file() and identity.of_file(place) == digest), checker)
+
+
+@dataclass(frozen=True)
+class Question:
+    """The maximum response of a thread up to a horizon.
+
+    The system is asked with one deadline, that of the thread, which is `least`: so mcscheck writes
+    little, and a job that has not ended is told once it has this age."""
+
+    checker: str
+    thread: str
+    horizon: int
+    least: int = 1
+
+    def text(self, tables: Tables) -> bytes:
+        rows = [{key: value for key, value in row.items() if key != 'deadline'} for row in tables['thread']]
+        rows = [{**row, 'deadline': max(1, self.least)} if row['name'] == self.thread else row for row in rows]
+        kept = {key: value for key, value in tables.items() if key != 'chain'}
+        return writing.system_text({**kept, 'thread': rows}).encode()
+
+    def run(self, text: bytes, asked: Sequence[str]) -> tuple[int, list[str], str]:
+        """The exit code of mcscheck, which is an answer, its lines and what it says of a refusal."""
+        try:
+            ended = subprocess.run([self.checker, '--horizon', str(self.horizon), *asked], input=text, capture_output=True, check=False)
+        except OSError as error:
+            raise why(self.checker, error) from None
+        said = ended.stderr.decode(errors='replace')
+        if ended.returncode not in (NOTHING, REFUSED, FOUND):
+            raise verdict.failure(self.checker, ended.returncode, said)
+        fault = printable(first_line(said).removeprefix('mcscheck: '), verdict.LONGEST_FAULT)
+        return ended.returncode, ended.stdout.decode(errors='replace').splitlines(), fault
+
+    def seen(self, tables: Tables) -> Seen:
+        allowed = [f'--allow-lost={row["name"]}' for row in tables.get('note', [])]
+        status, lines, fault = self.run(self.text(tables), ['--show', 'both', '--format', 'json', *allowed])
+        if status == REFUSED:
+            return Seen(fault=fault or 'it is refused')
+        row = self.row_of(lines, 'thread')
+        if row is None:
+            raise Fault(f'{self.checker} has no line of {self.thread}')
+        ended: Value = row.get('greatest')
+        overdue = self.row_of(lines, 'overdue')
+        age = None if overdue is None else self.horizon - int(overdue['activated'])
+        if age is not None and (ended is None or age > ended):
+            return Seen(age, is_open=True)
+        return Seen(ended)
+
+    def row_of(self, lines: Sequence[str], kind: str) -> Optional[dict[str, Any]]:
+        """The line of a kind that is of the thread."""
+        wanted = f'"kind":"{kind}","thread":"{self.thread}"'
+        found = next((line for line in reversed(lines) if wanted in line), None)
+        return json.loads(found) if found else None
+
+    def job(self, text: bytes, response: int) -> Optional[tuple[int, int, int]]:
+        """The first job of the thread with this response: its number, its activation, its end."""
+        _, lines, _ = self.run(text, ['--show', 'jobs', '--format', 'csv'])
+        for cells in (line.split(',') for line in lines[1:]):
+            if cells[3] == self.thread and cells[7] == str(response):
+                return int(cells[4]), int(cells[5]), int(cells[0])
+        return None
+
+
+class Seeking(Progress):
+    """How far a search is, with the worst value so far."""
+
+    def told(self, done: int, best: Value) -> None:
+        if self.is_shown:
+            worst = '' if best is None else f', worst {best}'
+            self.write(f'\r{done} of {self.count}{worst} ')
+            self.is_open = True
+
+
+@contextlib.contextmanager
+def team(work: Callable[[Point], Seen], jobs: int) -> Iterator[Callable[[Sequence[Point]], Iterator[Seen]]]:
+    """Processes that stay from batch to batch; with one job there is none."""
+    if jobs == 1:
+        yield lambda points: map(work, points)
+        return
+    workers: list[Worker[Point, Seen]] = []
+    try:
+        for _ in range(jobs):
+            workers.append(Worker(work))
+        yield lambda points: Queue(workers, iter(points)).results()
+    finally:
+        for worker in workers:
+            worker.end()
+
+
+class Trials:
+    """The runs of a search, in their order. Those that a journal has are not run again."""
+
+    def __init__(self, thread: str, run: Callable[[Sequence[Point]], Iterator[Seen]], journal: Optional[Journal], progress: Seeking) -> None:
+        self.thread, self.run, self.journal, self.progress = thread, run, journal, progress
+        self.kept = [Seen.of(result, thread) for result in journal.results] if journal else []
+        self.done = self.refused = 0
+        self.best, self.point = Seen(), None  # type: Seen, Optional[Point]
+        self.first_refused: Optional[tuple[Point, str]] = None
+
+    def values(self, batch: list[Point]) -> list[Value]:
+        """The value of each point of a batch."""
+        kept = self.kept[self.done:self.done + len(batch)]
+        found = []
+        for place, point in enumerate(batch[:len(kept)]):
+            found.append(self.take(point, kept[place]))
+        for point, seen in zip(batch[len(kept):], self.run(batch[len(kept):])):
+            if self.journal:
+                self.journal.add(seen.result(self.thread))
+            found.append(self.take(point, seen))
+        return found
+
+    def take(self, point: Point, seen: Seen) -> Value:
+        self.done += 1
+        if seen.fault:
+            self.refused += 1
+            self.first_refused = self.first_refused or (point, seen.fault)
+        elif seen.value is not None and (self.best.value is None or seen.value > self.best.value):
+            self.best, self.point = seen, point
+        self.progress.told(self.done, self.best.value)
+        return seen.value
+
+

@@ -1,0 +1,308 @@
+"""worst SYSTEM --of THREAD --vary PLACE=RANGE .. --horizon N [--runs N] [-o FILE]
+worst SYSTEM --of THREAD --ranges FILE --horizon N [--all]
+worst SYSTEM --of THREAD --phases [--times PERCENT] --horizon N
+
+Searches for the worst response time of a thread over what you leave open in a system: offsets and
+phases, execution times, bursts and jitter of interrupts. The search begins with the critical
+instant and the ends of all ranges, then tries random points, and then changes one value or a few of
+the best points. It reports the worst response found, the values that give it, and the command that
+shows why; -o writes the system with these values. The response is that of a run: the worst case is
+this or more. Only --all covers every combination, and then no response up to N is longer.
+
+A PLACE is one of `tools/sweep`, such as thread.NAME.script.K, source.NAME.start or
+thread.NAME.start. A RANGE is A..B, A..B:STEP, or a list with commas. source.NAME.at takes
+`jitter J`, each interrupt comes up to J ticks late, and `burst N in W`, N interrupts come anywhere
+in the first W ticks of each period. FILE is TOML with a line PLACE = "RANGE" each. --phases leaves
+open the start of each source, and of each thread that waits for nothing first, over a period;
+--times each `compute`, from PERCENT of its number to all of it.
+
+Equal options give equal answers, and --jobs changes nothing. If a search with -o was interrupted,
+the same command continues it: FILE.part keeps the runs until all are done.
+
+The exit code is 5 if the worst response is above the deadline of the thread, or if no job of it
+was activated."""
+from __future__ import annotations
+
+import argparse
+import contextlib
+import hashlib
+import pathlib
+from collections.abc import Iterator
+from dataclasses import dataclass, replace
+from typing import Any, Optional
+
+from . import bounding, climbing, frame, options, output, ranges, source, system, workers
+from .bounding import NoBound
+from .climbing import Climb, Point
+from .faults import Fault
+from .journal import Journal
+from .options import Options
+from .ranges import Space
+from .settings import Tables
+from .trying import Question, Seeking, Seen, Trials, program_of, team
+from .verdict import FOUND, Programs
+
+RUNS = 500
+MOST_RUNS = 10**6
+
+
+def climb(space: Space, runs: int, seed: int) -> Climb:
+    """The search through a space."""
+    return Climb(space.sizes, space.corners(), runs, seed, space.longest())
+
+
+class Reached(Exception):
+    """The bound of the analysis was reached: no run can give more."""
+
+
+@dataclass(frozen=True)
+class Search:
+    """What is searched for, and how long."""
+
+    space: Space
+    question: Question
+    base: Seen
+    bound: Optional[int]
+    why_no_bound: str
+    runs: int
+    seed: int
+    is_all: bool
+
+    @property
+    def is_whole(self) -> bool:
+        """Whether all points are tried."""
+        return self.is_all or self.space.count <= self.runs
+
+    @property
+    def count(self) -> int:
+        """How many runs there are at most."""
+        return self.space.count if self.is_whole else self.runs
+
+    def batches(self) -> climbing.Batches:
+        if self.is_whole:
+            return climbing.exhaust(self.space.all())
+        return climb(self.space, self.runs, self.seed).run()
+
+    def seen(self, point: Point) -> Seen:
+        return self.question.seen(self.space.tables_of(point))
+
+    def run(self, jobs: int, journal: Optional[Journal]) -> Trials:
+        """Makes the runs."""
+        progress = Seeking(self.count)
+        with team(self.seen, min(jobs, self.count)) as run, progress:
+            trials = Trials(self.question.thread, run, journal, progress)
+
+            def values(batch: list[Point]) -> list[climbing.Value]:
+                found = trials.values(batch)
+                if not self.is_whole and self.bound is not None and trials.best.value == self.bound and not trials.best.is_open:
+                    raise Reached
+                return found
+
+            try:
+                climbing.drive(self.batches(), values)
+            except Reached:
+                pass
+            except (KeyboardInterrupt, SystemExit):
+                progress.end()
+                frame.say(self.broken_off(trials, journal))
+                raise
+        return trials
+
+    def broken_off(self, trials: Trials, journal: Optional[Journal]) -> str:
+        """What an interrupted search has found."""
+        best = 'nothing is found' if trials.point is None else f'worst {trials.best.value} with {" ".join(self.space.said(trials.point))}'
+        goes_on = '; the same command goes on' if journal else ''
+        return f'interrupted after {trials.done:,} of {self.count:,} runs: {best}{goes_on}'
+
+
+# ---- the answer
+
+
+class Answer:
+    """What a search found, in lines."""
+
+    def __init__(self, search: Search, trials: Trials, deadline: int, path: Optional[pathlib.Path]) -> None:
+        self.search, self.trials, self.deadline, self.path = search, trials, deadline, path
+        self.thread, self.horizon = search.question.thread, search.question.horizon
+        point = trials.point
+        self.tables = None if point is None else search.space.tables_of(point)
+        text = '' if point is None else search.space.text_of(point, self.head())
+        self.text = text
+        is_ended = point is not None and not trials.best.is_open
+        self.job = search.question.job(text.encode(), trials.best.value or 0) if is_ended else None
+        if is_ended and self.job is None:
+            raise Fault(f'{search.question.checker} has no job of {self.thread} with the response {trials.best.value}, which it told before')
+
+    @property
+    def is_late(self) -> bool:
+        """Whether the deadline is missed, or overdue at the horizon; or nothing happened."""
+        value = self.trials.best.value
+        if value is None:
+            return True
+        return 0 < self.deadline and (value > self.deadline or self.trials.best.is_open and value >= self.deadline)
+
+    def value_text(self) -> str:
+        best = self.trials.best
+        return f'{best.value} or more' if best.is_open else str(best.value)
+
+    def head(self) -> list[str]:
+        """The comments of the file."""
+        assert self.trials.point is not None
+        found = f'The worst response of {self.thread} that tools/worst found up to {self.horizon}: {self.value_text()}. {self.tried()}.'
+        return [found, *self.search.space.said(self.trials.point)]
+
+    def tried(self) -> str:
+        search, done = self.search, self.trials.done
+        if search.is_whole and done == search.count:
+            return f'All {done:,} combinations were tried'
+        return f'{done:,} of {search.space.count:,} combinations were tried, seed {search.seed}'
+
+    def lines(self) -> list[str]:
+        best = self.trials.best
+        if self.trials.point is None:
+            return [f'{self.thread}: no job of it was activated in any run up to {self.horizon}', f'{self.tried()}{self.refused()}']
+        late = f', deadline {self.deadline}, slack {self.deadline - (best.value or 0)}' if self.deadline else ''
+        lines = [f'{self.thread}: worst response found {self.value_text()}{late} (as the file stands: {self.as_in_file()})']
+        lines.append(f'with {" ".join(self.search.space.said(self.trials.point))}')
+        lines.append(f'{self.tried()}{self.refused()}: {self.worth()}')
+        return [*lines, self.analysed(), *self.shown()]
+
+    def as_in_file(self) -> str:
+        base = self.search.base
+        return 'none' if base.value is None else f'{base.value}{" or more" * base.is_open}'
+
+    def refused(self) -> str:
+        first = self.trials.first_refused
+        if first is None:
+            return ''
+        return f', {self.trials.refused:,} of them refused, the first {" ".join(self.search.space.said(first[0]))}: {first[1]}'
+
+    def worth(self) -> str:
+        """What the answer is worth."""
+        search = self.search
+        if search.is_whole and self.trials.done == search.count:
+            return f'exhaustive, so no response of these systems up to {self.horizon} is longer'
+        return 'no bound, so the worst case is this or more'
+
+    def analysed(self) -> str:
+        bound, value = self.search.bound, self.trials.best.value or 0
+        if bound is None:
+            return f'response-time analysis: none, since {self.search.why_no_bound}'
+        if value == bound:
+            return f'response-time analysis: at most {bound}, and that is reached'
+        if value > bound:
+            return f'response-time analysis: at most {bound}, which is less: please report this as a defect'
+        return f'response-time analysis: at most {bound}, so {bound - value} more may exist'
+
+    def shown(self) -> list[str]:
+        """How to see why."""
+        if self.job is None:
+            job, why, span = 'the job had not ended at the horizon', '', ''
+        else:
+            number, activated, end = self.job
+            job, why = f'job {number}, activated {activated}, ended {end}', f' --why {self.thread} {number}'
+            span = f' --from {activated} --to {end}'
+        if self.path is None:
+            return [f'{job}; -o FILE writes this system']
+        asked = f'{self.path} --horizon {self.horizon}'
+        return [f'{job}: mcscheck {asked}{why}', f'picture: tools/view {asked}{span} -o {self.path.with_suffix(".html")}']
+
+
+# ---- options
+
+
+def asked() -> argparse.Namespace:
+    words = Options(__doc__)
+    words.reads('system', metavar='SYSTEM', help='the file of the system')
+    words.add_argument('--of', required=True, metavar='THREAD', help='whose response is to be the worst')
+    words.add_argument('--vary', action='append', default=[], metavar='PLACE=RANGE', help='what is left open; may be given several times')
+    words.reads('--ranges', metavar='FILE', help='what is left open, as a table')
+    words.add_argument('--phases', action='store_true', help='leaves open when each source and each thread begins')
+    percent = options.number('no share of 1 to 100 percent', 1, 100)
+    words.add_argument('--times', type=percent, metavar='PERCENT', help='leaves open each execution time, from this share of it on')
+    words.add_argument('--horizon', type=source.moment, default=source.HORIZON, metavar='N', help='the last time of each run (default: %(default)s)')
+    runs = options.number(f'no number of runs, of 1 to {MOST_RUNS}', 1, MOST_RUNS)
+    words.add_argument('--runs', type=runs, default=RUNS, metavar='N', help='how many runs there are at most (default: %(default)s)')
+    words.add_argument('--all', action='store_true', help=f'tries all combinations, at most {MOST_RUNS}')
+    words.add_argument('--seed', type=options.number('no seed', 0, 2**63 - 1), default=1, metavar='S', help='the seed of the search (default: %(default)s)')
+    jobs = options.number(f'no number of jobs, of 1 to {workers.MOST_JOBS}', 1, workers.MOST_JOBS)
+    words.add_argument('--jobs', type=jobs, default=workers.processors(), metavar='N', help='how many runs at once (default: all processors, here %(default)s)')
+    words.add_argument('--program', default=source.default_program(), metavar='PATH', help='mcsim (default: %(default)s)')
+    words.add_argument('--checker', metavar='PATH', help='mcscheck (default: what MCSCHECK names, or that beside mcsim, or on PATH)')
+    words.writes('-o', '--output', metavar='FILE', help='where the worst system goes (default: nowhere)')
+    return words.asked()
+
+
+def opened(words: argparse.Namespace, tables: Tables) -> list[str]:
+    """What is left open, as PLACE=RANGE; what is given by name goes before what is not."""
+    given = [*words.vary, *(ranges.texts_of_file(words.ranges) if words.ranges else [])]
+    named = {ranges.place_and_range(text)[0] for text in given}
+    implied = [*(ranges.phases_of(tables) if words.phases else []), *(ranges.times_of(tables, words.times) if words.times else [])]
+    texts = [*given, *(text for text in implied if ranges.place_and_range(text)[0] not in named)]
+    if not texts:
+        raise Fault('nothing is left open: give --vary PLACE=RANGE, --ranges FILE, --phases or --times PERCENT')
+    return texts
+
+
+def longest(space: Space) -> Point:
+    """The point with the longest times and the earliest starts."""
+    return tuple(own for choice in space.choices for own in (choice.greatest if choice.is_time else choice.least))
+
+
+def bound_of(space: Space, thread: str) -> tuple[Optional[int], str]:
+    """The bound of the analysis for all points, or why there is none."""
+    for choice in space.choices:
+        is_start = isinstance(choice, ranges.Numbers) and choice.period > 0
+        if not choice.is_time and not is_start:
+            return None, f'{choice.text} is left open'
+    try:
+        return bounding.bound(space.tables_of(longest(space)), thread), ''
+    except NoBound as reason:
+        return None, str(reason)
+
+
+def search_of(words: argparse.Namespace, text: bytes, programs: Programs) -> Search:
+    """The search that is asked for."""
+    tables = system.tables_of(words.system, text)
+    ranges.known_thread(words.of, tables)
+    space = Space(tables, [ranges.choice_of(each, tables, words.horizon) for each in opened(words, tables)])
+    if words.all and space.count > MOST_RUNS:
+        raise Fault(f'--all: {space.count:,} combinations, of at most {MOST_RUNS:,}')
+    question = Question(program_of(programs.checker), words.of, words.horizon)
+    base = question.seen(tables)
+    bound, why = bound_of(space, words.of)
+    return Search(space, replace(question, least=base.value or 1), base, bound, why, words.runs, words.seed, words.all)
+
+
+@contextlib.contextmanager
+def journal_of(words: argparse.Namespace, text: bytes, search: Search, programs: Programs) -> Iterator[Optional[Journal]]:
+    """The journal beside a file that is to be written."""
+    target: output.Target = words.output
+    if target is None or not output.is_replaced(target):
+        yield None
+        return
+    opened = [f'{choice.text} {choice!r}' for choice in search.space.choices]
+    head: dict[str, Any] = {
+        'system': hashlib.sha256(text).hexdigest(), 'worst of': words.of, 'open': hashlib.sha256('\n'.join(opened).encode()).hexdigest(),
+        'horizon': words.horizon, 'seed': words.seed, 'all': search.is_whole, 'runs': search.count, 'programs': programs.digests(),
+    }
+    with Journal(target, head) as journal:
+        yield journal
+
+
+def main() -> int:
+    words = asked()
+    text = system.read_bytes(words.system)
+    programs = Programs.found(words.program, words.checker)
+    source.check(words.program, words.system, text)
+    search = search_of(words, text, programs)
+    with journal_of(words, text, search, programs) as journal:
+        trials = search.run(words.jobs, journal)
+        deadline = next(row.get('deadline', 0) for row in search.space.tables['thread'] if row['name'] == words.of)
+        answer = Answer(search, trials, deadline, words.output)
+        if words.output and answer.text:
+            output.write(words.output, answer.text)
+        print('\n'.join(answer.lines()))
+        if journal:
+            journal.remove()
+    return FOUND if answer.is_late else 0
