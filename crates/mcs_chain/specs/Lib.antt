@@ -1,0 +1,4 @@
+pub mod Steps
+pub mod Moves
+pub mod Origins
+pub mod Answers

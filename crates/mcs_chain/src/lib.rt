@@ -1,0 +1,10 @@
+//! The chains of a system, read off the rows of a schedule as they go by: how long it takes from an interrupt to the first round that ends on
+//! the strength of it.
+#![tactic(auto)]
+
+mod finding;
+mod mark;
+mod moves;
+mod step;
+
+pub use finding::Finding;
