@@ -5,6 +5,8 @@
 mod finding;
 mod mark;
 mod moves;
+mod origins;
+mod set;
 mod step;
 
 pub use finding::Finding;

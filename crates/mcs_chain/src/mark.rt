@@ -1,4 +1,4 @@
-use mcs_ticks::Tick;
+use mcs_ticks::{CoreId, Tick};
 
 /// An origin in a set of origins, and at which places it is there.
 #[derive(Clone, Copy, Debug, PartialEq, Eq)]
@@ -13,7 +13,7 @@ pub(crate) struct Mark {
 #[derive(Clone, Copy, Debug, PartialEq, Eq)]
 pub(crate) struct Sent {
     /// The core that made the signal.
-    pub maker: usize,
+    pub maker: CoreId,
     /// The moment at which the signal was made.
     pub made: u64,
     pub mark: Mark,
