@@ -2,3 +2,4 @@ pub mod Steps
 pub mod Moves
 pub mod Origins
 pub mod Answers
+pub mod Watch

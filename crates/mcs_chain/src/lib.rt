@@ -3,10 +3,13 @@
 #![tactic(auto)]
 
 mod finding;
+mod found;
 mod mark;
 mod moves;
 mod origins;
 mod set;
 mod step;
+mod watch;
 
 pub use finding::Finding;
+pub use watch::Watch;

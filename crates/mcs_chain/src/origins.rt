@@ -370,4 +370,18 @@ impl Origins {
             }
         }
     }
+
+    /// The origins that the latest row answers.
+    pub(crate) fn answered(&self) -> &[Tick]
+        ensures { result.now ≡ self.now.answered }
+    {
+        self.answered.as_slice()
+    }
+
+    /// The origins without an answer.
+    pub(crate) fn unanswered(&self) -> &[Tick]
+        ensures { result.now ≡ self.now.unanswered }
+    {
+        self.unanswered.as_slice()
+    }
 }
