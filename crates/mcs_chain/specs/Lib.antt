@@ -3,3 +3,4 @@ pub mod Moves
 pub mod Origins
 pub mod Answers
 pub mod Watch
+pub mod Figures

@@ -2,6 +2,7 @@
 //! the strength of it.
 #![tactic(auto)]
 
+mod figures;
 mod finding;
 mod found;
 mod mark;
@@ -9,7 +10,10 @@ mod moves;
 mod origins;
 mod set;
 mod step;
+mod tally;
 mod watch;
 
+pub use figures::Figures;
 pub use finding::Finding;
+pub use tally::Tally;
 pub use watch::Watch;

@@ -1,7 +1,7 @@
 -- What passes the closure's test is kept.
 use Rattle.std.proofs.Common.{not, rules}
 use Rattle.std.proofs.lemmas.Fn.{filter_same}
-use Rattle.mcs_chain.specs.Origins.{is_one_of, is_sent}
+use Rattle.mcs_chain.specs.Origins.{is_one_of}
 use Rattle.mcs_chain.proofs.origins.drop_from_sent.Goals as goal
 
 pub returns : goal.returns

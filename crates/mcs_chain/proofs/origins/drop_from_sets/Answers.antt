@@ -1,5 +1,5 @@
 -- One set more that what was answered is dropped from.
-use Rattle.std.proofs.Common.{List, arith}
+use Rattle.std.proofs.Common.{arith}
 use Rattle.std.proofs.lemmas.Grind.{common_steps}
 use Rattle.std.proofs.lemmas.List.Edits.{map_over_more}
 use Rattle.mcs_chain.specs.Origins.{without}

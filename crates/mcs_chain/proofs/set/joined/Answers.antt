@@ -1,7 +1,6 @@
 -- Behind the loop one of the sets is at its end.
-use Rattle.std.proofs.Common.{◌≡◌, ◌≤◌, ◌⊎◌, ◌++◌, length, drop, sym, ap, ◌∙◌, inl, inr, append_assoc, arith}
+use Rattle.std.proofs.Common.{◌≤◌, ◌⊎◌, length, inl, inr, append_assoc, arith}
 use Rattle.std.proofs.lemmas.Grind.{common_steps}
-use Rattle.mcs_chain.specs.Origins.{join}
 use Rattle.mcs_chain.proofs.Joins.{join-end}
 use Rattle.mcs_chain.proofs.set.joined.Goals as goal
 use Rattle.mcs_chain.proofs.set.joined.Goals.{then-loop-i-test+else-k-others, else-loop-i-test}

@@ -1,5 +1,4 @@
 use Rattle.std.proofs.Common.{◌≡◌, drop}
-use Rattle.mcs_chain.specs.declared.step.Step.{Step}
 use Rattle.mcs_chain.specs.Steps.{next_step}
 use Rattle.mcs_chain.proofs.step.next_step.Given as goal
 
