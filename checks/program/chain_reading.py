@@ -1,6 +1,6 @@
 """What the rows of a schedule say of the chains of a system, read a second time: from the file and the rows that mcsim writes.
 
-It follows the rules of chains in docs/MODEL.md with sets of moments, one for each bit of a word. A set keeps an origin that has an answer; only its first
+It follows the rules in crates/mcs_chain/README.md with sets of moments, one for each bit of a word. A set keeps an origin that has an answer; only its first
 answer counts."""
 from __future__ import annotations
 

@@ -54,6 +54,9 @@ fn is_answer(badges: u32, word: u32) -> bool
 fn drop_from_sets(sets: &mut [Set], answered: &[Tick])
     ensures { sets.new ≡ map (without answered.now) sets.old }
 {
+    if answered.is_empty() {
+        return;
+    }
     for set in sets.iter_mut() {
         set.drop_answered(answered);
     }
@@ -63,6 +66,9 @@ fn drop_from_sets(sets: &mut [Set], answered: &[Tick])
 fn drop_from_sent(under_way: &mut Vec<Sent>, answered: &[Tick])
     ensures { under_way.new.items ≡ filter (λ sent. not (is_one_of answered.now sent.mark.origin)) under_way.old.items }
 {
+    if answered.is_empty() {
+        return;
+    }
     under_way.retain(|sent| !is_one_of(answered, sent.mark.origin));
 }
 
@@ -70,6 +76,9 @@ fn drop_from_sent(under_way: &mut Vec<Sent>, answered: &[Tick])
 fn drop_from_origins(origins: &mut Vec<Tick>, answered: &[Tick])
     ensures { origins.new.items ≡ filter (λ origin. not (is_one_of answered.now origin)) origins.old.items }
 {
+    if answered.is_empty() {
+        return;
+    }
     origins.retain(|origin| !is_one_of(answered, *origin));
 }
 
@@ -158,6 +167,9 @@ fn join_to(alloc: Global, sets: &mut [Set], number: usize, set: &Set) -> Result<
     ensures ok { OnOk result (sets.new ≡ slice_set sets.old number (join set.now (get_or sets.old number []))) }
     ensures err { OnErr result (sets.new ≡ sets.old) }
 {
+    if set.is_empty() {
+        return Ok(());
+    }
     if number < sets.len() {
         let joined = set.join(alloc, &sets[number])?;
         sets[number] = joined;
