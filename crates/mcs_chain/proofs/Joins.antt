@@ -8,7 +8,7 @@ pub join-none : (set : List Mark) → join set [] ≡ set
 join-none [] = refl
 join-none (a ∷ set) = ap (λ rest. a ∷ rest) (join-none set)
 
--- where one of the sets is at its end the rest of the other one is left
+-- if one of the sets is at its end, the rest of the other one is left
 pub join-end : (set others : List Mark) (i k : ℕ) → (length set ≤ i) ⊎ (length others ≤ k)
     → join (drop i set) (drop k others) ≡ drop i set ++ drop k others
 join-end set others i k (inl h) = ap (λ s. join s (drop k others)) (drop_all i set h) ∙ sym (ap (λ s. s ++ drop k others) (drop_all i set h))

@@ -58,7 +58,7 @@ abbrev latest_first : List Row → List Row → List Row
 latest_first past [] = past
 latest_first past (r ∷ rows) = latest_first (r ∷ past) rows
 
--- an interrupt at 3 wakes a driver, whose signal reaches the other core at 8, where a thread ends its round at 12
+-- an interrupt at 3 wakes a driver, whose signal reaches the other core at 8; a thread there ends its round at 12
 abbrev two_cores : System
 two_cores =
     system (context 0 ∷ context 1 ∷ []) (note 0 ∷ note 1 ∷ [])
@@ -130,7 +130,7 @@ other_badge = refl
 never_answered : (origins handlers (chain 0 0 2 0) handled).unanswered ≡ 2 ∷ 12 ∷ []
 never_answered = refl
 
--- Interrupts that are held together are answered together. The latest answer stands first.
+-- One round answers all interrupts that are held together. The latest answer stands first.
 abbrev one_loop : System
 one_loop = system (context 0 ∷ []) (note 0 ∷ []) (thread 0 (Wait 0 ∷ Compute 20 ∷ []) ∷ []) (source 0 1 ∷ [])
 
@@ -144,7 +144,7 @@ overload =
 answered_together : latencies one_loop (chain 0 0 0 0) overload ≡ 21 ∷ 31 ∷ 20 ∷ []
 answered_together = refl
 
--- of two answers that are too late the one for the earlier origin is found
+-- of two slow answers the one for the earlier origin is found
 earliest_is_slow :
     slow one_loop (chain 0 0 0 15)
     (latest_first []
@@ -168,7 +168,7 @@ answered_twice =
 first_answer : latencies signals_twice (chain 0 1 0 0) answered_twice ≡ 2 ∷ []
 first_answer = refl
 
--- With a badge that no handler takes, alone or beside another one, an origin gets no answer.
+-- An origin gets no answer if no handler takes its badge, alone or beside another one.
 abbrev nobodys : List Row
 nobodys =
     latest_first []

@@ -19,7 +19,7 @@ abbrev pub gone_after : System → List Row → List Gone
 gone_after system [] = all_fresh system
 gone_after system (r ∷ past) = all_go system r.what (gone_after system past)
 
--- where the origins are that have no answer yet
+-- the sets of origins without an answer
 abbrev pub origins : System → ChainPart → List Row → Origins
 origins system chain [] = no_origins system
 origins system chain (r ∷ past) = moved chain r.moment (moves system (gone_after system past) r) (origins system chain past)

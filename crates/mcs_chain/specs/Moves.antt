@@ -1,4 +1,4 @@
--- What a row moves. A place is a bit of a word, 1 to 2^31, or a thread's free set, 2^32.
+-- The origins that a row moves. A place is a bit of a word, 1 to 2^31, or a thread's free set, 2^32.
 use Rattle.std.specs.Prelude.{ℕ, ◌-◌, ◌^◌, ◌==◌, if◌then◌else◌, bit_and, bit_or, List, unwrap_or}
 use Rattle.mcs_ticks.specs.declared.row.Row.{Row}
 use Rattle.mcs_ticks.specs.declared.row.What.{What}
@@ -22,11 +22,11 @@ free = 2 ^ 32
 abbrev pub all_bits : ℕ
 all_bits = 2 ^ 32 - 1
 
--- the places of which badges speak: their bits, or all bits where there are none; and the free set
+-- the places for badges: their bits, or all bits if there are none; and the free set
 abbrev pub reach : ℕ → ℕ
 reach badges = bit_or (if badges == 0 then all_bits else badges) free
 
--- the bits of the first word for each of which, alone, there is something to do
+-- the bits of the first word that, each alone, leave something to do
 abbrev pub called_bits : ThreadPart → ℕ
 called_bits part = unwrap_or (bits_of part) all_bits
 
@@ -45,7 +45,7 @@ gives system r thread note badge step =
     else if (note_part system note).core == r.core then Give thread (reach step.handler) badge
     else Send thread (reach step.handler) badge r.core r.moment
 
--- what a row moves, where the threads have gone so far
+-- what a row moves, if the threads are as far as given
 abbrev pub moves_by : System → List Gone → Row → What → Move
 moves_by system all r (row.Interrupt source note badge) = Start source badge
 moves_by system all r (row.Signal thread note badge) =

@@ -1,4 +1,4 @@
--- The sets of origins of a chain: where each origin is that has no answer yet. A set has its latest origin first.
+-- The sets of a chain's origins without an answer. A set has its latest origin first.
 use Rattle.std.specs.Prelude.{ℕ, Bool, ◌==◌, ◌&&◌, ◌||◌, not, nat_lt, if◌then◌else◌, bit_and, bit_or, List, [], ◌∷◌, ◌++◌, map, filter, get_or, slice_set}
 use Rattle.std.specs.List.{list_any}
 use Rattle.mcs_system.specs.declared.part.ChainPart.{ChainPart}

@@ -31,7 +31,7 @@ behind item step = record { item = step.item + 1; handler = handler_behind item 
 abbrev pub passes : ℕ → ℕ → Bool
 passes word handler = not (handler == 0) && (bit_and word handler == 0)
 
--- Of these items, the first of which is this step, the first that the round goes through and that posts or takes.
+-- the first of these items that the round goes through and that posts or takes; the first one of all is this step
 abbrev pub next_step : ℕ → Step → List Item → Option Step
 next_step word step [] = None
 next_step word step (item ∷ items) =
@@ -45,7 +45,7 @@ first_step = record { item = 0; handler = 0 }
 abbrev pub fresh : Gone
 fresh = record { next = first_step; word = 0 }
 
--- The step of which the thread's next row tells that posts or takes. If nothing is left to do for the word, that is the first wait again.
+-- The step of the thread's next row that posts or takes. If no step is left for the word, the thread is at its first wait again.
 abbrev pub step_of : ThreadPart → Gone → Step
 step_of part gone = unwrap_or (next_step gone.word gone.next (drop gone.next.item part.script)) first_step
 
@@ -53,7 +53,7 @@ step_of part gone = unwrap_or (next_step gone.word gone.next (drop gone.next.ite
 abbrev pub is_first_wait : ThreadPart → Step → Bool
 is_first_wait part step = (step.item == 0) && is_wait (slice_get part.script 0)
 
--- the step is behind the thread
+-- the thread has gone through the step
 abbrev pub goes_behind : Step → Gone → Gone
 goes_behind step gone = record gone { next = record { item = step.item + 1; handler = step.handler } }
 

@@ -1,4 +1,4 @@
--- What is kept of a chain: how far each thread is in its script, and where the origins are that have no answer yet.
+-- A watch of a chain: how far each thread is in its script, and the sets of origins without an answer.
 use Rattle.std.specs.Prelude.{List}
 use Rattle.mcs_ticks.specs.declared.row.Row.{Row}
 use Rattle.mcs_system.specs.declared.part.ChainPart.{ChainPart}

@@ -1,6 +1,6 @@
 use mcs_table::Margin;
 
-/// The figures of a chain. Amounts are in ticks. Counts and the total are exact up to 2^64 - 1, where they stay.
+/// The figures of a chain. Amounts are in ticks. Counts and the total stay at 2^64 - 1.
 #[derive(Clone, Copy, Debug, PartialEq, Eq)]
 pub struct Figures {
     /// Interrupts of the source.

@@ -1,6 +1,6 @@
 use mcs_ticks::Tick;
 
-/// What is found of a chain. Amounts are in ticks.
+/// A finding of a chain. Amounts are in ticks.
 #[derive(Clone, Copy, Debug, PartialEq, Eq)]
 pub enum Finding {
     /// A round answered this origin later than the deadline, and no earlier one.

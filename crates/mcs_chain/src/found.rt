@@ -1,4 +1,4 @@
-//! What is found of a chain.
+//! The findings of a chain.
 ghost use Rattle.std.specs.Prelude.{◌≡◌};
 ghost use Rattle.mcs_verdict.specs.Misses.{is_above};
 ghost use Rattle.mcs_chain.specs.Answers.{earliest, slow_of, unanswered_of};
@@ -26,7 +26,7 @@ fn earliest(origins: &[Tick]) -> Option<Tick>
     Some(least)
 }
 
-/// What is found of a chain with this deadline at a row that answers these origins.
+/// The finding at a row that answers these origins, if the chain has this deadline.
 pub(crate) fn slow_of(deadline: u64, moment: Tick, answered: &[Tick]) -> Option<Finding>
     ensures { result ≡ slow_of deadline moment answered.now }
 {
@@ -43,7 +43,7 @@ pub(crate) fn slow_of(deadline: u64, moment: Tick, answered: &[Tick]) -> Option<
     }
 }
 
-/// What is found of a chain with this deadline at the horizon, if these origins have no answer.
+/// The finding at the horizon if these origins have no answer and the chain has this deadline.
 pub(crate) fn unanswered_of(deadline: u64, horizon: Tick, left: &[Tick]) -> Option<Finding>
     ensures { result ≡ unanswered_of deadline horizon left.now }
 {

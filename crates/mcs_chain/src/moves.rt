@@ -1,4 +1,4 @@
-//! What a row moves. A place is a bit of a word, 1 to 2^31, or a thread's free set, 2^32.
+//! The origins that a row moves. A place is a bit of a word, 1 to 2^31, or a thread's free set, 2^32.
 ghost use Rattle.std.specs.Prelude.{◌≡◌, ◌<◌, length};
 ghost use Rattle.mcs_system.specs.System.{is_server, delay_by_link, delay_between, thread_part};
 ghost use Rattle.mcs_chain.specs.Steps.{step_of, gone_of};
@@ -18,24 +18,24 @@ const ALL_BITS: u64 = (1 << 32) - 1;
 /// At which places a thread holds the origins that a wait gives it.
 #[derive(Clone, Copy, Debug, PartialEq, Eq)]
 pub(crate) enum Taking {
-    /// It is the script's first wait: at the bits where they were, if there is something to do for the bit.
+    /// The script's first wait keeps them at their bits, as far as these are among the given ones.
     First(u64),
-    /// It is a later wait: at these places.
+    /// A later wait puts them at these places.
     Later(u64),
 }
 
-/// What a row moves.
+/// The effect of a row on the sets of origins.
 #[derive(Clone, Copy, Debug, PartialEq, Eq)]
 pub(crate) enum Move {
     /// No origins.
     Nothing,
     /// The source's interrupt is an origin, and is posted with this badge.
     Start(SourceId, u32),
-    /// What the thread has at these places is posted with this badge.
+    /// The thread posts with this badge what it has at these places.
     Give(ThreadId, u64, u32),
-    /// What the thread has at these places is under way with this badge, from this core and moment on.
+    /// The thread's signal leaves this core at this moment, with this badge, and carries what the thread has at these places.
     Send(ThreadId, u64, u32, CoreId, u64),
-    /// What this core sent at this moment is posted.
+    /// The signal arrives that this core made at this moment. It posts what it carries.
     Land(CoreId, u64),
     /// The notification holds what was posted.
     Hold(NoteId),
@@ -47,7 +47,7 @@ pub(crate) enum Move {
     End(ThreadId, u32),
 }
 
-/// The places of which badges speak: their bits, or all bits if there are none; and the free set.
+/// The places for badges: their bits, or all bits if there are none; and the free set.
 pub(crate) fn reach(badges: u32) -> u64
     ensures { result ≡ reach badges }
 {
@@ -59,7 +59,7 @@ pub(crate) fn reach(badges: u32) -> u64
     bits | FREE
 }
 
-/// The bits of the thread's first word for each of which, alone, there is something to do.
+/// The bits of the thread's first word that, each alone, leave it something to do.
 fn called_bits(parts: &SystemParts, thread: ThreadId) -> u64
     requires { thread < length parts.now.threads }
     ensures { result ≡ called_bits (thread_part parts.now thread) }
@@ -143,7 +143,7 @@ fn gives(
     }
 }
 
-/// What a row moves, if the threads have gone so far.
+/// Returns the effect of a row, if the threads are as far as given.
 pub(crate) fn moves(parts: &SystemParts, all: &[Gone], row: &Row) -> Move
     ensures { result ≡ moves parts.now all.now row.now }
 {

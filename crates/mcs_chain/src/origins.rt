@@ -1,4 +1,4 @@
-//! Where the origins of a chain are that have no answer yet.
+//! The sets of origins without an answer.
 ghost use Rattle.std.specs.Prelude.{◌≡◌, [], ◌++◌, map, filter, not, get_or, slice_set, OnOk, OnErr, IfOk};
 ghost use Rattle.mcs_chain.specs.Origins.{join, given, taken, sent, is_sent, is_one_of, without, is_answer, no_origins, rest, started, sets_out, lands, holds, takes, gets, ends, answers, moved};
 
@@ -104,7 +104,7 @@ fn send(
     Ok(all)
 }
 
-/// What this core sent at this moment.
+/// Returns what this core sent at this moment.
 fn landed(
     alloc: Global,
     under_way: &[Sent],
@@ -134,7 +134,7 @@ fn drop_sent(under_way: &mut Vec<Sent>, maker: CoreId, made: u64)
     under_way.retain(|sent| !is_sent(sent, maker, made));
 }
 
-/// What a signal of the thread carries.
+/// Returns what a signal of the thread carries.
 fn given_by(
     alloc: Global,
     carried: &[Set],
@@ -151,7 +151,7 @@ fn given_by(
     }
 }
 
-/// What a thread takes from a notification.
+/// Returns what a thread takes from a notification.
 fn taken_from(alloc: Global, held: &[Set], note: NoteId, taking: Taking) -> Result<Set, NoMemory>
     ensures { IfOk result (λ set. set ≡ taken taking (get_or held.now note [])) }
 {

@@ -55,7 +55,7 @@ impl Set {
         Ok(Set { marks })
     }
 
-    /// Of these origins, the latest first.
+    /// The set of these origins, the latest first.
     pub(crate) fn of(marks: Vec<Mark>) -> Self
         ensures { result ≡ marks.items }
     {
@@ -84,7 +84,7 @@ impl Set {
         Ok(Set { marks })
     }
 
-    /// What a signal of this badge carries of what is at these places.
+    /// Returns what a signal of this badge carries of the origins at these places.
     pub(crate) fn given(&self, alloc: Global, places: u64, badge: u32) -> Result<Self, NoMemory>
         ensures { IfOk result (λ set. set ≡ given places badge self.now) }
     {
@@ -100,7 +100,7 @@ impl Set {
         Ok(Set { marks })
     }
 
-    /// What a thread takes.
+    /// Returns what a thread takes.
     pub(crate) fn taken(&self, alloc: Global, taking: Taking) -> Result<Self, NoMemory>
         ensures { IfOk result (λ set. set ≡ taken taking self.now) }
     {

@@ -21,7 +21,7 @@ pub(crate) struct Step {
 /// How far a thread is in its script, by the rows so far.
 #[derive(Clone, Copy, Debug, PartialEq, Eq)]
 pub(crate) struct Gone {
-    /// The first item that is not known to be behind the thread.
+    /// The first item that the thread may still have to go through.
     pub next: Step,
     /// The word of the row that began the round; 0 before it, and if the script does not begin with a wait.
     pub word: u32,
@@ -65,7 +65,7 @@ impl Gone {
     };
 }
 
-/// From this step on, the first item that the round goes through and that posts or takes.
+/// Returns the first item, from this step on, that the round goes through and that posts or takes.
 fn next_step(items: &[Item], word: u32, from: Step) -> Option<Step>
     ensures step { result ≡ next_step word from (drop from.item items.now) }
     ensures within { IfSome result (λ step. step.item < length items.now) }
@@ -82,7 +82,7 @@ fn next_step(items: &[Item], word: u32, from: Step) -> Option<Step>
     None
 }
 
-/// The step of which the thread's next row tells that posts or takes.
+/// Returns the step of the thread's next row that posts or takes.
 pub(crate) fn step_of(part: &ThreadPart, gone: Gone) -> Step
     ensures step { result ≡ step_of part.now gone }
     ensures few { result.item < 1024 }
@@ -113,7 +113,7 @@ pub(crate) fn gone_of(all: &[Gone], thread: ThreadId) -> Gone
     }
 }
 
-/// The step of which the next row of the thread with this number tells; the first one if there is no such thread.
+/// Returns the step of the next row of the thread with this number; the first step if there is no such thread.
 pub(crate) fn step_at(parts: &SystemParts, all: &[Gone], thread: ThreadId) -> Step
     ensures step { result ≡ step_of (thread_part parts.now thread) (gone_of all.now thread) }
     ensures few { result.item < 1024 }
@@ -136,7 +136,7 @@ pub(crate) fn is_at_first_wait(parts: &SystemParts, thread: ThreadId, step: Step
     thread.0 < parts.threads.len() && is_first_wait(parts.thread(thread), step)
 }
 
-/// Where a thread is behind this step, in a round that this word began.
+/// Returns how far a thread is after this step, in a round that this word began.
 fn behind(step: Step, word: u32) -> Gone
     requires { step.item < 1024 }
     ensures { result ≡ record { next = record { item = step.item + 1; handler = step.handler }; word = word } }

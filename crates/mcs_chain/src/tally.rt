@@ -16,7 +16,7 @@ use mcs_ticks::{NoMemory, Row, SourceId, Tick, What};
 use std::alloc::Global;
 use std::marker::Model;
 
-/// What is kept of a chain's interrupts and answers for its figures. All room is taken when it is made.
+/// Counts of a chain's interrupts and answers. All room is taken when it is made.
 #[derive(Drop)]
 pub struct Tally {
     interrupts: u64,

@@ -15,8 +15,8 @@ use mcs_ticks::{NoMemory, Row, Tick};
 use std::alloc::Global;
 use std::marker::Model;
 
-/// What is kept of a chain as the rows of a schedule go by: how far each thread is in its script, and where the origins are that have no
-/// answer yet. Its room grows only with those origins. The system and the chain are those that it was made for.
+/// A chain, as the rows of a schedule go by: how far each thread is in its script, and the sets of origins without an answer. Its room
+/// grows only with those origins. The system and the chain are those that it was made for.
 #[derive(Drop)]
 pub struct Watch {
     gone: Vec<Gone>,
@@ -32,7 +32,7 @@ impl Model for Watch {
 }
 
 impl Watch {
-    /// What is kept before the first row. `NoMemory` if an allocation failed. The chain is one of the system.
+    /// The watch before the first row. `NoMemory` if an allocation failed. The chain is one of the system.
     pub fn new(alloc: Global, system: &System) -> Result<Self, NoMemory>
         ensures { (chain : TheChain) → IfOk result (λ watch. watch ≡ watch_of system.now chain []) }
     {
@@ -43,7 +43,7 @@ impl Watch {
         })
     }
 
-    /// Takes one row more. `NoMemory` if an allocation failed: then the watch is as it was.
+    /// Takes one row more. `NoMemory` if an allocation failed: then nothing has changed.
     pub fn see(
         &mut self,
         alloc: Global,
@@ -78,7 +78,7 @@ impl Watch {
         self.origins.unanswered()
     }
 
-    /// The earliest of the origins that the latest row, which is of this moment, answers, if it is answered later than the deadline.
+    /// The earliest origin that the latest row answers, if the answer comes later than the deadline. `moment` is the row's.
     pub fn slow(&self, chain: &ChainPart, moment: Tick) -> Option<Finding>
         ensures { (system : TheSystem) (past : List TheRow) (row : TheRow) → row.moment ≡ moment →
             self.now ≡ watch_of system chain.now (row ∷ past) → result ≡ slow system chain.now past row }

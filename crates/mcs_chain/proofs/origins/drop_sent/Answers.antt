@@ -1,4 +1,4 @@
--- What passes the closure's test is kept.
+-- The call keeps what passes the closure's test.
 use Rattle.std.proofs.Common.{not, rules}
 use Rattle.std.proofs.lemmas.Fn.{filter_same}
 use Rattle.mcs_chain.specs.Origins.{is_sent}

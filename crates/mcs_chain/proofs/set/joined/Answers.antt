@@ -1,4 +1,4 @@
--- Behind the loop one of the sets is at its end.
+-- After the loop one of the sets is at its end.
 use Rattle.std.proofs.Common.{◌≤◌, ◌⊎◌, length, inl, inr, append_assoc, arith}
 use Rattle.std.proofs.lemmas.Grind.{common_steps}
 use Rattle.mcs_chain.proofs.Joins.{join-end}

@@ -1,4 +1,4 @@
--- The answer for the i-th origin stands before those for the later ones.
+-- The answer for the i-th origin precedes those for the later ones.
 use Rattle.std.proofs.Common.{◌≡◌, ℕ, suc, ◌-◌, ◌<◌, ◌∷◌, ◌++◌, length, map, drop, ap, ◌∙◌, arith}
 use Rattle.mcs_chain.specs.Figures.{tally_with}
 use Rattle.mcs_chain.proofs.Counts.{one-first}
