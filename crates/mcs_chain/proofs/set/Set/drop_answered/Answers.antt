@@ -1,0 +1,10 @@
+-- The set keeps what passes the closure's test.
+use Rattle.std.proofs.Common.{not, ap, ◌∙◌, rules}
+use Rattle.std.proofs.lemmas.Fn.{filter_same}
+use Rattle.mcs_chain.specs.Origins.{is_one_of, without}
+use Rattle.mcs_chain.proofs.set.Set.drop_answered.Goals as goal
+
+pub returns : goal.returns
+returns c =
+    filter_same _ (λ mark. not (is_one_of c.args.answered.now mark.origin)) _ (λ x b f' k. search rules) _ _ c.retain.ensures.filtered
+    ∙ ap (without c.args.answered.now) c.self.view_is

@@ -1,0 +1,7 @@
+use Rattle.std.proofs.Common.{Some, sym, ap, ◌∙◌}
+use Rattle.mcs_chain.proofs.Counts.{least-more}
+use Rattle.mcs_chain.proofs.tally.or_less.Goals as goal
+
+pub returns-in-Some : goal.returns-in-Some
+returns-in-Some c latencies e =
+    ap Some c.min.ensures ∙ least-more c.in-Some.before c.args.latency latencies (sym e ∙ c.in-Some.is)

@@ -1,0 +1,6 @@
+pub mod Steps
+pub mod Moves
+pub mod Origins
+pub mod Answers
+pub mod Watch
+pub mod Figures

@@ -1,0 +1,160 @@
+-- The sets of a chain's origins without an answer. A set has its latest origin first.
+use Rattle.std.specs.Prelude.{ℕ, Bool, ◌==◌, ◌&&◌, ◌||◌, not, nat_lt, if◌then◌else◌, bit_and, bit_or, List, [], ◌∷◌, ◌++◌, map, filter, get_or, slice_set}
+use Rattle.std.specs.List.{list_any}
+use Rattle.mcs_system.specs.declared.part.ChainPart.{ChainPart}
+use Rattle.mcs_system.specs.System.{System}
+use Rattle.mcs_chain.specs.declared.mark.Mark.{Mark}
+use Rattle.mcs_chain.specs.declared.mark.Sent.{Sent}
+use Rattle.mcs_chain.specs.declared.moves.Move.{Move}
+use Rattle.mcs_chain.specs.declared.moves.Move.TheVariants.{Nothing, Start, Give, Send, Land, Hold, Wake, Got, End}
+use Rattle.mcs_chain.specs.declared.moves.Taking.{Taking}
+use Rattle.mcs_chain.specs.declared.moves.Taking.TheVariants.{First, Later}
+use Rattle.mcs_chain.specs.Moves.{reach}
+
+pub record Origins : Type 0 where
+  -- of each notification
+  pub held : List (List Mark)
+  -- of each thread
+  pub carried : List (List Mark)
+  -- of the signals to other cores
+  pub under_way : List Sent
+  -- of the post that the latest row makes
+  pub posted : List Mark
+  -- the origins without an answer, the earliest first
+  pub unanswered : List ℕ
+  -- those that the latest row answers
+  pub answered : List ℕ
+
+-- an origin that is in both sets is at the places of both
+abbrev pub both : Mark → Mark → Mark
+both a b = record a { places = bit_or a.places b.places }
+
+abbrev join_first : Mark → (List Mark → List Mark) → List Mark → List Mark
+join_first a rest [] = a ∷ rest []
+join_first a rest (b ∷ others) =
+    if nat_lt b.origin a.origin then a ∷ rest (b ∷ others)
+    else if nat_lt a.origin b.origin then b ∷ join_first a rest others
+    else both a b ∷ rest others
+
+-- the origins of two sets in one
+abbrev pub join : List Mark → List Mark → List Mark
+join [] others = others
+join (a ∷ set) others = join_first a (join set) others
+
+-- whether an origin is at one of these places
+abbrev pub is_at : ℕ → Mark → Bool
+is_at places mark = not (bit_and mark.places places == 0)
+
+-- what a set has at these places
+abbrev pub at_places : ℕ → List Mark → List Mark
+at_places places set = filter (is_at places) set
+
+-- an origin at these places instead
+abbrev pub put_at : ℕ → Mark → Mark
+put_at places mark = record mark { places = places }
+
+-- an origin, at those of its places that are among these
+abbrev pub keep_at : ℕ → Mark → Mark
+keep_at places mark = record mark { places = bit_and mark.places places }
+
+-- what a signal carries
+abbrev pub given : ℕ → ℕ → List Mark → List Mark
+given places badge set = map (put_at badge) (at_places places set)
+
+-- what a thread takes
+abbrev pub taken : Taking → List Mark → List Mark
+taken (First bits) set = map (keep_at bits) (at_places bits set)
+taken (Later places) set = map (put_at places) set
+
+-- whether an origin is one of these
+abbrev pub is_one_of : List ℕ → ℕ → Bool
+is_one_of origins origin = list_any (λ other. other == origin) origins
+
+-- a set without the origins that were answered
+abbrev pub without : List ℕ → List Mark → List Mark
+without answered set = filter (λ mark. not (is_one_of answered mark.origin)) set
+
+-- whether a signal is the one that this core made at this moment
+abbrev pub is_sent : ℕ → ℕ → Sent → Bool
+is_sent maker made sent = sent.maker == maker && sent.made == made
+
+-- whether a round that this word began answers, if the chain has these badges
+abbrev pub is_answer : ℕ → ℕ → Bool
+is_answer badges word = badges == 0 || not (bit_and badges word == 0)
+
+-- before the first row
+abbrev pub no_origins : System → Origins
+no_origins system =
+    record {
+      held = map (λ _. []) system.notes;
+      carried = map (λ _. []) system.threads;
+      under_way = [];
+      posted = [];
+      unanswered = [];
+      answered = [];
+    }
+
+-- a row posts nothing and answers nothing
+abbrev pub rest : Origins → Origins
+rest o = record o { posted = []; answered = [] }
+
+-- an interrupt of the chain's source
+abbrev pub started : ℕ → ℕ → Origins → Origins
+started moment badge o =
+    record (rest o) { posted = record { origin = moment; places = badge } ∷ []; unanswered = o.unanswered ++ moment ∷ [] }
+
+abbrev pub sent : ℕ → ℕ → Mark → Sent
+sent maker made mark = record { maker = maker; made = made; mark = mark }
+
+abbrev pub sets_out : ℕ → ℕ → List Mark → Origins → Origins
+sets_out maker made set o = record (rest o) { under_way = o.under_way ++ map (sent maker made) set }
+
+abbrev pub lands : ℕ → ℕ → Origins → Origins
+lands maker made o =
+    record (rest o) {
+      posted = map (λ sent. sent.mark) (filter (is_sent maker made) o.under_way);
+      under_way = filter (λ sent. not (is_sent maker made sent)) o.under_way;
+    }
+
+abbrev pub holds : ℕ → Origins → Origins
+holds note o = record (rest o) { held = slice_set o.held note (join o.posted (get_or o.held note [])) }
+
+-- a thread takes these origins
+abbrev pub takes : ℕ → List Mark → Origins → Origins
+takes thread set o = record (rest o) { carried = slice_set o.carried thread (join set (get_or o.carried thread [])) }
+
+abbrev pub gets : ℕ → ℕ → Taking → Origins → Origins
+gets thread note taking o =
+    record (takes thread (taken taking (get_or o.held note [])) o) { held = slice_set o.held note [] }
+
+-- The round answers these origins, which then are in no set. The thread carries none.
+abbrev pub ends : ℕ → List ℕ → Origins → Origins
+ends thread answered o =
+    record {
+      held = map (without answered) o.held;
+      carried = map (without answered) (slice_set o.carried thread []);
+      under_way = filter (λ sent. not (is_one_of answered sent.mark.origin)) o.under_way;
+      posted = [];
+      unanswered = filter (λ origin. not (is_one_of answered origin)) o.unanswered;
+      answered = answered;
+    }
+
+module _ (chain : ChainPart) where
+  -- the origins that the end of a round answers
+  abbrev pub answers : ℕ → ℕ → Origins → List ℕ
+  answers thread word o =
+      if thread == chain.thread && is_answer chain.badges word
+      then map (λ mark. mark.origin) (at_places (reach chain.badges) (get_or o.carried thread []))
+      else []
+
+  -- what a row leaves that moves this
+  abbrev pub moved : ℕ → Move → Origins → Origins
+  moved moment Nothing o = rest o
+  moved moment (Start source badge) o = if source == chain.source then started moment badge o else rest o
+  moved moment (Give thread places badge) o = record (rest o) { posted = given places badge (get_or o.carried thread []) }
+  moved moment (Send thread places badge maker made) o = sets_out maker made (given places badge (get_or o.carried thread [])) o
+  moved moment (Land maker made) o = lands maker made o
+  moved moment (Hold note) o = holds note o
+  moved moment (Wake thread taking) o = takes thread (taken taking o.posted) o
+  moved moment (Got thread note taking) o = gets thread note taking o
+  moved moment (End thread word) o = ends thread (answers thread word o) o

@@ -1,0 +1,19 @@
+//! The chains of a system, read off the rows of a schedule as they go by: how long it takes from an interrupt to the first round that ends on
+//! the strength of it.
+#![tactic(auto)]
+
+mod figures;
+mod finding;
+mod found;
+mod mark;
+mod moves;
+mod origins;
+mod set;
+mod step;
+mod tally;
+mod watch;
+
+pub use figures::Figures;
+pub use finding::Finding;
+pub use tally::Tally;
+pub use watch::Watch;

@@ -1,0 +1,399 @@
+//! The sets of origins without an answer.
+ghost use Rattle.std.specs.Prelude.{◌≡◌, [], ◌++◌, map, filter, not, get_or, slice_set, OnOk, OnErr, IfOk};
+ghost use Rattle.mcs_chain.specs.Origins.{join, given, taken, sent, is_sent, is_one_of, without, is_answer, no_origins, rest, started, sets_out, lands, holds, takes, gets, ends, answers, moved};
+
+use crate::mark::{Mark, Sent};
+use crate::moves::{Move, Taking, reach};
+use crate::set::{Set, is_one_of};
+use mcs_system::{ChainPart, SystemParts};
+use mcs_ticks::{CoreId, NoMemory, NoteId, ThreadId, Tick};
+use std::alloc::Global;
+use std::marker::Model;
+
+/// The sets of origins of a chain.
+#[derive(Debug, Drop)]
+pub(crate) struct Origins {
+    held: Vec<Set>,
+    carried: Vec<Set>,
+    under_way: Vec<Sent>,
+    posted: Set,
+    unanswered: Vec<Tick>,
+    answered: Vec<Tick>,
+}
+
+impl Model for Origins {
+    ghost use Rattle.mcs_chain.specs.Origins.{Origins};
+
+    ghost Value = { Origins };
+
+    ghost view = { λ a. record { held = a.held.items; carried = a.carried.items; under_way = a.under_way.items; posted = a.posted; unanswered = a.unanswered.items; answered = a.answered.items } };
+}
+
+fn none_held(alloc: Global, parts: &SystemParts) -> Result<Vec<Set>, NoMemory>
+    ensures { IfOk result (λ sets. sets.items ≡ map (λ _. []) parts.now.notes) }
+{
+    let notes = parts.notes.as_slice();
+    Ok(notes.iter().map(|_| Set::new(alloc)).collect(alloc)?)
+}
+
+fn none_carried(alloc: Global, parts: &SystemParts) -> Result<Vec<Set>, NoMemory>
+    ensures { IfOk result (λ sets. sets.items ≡ map (λ _. []) parts.now.threads) }
+{
+    let threads = parts.threads.as_slice();
+    Ok(threads.iter().map(|_| Set::new(alloc)).collect(alloc)?)
+}
+
+/// Whether a round that this word began answers, if the chain has these badges.
+fn is_answer(badges: u32, word: u32) -> bool
+    ensures { result ≡ is_answer badges word }
+{
+    badges == 0 || badges & word != 0
+}
+
+/// Drops what was answered from each set.
+fn drop_from_sets(sets: &mut [Set], answered: &[Tick])
+    ensures { sets.new ≡ map (without answered.now) sets.old }
+{
+    if answered.is_empty() {
+        return;
+    }
+    for set in sets.iter_mut() {
+        set.drop_answered(answered);
+    }
+}
+
+/// Drops what was answered from the signals to other cores.
+fn drop_from_sent(under_way: &mut Vec<Sent>, answered: &[Tick])
+    ensures { under_way.new.items ≡ filter (λ sent. not (is_one_of answered.now sent.mark.origin)) under_way.old.items }
+{
+    if answered.is_empty() {
+        return;
+    }
+    under_way.retain(|sent| !is_one_of(answered, sent.mark.origin));
+}
+
+/// Drops what was answered from the origins without an answer.
+fn drop_from_origins(origins: &mut Vec<Tick>, answered: &[Tick])
+    ensures { origins.new.items ≡ filter (λ origin. not (is_one_of answered.now origin)) origins.old.items }
+{
+    if answered.is_empty() {
+        return;
+    }
+    origins.retain(|origin| !is_one_of(answered, *origin));
+}
+
+/// Adds a set to the signals to other cores, which this core made at this moment.
+fn send(
+    alloc: Global,
+    under_way: &[Sent],
+    maker: CoreId,
+    made: u64,
+    set: &Set,
+) -> Result<Vec<Sent>, NoMemory>
+    ensures { IfOk result (λ all. all.items ≡ under_way.now ++ map (sent maker made) set.now) }
+{
+    let mut all = Vec::new(alloc);
+    all.extend_from_slice(under_way)?;
+    for mark in set.as_slice() {
+        all.push(Sent {
+            maker,
+            made,
+            mark: *mark,
+        })?;
+    }
+    Ok(all)
+}
+
+/// Returns what this core sent at this moment.
+fn landed(
+    alloc: Global,
+    under_way: &[Sent],
+    maker: CoreId,
+    made: u64,
+) -> Result<Vec<Mark>, NoMemory>
+    ensures { IfOk result (λ marks. marks.items ≡ map (λ sent. sent.mark) (filter (is_sent maker made) under_way.now)) }
+{
+    let marks = under_way
+        .iter()
+        .filter(|sent| is_sent(sent, maker, made))
+        .map(|sent| sent.mark)
+        .collect(alloc)?;
+    Ok(marks)
+}
+
+fn is_sent(sent: &Sent, maker: CoreId, made: u64) -> bool
+    ensures { result ≡ is_sent maker made sent.now }
+{
+    sent.maker == maker && sent.made == made
+}
+
+/// Lets go of what this core sent at this moment.
+fn drop_sent(under_way: &mut Vec<Sent>, maker: CoreId, made: u64)
+    ensures { under_way.new.items ≡ filter (λ sent. not (is_sent maker made sent)) under_way.old.items }
+{
+    under_way.retain(|sent| !is_sent(sent, maker, made));
+}
+
+/// Returns what a signal of the thread carries.
+fn given_by(
+    alloc: Global,
+    carried: &[Set],
+    thread: ThreadId,
+    places: u64,
+    badge: u32,
+) -> Result<Set, NoMemory>
+    ensures { IfOk result (λ set. set ≡ given places badge (get_or carried.now thread [])) }
+{
+    if thread.0 < carried.len() {
+        carried[thread.0].given(alloc, places, badge)
+    } else {
+        Ok(Set::new(alloc))
+    }
+}
+
+/// Returns what a thread takes from a notification.
+fn taken_from(alloc: Global, held: &[Set], note: NoteId, taking: Taking) -> Result<Set, NoMemory>
+    ensures { IfOk result (λ set. set ≡ taken taking (get_or held.now note [])) }
+{
+    if note.0 < held.len() {
+        held[note.0].taken(alloc, taking)
+    } else {
+        Set::new(alloc).taken(alloc, taking)
+    }
+}
+
+/// Joins a set to the one with this number.
+fn join_to(alloc: Global, sets: &mut [Set], number: usize, set: &Set) -> Result<(), NoMemory>
+    ensures ok { OnOk result (sets.new ≡ slice_set sets.old number (join set.now (get_or sets.old number []))) }
+    ensures err { OnErr result (sets.new ≡ sets.old) }
+{
+    if set.is_empty() {
+        return Ok(());
+    }
+    if number < sets.len() {
+        let joined = set.join(alloc, &sets[number])?;
+        sets[number] = joined;
+    }
+    Ok(())
+}
+
+/// Leaves nothing in the set with this number.
+fn clear(alloc: Global, sets: &mut [Set], number: usize)
+    ensures { sets.new ≡ slice_set sets.old number [] }
+{
+    if number < sets.len() {
+        sets[number] = Set::new(alloc);
+    }
+}
+
+impl Origins {
+    /// Before the first row.
+    pub(crate) fn new(alloc: Global, parts: &SystemParts) -> Result<Self, NoMemory>
+        ensures { IfOk result (λ origins. origins ≡ no_origins parts.now) }
+    {
+        Ok(Origins {
+            held: none_held(alloc, parts)?,
+            carried: none_carried(alloc, parts)?,
+            under_way: Vec::new(alloc),
+            posted: Set::new(alloc),
+            unanswered: Vec::new(alloc),
+            answered: Vec::new(alloc),
+        })
+    }
+
+    /// A row posts nothing and answers nothing.
+    fn rest(&mut self, alloc: Global)
+        ensures { self.new ≡ rest self.old }
+    {
+        self.posted = Set::new(alloc);
+        self.answered.clear();
+    }
+
+    /// An interrupt of the chain's source.
+    fn start(&mut self, alloc: Global, moment: Tick, badge: u32) -> Result<(), NoMemory>
+        ensures ok { OnOk result (self.new ≡ started moment badge self.old) }
+        ensures err { OnErr result (self.new ≡ self.old) }
+    {
+        let posted = Set::one(
+            alloc,
+            Mark {
+                origin: moment,
+                places: u64::from(badge),
+            },
+        )?;
+        self.unanswered.push(moment)?;
+        self.posted = posted;
+        self.answered.clear();
+        Ok(())
+    }
+
+    /// A signal posts what the thread has at these places.
+    fn give(
+        &mut self,
+        alloc: Global,
+        thread: ThreadId,
+        places: u64,
+        badge: u32,
+    ) -> Result<(), NoMemory>
+        ensures ok { OnOk result (self.new ≡ record (rest self.old) { posted = given places badge (get_or self.old.carried thread []) }) }
+        ensures err { OnErr result (self.new ≡ self.old) }
+    {
+        let posted = given_by(alloc, &self.carried, thread, places, badge)?;
+        self.posted = posted;
+        self.answered.clear();
+        Ok(())
+    }
+
+    /// A signal leaves for another core with what the thread has at these places.
+    fn set_out(
+        &mut self,
+        alloc: Global,
+        thread: ThreadId,
+        places: u64,
+        badge: u32,
+        maker: CoreId,
+        made: u64,
+    ) -> Result<(), NoMemory>
+        ensures ok { OnOk result (self.new ≡ sets_out maker made (given places badge (get_or self.old.carried thread [])) self.old) }
+        ensures err { OnErr result (self.new ≡ self.old) }
+    {
+        let given = given_by(alloc, &self.carried, thread, places, badge)?;
+        let under_way = send(alloc, &self.under_way, maker, made, &given)?;
+        self.under_way = under_way;
+        self.rest(alloc);
+        Ok(())
+    }
+
+    /// A signal of another core arrives.
+    fn land(&mut self, alloc: Global, maker: CoreId, made: u64) -> Result<(), NoMemory>
+        ensures ok { OnOk result (self.new ≡ lands maker made self.old) }
+        ensures err { OnErr result (self.new ≡ self.old) }
+    {
+        let marks = landed(alloc, &self.under_way, maker, made)?;
+        drop_sent(&mut self.under_way, maker, made);
+        self.posted = Set::of(marks);
+        self.answered.clear();
+        Ok(())
+    }
+
+    /// The notification holds what was posted.
+    fn hold(&mut self, alloc: Global, note: NoteId) -> Result<(), NoMemory>
+        ensures ok { OnOk result (self.new ≡ holds note self.old) }
+        ensures err { OnErr result (self.new ≡ self.old) }
+    {
+        join_to(alloc, &mut self.held, note.0, &self.posted)?;
+        self.rest(alloc);
+        Ok(())
+    }
+
+    /// The thread takes what was posted.
+    fn wake(&mut self, alloc: Global, thread: ThreadId, taking: Taking) -> Result<(), NoMemory>
+        ensures ok { OnOk result (self.new ≡ takes thread (taken taking self.old.posted) self.old) }
+        ensures err { OnErr result (self.new ≡ self.old) }
+    {
+        let taken = self.posted.taken(alloc, taking)?;
+        join_to(alloc, &mut self.carried, thread.0, &taken)?;
+        self.rest(alloc);
+        Ok(())
+    }
+
+    /// The thread takes what the notification held.
+    fn get(
+        &mut self,
+        alloc: Global,
+        thread: ThreadId,
+        note: NoteId,
+        taking: Taking,
+    ) -> Result<(), NoMemory>
+        ensures ok { OnOk result (self.new ≡ gets thread note taking self.old) }
+        ensures err { OnErr result (self.new ≡ self.old) }
+    {
+        let taken = taken_from(alloc, &self.held, note, taking)?;
+        join_to(alloc, &mut self.carried, thread.0, &taken)?;
+        clear(alloc, &mut self.held, note.0);
+        self.rest(alloc);
+        Ok(())
+    }
+
+    /// The origins that the end of the thread's round answers.
+    fn answers(
+        &self,
+        alloc: Global,
+        chain: &ChainPart,
+        thread: ThreadId,
+        word: u32,
+    ) -> Result<Vec<Tick>, NoMemory>
+        ensures { IfOk result (λ origins. origins.items ≡ answers chain.now thread word self.now) }
+    {
+        if thread == chain.thread
+            && is_answer(chain.badges, word)
+            && thread.0 < self.carried.len()
+        {
+            self.carried[thread.0].origins_at(alloc, reach(chain.badges))
+        } else {
+            Ok(Vec::new(alloc))
+        }
+    }
+
+    /// The round answers these origins.
+    fn end(&mut self, alloc: Global, thread: ThreadId, answered: Vec<Tick>)
+        ensures { self.new ≡ ends thread answered.items self.old }
+    {
+        clear(alloc, &mut self.carried, thread.0);
+        drop_from_sets(&mut self.held, &answered);
+        drop_from_sets(&mut self.carried, &answered);
+        drop_from_sent(&mut self.under_way, &answered);
+        drop_from_origins(&mut self.unanswered, &answered);
+        self.posted = Set::new(alloc);
+        self.answered = answered;
+    }
+
+    /// A row that moves this.
+    pub(crate) fn see(
+        &mut self,
+        alloc: Global,
+        chain: &ChainPart,
+        moment: Tick,
+        moves: &Move,
+    ) -> Result<(), NoMemory>
+        ensures ok { OnOk result (self.new ≡ moved chain.now moment moves.now self.old) }
+        ensures err { OnErr result (self.new ≡ self.old) }
+    {
+        match *moves {
+            Move::Start(source, badge) if source == chain.source => {
+                self.start(alloc, moment, badge)
+            }
+            Move::Nothing | Move::Start(..) => {
+                self.rest(alloc);
+                Ok(())
+            }
+            Move::Give(thread, places, badge) => self.give(alloc, thread, places, badge),
+            Move::Send(thread, places, badge, maker, made) => {
+                self.set_out(alloc, thread, places, badge, maker, made)
+            }
+            Move::Land(maker, made) => self.land(alloc, maker, made),
+            Move::Hold(note) => self.hold(alloc, note),
+            Move::Wake(thread, taking) => self.wake(alloc, thread, taking),
+            Move::Got(thread, note, taking) => self.get(alloc, thread, note, taking),
+            Move::End(thread, word) => {
+                let answered = self.answers(alloc, chain, thread, word)?;
+                self.end(alloc, thread, answered);
+                Ok(())
+            }
+        }
+    }
+
+    /// The origins that the latest row answers.
+    pub(crate) fn answered(&self) -> &[Tick]
+        ensures { result.now ≡ self.now.answered }
+    {
+        self.answered.as_slice()
+    }
+
+    /// The origins without an answer.
+    pub(crate) fn unanswered(&self) -> &[Tick]
+        ensures { result.now ≡ self.now.unanswered }
+    {
+        self.unanswered.as_slice()
+    }
+}
