@@ -1,7 +1,7 @@
 # `mcsim help TOPIC` shows a page of docs; ../mcsim reads this file.
 
 # the pages for users, in the order in which they are listed
-topics='MODELLING FORMAT CHECK CI FAULTS FOREVER SWEEPS VIEWER WAYS_IN LIBRARY MODEL LEFT_OUT KERNEL PERFORMANCE'
+topics='MODELLING FORMAT CHECK CI FAULTS FOREVER SWEEPS WORST VIEWER WAYS_IN LIBRARY MODEL LEFT_OUT KERNEL PERFORMANCE'
 
 # shows the page of a topic, or lists the topics
 show_help() {

@@ -109,10 +109,10 @@ class Tools(InFolder):
         self.assertEqual(self.launch('view', 'a.toml'), (127, '', 'mcsim: the tool view needs Python 3.11, and no python3 is on PATH\n'))
 
     def test_the_tools_are_those_of_the_repository(self) -> None:
-        listed = re.search(r'^        (.*) \| waves\)$', (TOP / 'mcsim').read_text(), re.M)
+        listed = re.search(r'^        (compare \| .*)\)$', (TOP / 'mcsim').read_text(), re.M)
         assert listed
         tools = {path.name for path in (TOP / 'tools').iterdir() if path.is_file() and os.access(path, os.X_OK)}
-        self.assertEqual({*listed[1].split(' | '), 'waves'}, tools)
+        self.assertEqual({*listed[1].split(' | ')}, tools)
 
 
 class Help(InFolder):

@@ -2,6 +2,7 @@
 _mcsim_tools() {
     local word=${COMP_WORDS[COMP_CWORD]} before=${COMP_WORDS[COMP_CWORD - 1]} tool=${COMP_WORDS[0]##*/} words= values=
     case $tool in
+        mcsim-compare) words='--help --version --horizon --time --core --thread --event --events --name --idle --unit --offset --tolerance --percent --program --take' ;;
         mcsim-explain) words='--help --version --program' ;;
         mcsim-live) words='--help --version --horizon --program --from --to --tick-us --budgets --threads --cores --lanes --most --width --theme --port --limit' ;;
         mcsim-microkit) words='--help --version --work --partial --tick-us --output' ;;
@@ -10,6 +11,7 @@ _mcsim_tools() {
         mcsim-trace) words='--help --version --horizon --program --rows --tick-ns --budgets --output' ;;
         mcsim-view) words='--help --version --horizon --program --rows --from --to --tick-us --budgets --threads --cores --lanes --most --width --theme --output' ;;
         mcsim-waves) words='--help --version --horizon --program --rows --tick-ns --output --save' ;;
+        mcsim-worst) words='--help --version --of --vary --ranges --phases --times --horizon --runs --all --seed --jobs --program --checker --output' ;;
     esac
     case $tool:$before in
         mcsim-live:--theme) values='auto light dark' ;;
@@ -25,4 +27,4 @@ _mcsim_tools() {
         mapfile -t COMPREPLY < <(compgen -f -- "$word")
     fi
 }
-complete -F _mcsim_tools mcsim-explain mcsim-live mcsim-microkit mcsim-sweep mcsim-tasks mcsim-trace mcsim-view mcsim-waves
+complete -F _mcsim_tools mcsim-compare mcsim-explain mcsim-live mcsim-microkit mcsim-sweep mcsim-tasks mcsim-trace mcsim-view mcsim-waves mcsim-worst
