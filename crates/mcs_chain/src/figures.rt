@@ -13,8 +13,8 @@ pub struct Figures {
     pub greatest: Option<u64>,
     /// The sum of all latencies.
     pub total: u64,
-    /// The latency within which half of the answers come, by nearest rank. It and the two below are at least that percentile, above it by
-    /// at most 1/64 of it, and at most the maximum latency.
+    /// The latency within which half of the answers come, by nearest rank. It and the two below are
+    /// at least that percentile, above it by at most 1/64 of it, and at most the maximum latency.
     pub fiftieth: Option<u64>,
     /// The latency within which 90 of 100 answers come.
     pub ninetieth: Option<u64>,

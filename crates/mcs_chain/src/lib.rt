@@ -1,5 +1,5 @@
-//! The chains of a system, read off the rows of a schedule as they go by: how long it takes from an interrupt to the first round that ends on
-//! the strength of it.
+//! The chains of a system, read off the rows of a schedule as they go by: how long it takes from an
+//! interrupt to the first round that ends on the strength of it.
 #![tactic(auto)]
 
 mod figures;

@@ -1,4 +1,5 @@
-//! The origins that a row moves. A place is a bit of a word, 1 to 2^31, or a thread's free set, 2^32.
+//! The origins that a row moves. A place is a bit of a word, 1 to 2^31, or a thread's free set,
+//! 2^32.
 ghost use Rattle.std.specs.Prelude.{◌≡◌, ◌<◌, length};
 ghost use Rattle.mcs_system.specs.System.{is_server, delay_by_link, delay_between, thread_part};
 ghost use Rattle.mcs_chain.specs.Steps.{step_of, gone_of};
@@ -33,7 +34,8 @@ pub(crate) enum Move {
     Start(SourceId, u32),
     /// The thread posts with this badge what it has at these places.
     Give(ThreadId, u64, u32),
-    /// The thread's signal leaves this core at this moment, with this badge, and carries what the thread has at these places.
+    /// The thread's signal leaves this core at this moment, with this badge, and carries what the
+    /// thread has at these places.
     Send(ThreadId, u64, u32, CoreId, u64),
     /// The signal arrives that this core made at this moment. It posts what it carries.
     Land(CoreId, u64),
@@ -111,7 +113,8 @@ fn delay_by_link(links: &[Link], maker: CoreId, home: CoreId, delay: u64) -> u64
     delay
 }
 
-/// How long a signal of this maker is under way to this core. It looks at each link until it finds theirs.
+/// How long a signal of this maker is under way to this core. It looks at each link until it finds
+/// theirs.
 fn delay_between(parts: &SystemParts, maker: CoreId, home: CoreId) -> u64
     ensures { result ≡ delay_between parts.now maker home }
 {

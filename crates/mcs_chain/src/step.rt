@@ -23,7 +23,8 @@ pub(crate) struct Step {
 pub(crate) struct Gone {
     /// The first item that the thread may still have to go through.
     pub next: Step,
-    /// The word of the row that began the round; 0 before it, and if the script does not begin with a wait.
+    /// The word of the row that began the round; 0 before it, and if the script does not begin with
+    /// a wait.
     pub word: u32,
 }
 
@@ -113,7 +114,8 @@ pub(crate) fn gone_of(all: &[Gone], thread: ThreadId) -> Gone
     }
 }
 
-/// Returns the step of the next row of the thread with this number; the first step if there is no such thread.
+/// Returns the step of the next row of the thread with this number; the first step if there is no
+/// such thread.
 pub(crate) fn step_at(parts: &SystemParts, all: &[Gone], thread: ThreadId) -> Step
     ensures step { result ≡ step_of (thread_part parts.now thread) (gone_of all.now thread) }
     ensures few { result.item < 1024 }

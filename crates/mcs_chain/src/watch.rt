@@ -15,8 +15,9 @@ use mcs_ticks::{NoMemory, Row, Tick};
 use std::alloc::Global;
 use std::marker::Model;
 
-/// A chain, as the rows of a schedule go by: how far each thread is in its script, and the sets of origins without an answer. Its room
-/// grows only with those origins. The system and the chain are those that it was made for.
+/// A chain, as the rows of a schedule go by: how far each thread is in its script, and the sets of
+/// origins without an answer. Its room grows only with those origins. The system and the chain are
+/// those that it was made for.
 #[derive(Drop)]
 pub struct Watch {
     gone: Vec<Gone>,
@@ -32,7 +33,8 @@ impl Model for Watch {
 }
 
 impl Watch {
-    /// The watch before the first row. `NoMemory` if an allocation failed. The chain is one of the system.
+    /// The watch before the first row. `NoMemory` if an allocation failed. The chain is one of the
+    /// system.
     pub fn new(alloc: Global, system: &System) -> Result<Self, NoMemory>
         ensures { (chain : TheChain) → IfOk result (λ watch. watch ≡ watch_of system.now chain []) }
     {
@@ -62,7 +64,8 @@ impl Watch {
         Ok(())
     }
 
-    /// The origins that the latest row answers, the latest first. The latency of each answer is the row's moment less the origin.
+    /// The origins that the latest row answers, the latest first. The latency of each answer is the
+    /// row's moment less the origin.
     pub fn answered(&self) -> &[Tick]
         ensures { (system : TheSystem) (chain : TheChain) (past : List TheRow) → self.now ≡ watch_of system chain past →
             result.now ≡ (origins system chain past).answered }
@@ -78,7 +81,8 @@ impl Watch {
         self.origins.unanswered()
     }
 
-    /// The earliest origin that the latest row answers, if the answer comes later than the deadline. `moment` is the row's.
+    /// The earliest origin that the latest row answers, if the answer comes later than the
+    /// deadline. `moment` is the row's.
     pub fn slow(&self, chain: &ChainPart, moment: Tick) -> Option<Finding>
         ensures { (system : TheSystem) (past : List TheRow) (row : TheRow) → row.moment ≡ moment →
             self.now ≡ watch_of system chain.now (row ∷ past) → result ≡ slow system chain.now past row }

@@ -7,7 +7,8 @@ use std::alloc::Global;
 use std::process::Abort;
 use std::test::Fail;
 
-/// An interrupt at 3 wakes D, whose signal reaches the other core at 8; there C ends its round at 12.
+/// An interrupt at 3 wakes D, whose signal reaches the other core at 8; there C ends its round at
+/// 12.
 const TWO_CORES: &str = r#"
 version = 3
 cores = 2
