@@ -1,16 +1,20 @@
 #!/usr/bin/env python3
-"""Tells whether all is well, in one line: the gate proves and tries the repository (rt ci), and then the program that it has built is checked.
+"""Proves and tests the repository by the gate (rt ci), and then checks the programs that the gate has built, the tools and the pages.
 
-The last line is 'N passed, M failed' over all, with ', K skipped' where something is missing that a check needs, and the status is 0 where M
-is 0. If nothing was proved, the line before it says so, and why. The gate leaves its programs in crates/mcsim/out and crates/mcscheck/out, where ./mcsim and ./mcscheck find them, and after it the library for
-C is built. With --program or --no-proofs, and where the command rt is not on PATH, nothing is proved, and one line says so: then the checks try the
-program that is given, or crates/mcsim/out/mcsim, or else bin/mcsim, and the mcscheck beside it, or that of crates/mcscheck/out or bin."""
+The last line is 'N passed, M failed', with ', K skipped' if something that a check needs is missing. The exit code is 0 if M is 0. If nothing was
+proved, the line before it says why. The gate leaves its programs in crates/mcsim/out and crates/mcscheck/out, where ./mcsim and ./mcscheck find them;
+then the library for C is built. With --program or --no-proofs, or if the command rt is not on PATH, nothing is proved: the checks take the program that
+is given, or else crates/mcsim/out/mcsim or bin/mcsim, and the mcscheck beside it, or that of crates/mcscheck/out or bin.
+
+--list writes tables of the checks and of the scripts that are run by hand, from their docstrings; --write puts them on checks/README.md."""
 from __future__ import annotations
 
 import argparse
+import ast
 import concurrent.futures
 import os
 import pathlib
+import re
 import shutil
 import subprocess
 import sys
@@ -29,12 +33,14 @@ SECONDS = 3600
 
 
 class Check(NamedTuple):
-    """A script of a folder here, whether it tries the built program, and further words for it."""
+    """A script of a folder here: its CPU seconds, whether it tries the built program, further words for it, and what it needs beside Python."""
 
     folder: str
     name: str
+    seconds: int = 1
     tries_program: bool = True
     words: tuple[str, ...] = ()
+    needs: str = ''
 
     @property
     def script(self) -> pathlib.Path:
@@ -47,35 +53,71 @@ class Check(NamedTuple):
 
 # those that take longest begin first
 CHECKS = (
-    Check('program', 'stress', words=('--systems', '2000')),
-    Check('program', 'schema'),
-    Check('program', 'waves', tries_program=False),
-    Check('program', 'verdicts'),
-    Check('program', 'forever'),
-    Check('program', 'traces'),
-    Check('program', 'views'),
-    Check('program', 'bandwidth'),
-    Check('program', 'rules'),
-    Check('program', 'readers'),
-    Check('program', 'analyses'),
-    Check('program', 'engines'),
-    Check('program', 'refused_runs'),
-    Check('proofs', 'early', tries_program=False),
-    Check('program', 'units', tries_program=False),
-    Check('program', 'lint', tries_program=False),
-    Check('program', 'library'),
+    Check('program', 'stress', 70, words=('--systems', '2000'), needs='`taskset`, `prlimit`'),
+    Check('program', 'schema', 20, needs='`jsonschema`'),
+    Check('program', 'waves', 15, tries_program=False, needs='`vcd2fst`'),
+    Check('program', 'verdicts', 35),
+    Check('program', 'forever', 30),
+    Check('program', 'traces', 10),
+    Check('program', 'views', 60, needs='`chromium`'),
+    Check('program', 'bandwidth', 7),
+    Check('program', 'rules', 10),
+    Check('program', 'readers', 5),
+    Check('program', 'analyses', 20),
+    Check('program', 'engines', 10),
+    Check('program', 'refused_runs', 10, needs='`cc`'),
+    Check('proofs', 'early', 8, tries_program=False, needs='`rt`'),
+    Check('program', 'units', 40, tries_program=False),
+    Check('program', 'lint', 15, tries_program=False, needs='`mypy`, `pyflakes3`'),
+    Check('program', 'library', 3, needs='`cc`'),
     Check('proofs', 'theorems', tries_program=False),
     Check('proofs', 'believe', tries_program=False),
     Check('proofs', 'comments', tries_program=False),
     Check('program', 'faults'),
-    Check('program', 'checker'),
-    Check('program', 'progress'),
-    Check('pages', 'manual'),
-    Check('pages', 'mended'),
-    Check('pages', 'pages'),
+    Check('program', 'checker', 5),
+    Check('program', 'progress', 15),
+    Check('pages', 'manual', needs='`mandoc`'),
+    Check('pages', 'tool_pages', tries_program=False, needs='`mandoc`'),
+    Check('pages', 'mended', 6),
+    Check('pages', 'pages', 10, needs='`yaml`, `pandas`'),
+    Check('pages', 'prose', 2, tries_program=False),
+    Check('pages', 'proved', tries_program=False),
+    Check('pages', 'links', tries_program=False),
     Check('program', 'built'),
-    Check('pages', 'pictures'),
+    Check('pages', 'pictures', 6),
 )
+# what no gate runs
+BY_HAND = (
+    ('proofs', 'edits'), ('proofs', 'edits_table'), ('proofs', 'take'), ('proofs', 'gate'), ('proofs', 'archive'), ('program', 'refused_tests'), ('program', 'same'), ('program', 'widths'),
+    ('program', 'forever_model'), ('measure', 'performance'), ('measure', 'costs'), ('measure', 'checker_costs'), ('measure', 'forever_table'),
+    ('measure', 'beside'), ('measure', 'gains'),
+)
+PAGE = HERE / 'README.md'
+BEGINS, ENDS = '<!-- tables of everything.py -->', '<!-- end of tables -->'
+
+
+def does(script: pathlib.Path) -> str:
+    """What a script does: the first paragraph of its docstring."""
+    doc = ast.get_docstring(ast.parse(script.read_text(encoding='utf-8'))) or ''
+    return ' '.join(doc.partition('\n\n')[0].split())
+
+
+def row(folder: str, name: str, *cells: str) -> str:
+    return ' | '.join((f'| [`{name}`]({folder}/{name}.py)', does(HERE / folder / f'{name}.py'), *cells)) + ' |'
+
+
+def tables() -> str:
+    """The tables of the checks, by name, and of the scripts that are run by hand."""
+    checks = sorted(CHECKS, key=lambda check: check.name)
+    lines = ['| Check | What it does | Needs | CPU seconds |', '|---|---|---|---|']
+    lines += [row(check.folder, check.name, check.needs, str(check.seconds)) for check in checks]
+    lines += ['', '| Run by hand | What it does |', '|---|---|', *(row(*script) for script in BY_HAND)]
+    return '\n'.join(lines) + '\n'
+
+
+def with_tables(page: str) -> str:
+    """A page with the tables of today between its marks."""
+    return re.sub(f'(?<={BEGINS}\n\n).*?(?=\n{ENDS})', lambda _: tables(), page, flags=re.S)
 
 
 def say(text: str) -> None:
@@ -89,6 +131,8 @@ def asked() -> argparse.Namespace:
     parser.add_argument('--no-proofs', action='store_true', help='checks the built program that is found, and proves nothing')
     parser.add_argument('--times', type=pathlib.Path, metavar='FILE', help='writes to FILE what took the time in the gate, as checks/proofs/gate.py does')
     parser.add_argument('--anew', action='store_true', help='takes nothing of what earlier gates kept on this machine')
+    parser.add_argument('--list', action='store_true', help='writes tables of the checks and of the scripts that are run by hand')
+    parser.add_argument('--write', action='store_true', help='puts these tables on checks/README.md')
     parser.add_argument('--only', action='append', choices=[check.name for check in CHECKS], help='of the checks after the gate only this one; may be given several times')
     return parser.parse_args()
 
@@ -211,8 +255,7 @@ def checks_for(words: argparse.Namespace, program: pathlib.Path | None) -> list[
     return [check for check in wanted if program or not check.tries_program]
 
 
-def main() -> int:
-    words = asked()
+def run_all(words: argparse.Namespace) -> int:
     say(f'processors: {len(os.sched_getaffinity(0))}')
     total = prove(words)
     program = program_to_try(words)
@@ -226,6 +269,15 @@ def main() -> int:
         say(f'nothing was proved: {why}')
     print(total)
     return total.status
+
+
+def main() -> int:
+    words = asked()
+    if words.list:
+        print(tables(), end='')
+    if words.write:
+        PAGE.write_text(with_tables(PAGE.read_text(encoding='utf-8')), encoding='utf-8')
+    return 0 if words.list or words.write else run_all(words)
 
 
 if __name__ == '__main__':

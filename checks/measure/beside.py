@@ -1,5 +1,5 @@
 #!/usr/bin/env python3
-"""Measures runs of the built program beside those of another program that takes the same words and writes the same bytes: instructions and seconds.
+"""Measures runs beside those of another program that takes the same options and writes the same bytes: instructions and seconds.
 
 The other program is named after the script, as one that was written for speed alone. On five systems (cases.py), with the schedule and with the reports,
 one worker each, it first compares the bytes of both, then counts instructions by valgrind, less those of a run with horizon 0, and then takes the

@@ -1,5 +1,5 @@
 #!/usr/bin/env python3
-"""Tells what mcscheck --show findings takes beside mcsim: CPU seconds and the greatest memory, on systems of performance.py and costs.py.
+"""Measures mcscheck --show findings beside mcsim: CPU seconds and maximum memory.
 
 It is to take at most 1.3 times what `mcsim --show reports` takes with as many workers. Of each run the least of several tries counts, the programs
 by turns; some systems have deadlines that each round meets, or misses. Nothing else should run meanwhile. With --instructions millions of them are

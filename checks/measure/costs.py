@@ -1,5 +1,5 @@
 #!/usr/bin/env python3
-"""Tells what runs of the built program cost at its limits, on this machine: CPU seconds and the greatest memory.
+"""Measures runs at the limits of the program: CPU seconds and maximum memory.
 
 Each line is a system that is made here: many threads on one core, many ticks in which nothing happens, as many cores and threads as the limits
 allow, and a file as large as the limits on scripts allow. The count of the last line is of runs, which pass where they end with status 0."""

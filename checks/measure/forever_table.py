@@ -1,5 +1,5 @@
 #!/usr/bin/env python3
-"""Tells in two tables how often mcscheck --forever finds that a set of cores repeats, and how late, and what that takes.
+"""Measures how often mcscheck --forever finds a repetition, how late, and at which cost.
 
 The systems are random ones as of verdicts.py, a third as many random sets of periodic tasks with a clock each, and the files of this repository. A set
 is looked at up to a horizon. Where no repetition is found, though the rows of the set came ten times at its end, that is counted: there one may have

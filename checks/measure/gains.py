@@ -1,5 +1,5 @@
 #!/usr/bin/env python3
-"""Measures what several workers gain, beside another program that takes the same words and writes the same bytes.
+"""Measures what four workers gain, beside another program that writes the same bytes.
 
 The system is that of 64 cores in cases.py, the horizon ten times as far as there, so that the file counts for less. Of each program and show three runs
 are measured by turns: to moment 0, which is the load alone, to the horizon with one worker, and with four. Of each the least time that passes counts.

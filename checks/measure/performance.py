@@ -1,5 +1,5 @@
 #!/usr/bin/env python3
-"""Tells how the time and memory of runs of the built program grow with events, threads, cores, workers and delay.
+"""Measures how time and memory grow with events, threads, cores, workers and delay.
 
 It makes systems, runs the program on each, and prints tables in Markdown: rows of the schedule, seconds that pass, CPU seconds and the
 greatest memory, where the schedule is written (to /dev/null) and where only the reports are, each the quickest of three runs. With --write the

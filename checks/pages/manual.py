@@ -1,5 +1,5 @@
 #!/usr/bin/env python3
-"""Tells whether the manual pages docs/mcsim.1 and docs/mcscheck.1 say what the built programs say and do.
+"""Checks the manual pages and the completions against the programs: options, ranges, defaults, exit codes, keys, examples.
 
 Each option, with its value, default and range, each status and each word of `--show` stands both in the page and in the program's `--help`; the
 keys of mcsim.1 are those of docs/mcsim.schema.json; the programs give what the pages' examples say; the completions of each shell have the page's
@@ -173,7 +173,7 @@ def main() -> None:
     simulator = common.built_program(common.asking_program(__doc__).parse_args().program)
     trial = Trial({name: simulator if name == 'mcsim' else common.beside(simulator, name) for name in common.PROGRAMS})
     every = (
-        Pages(Page('mcsim'), (0, 1), 'reports', ('--show', 'reports'), b''),
+        Pages(Page('mcsim'), (0, 1), 'rows', (), b''),
         # the second and the fourth command end with tail, and the third with grep
         Pages(Page('mcscheck'), (5, 0, 0, 0, 2), 'found', (), b'system.toml\n'),
     )

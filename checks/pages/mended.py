@@ -1,9 +1,9 @@
 #!/usr/bin/env python3
-"""Tells whether docs/FAULTS.md is right: each fault of a file or a run has a heading there, its wrong file gives the fault, and the mended file none.
+"""Tells whether docs/FAULTS.md is right: it names each fault of a file or a run and has a diff for it, whose wrong file gives the fault, and the mended file none.
 
-Below a heading stand one or more triples: a wrong file (or a command), the line that it gives, and the file (or the command) mended. The mended
-file runs to the end without a word. tools/explain tells the fault of each wrong file with a line of it and something to say of it. The texts of the
-faults are read from the sources, so that none is forgotten."""
+A diff goes from wrong to right, with the line that the wrong one gives after '#'. It is of docs/every_table.toml, or a whole file if it begins with the
+version, or of commands. The mended file or command runs to the end without a word. tools/explain tells the fault of each wrong file with a line of it
+and something to say of it. The texts of the faults are read from the sources, so that none is forgotten."""
 from __future__ import annotations
 
 import os
@@ -11,7 +11,7 @@ import pathlib
 import re
 import sys
 import tempfile
-from collections.abc import Iterator
+from collections.abc import Iterator, Sequence
 from typing import NamedTuple
 
 sys.dont_write_bytecode = True
@@ -21,6 +21,8 @@ from checks.common import TOP, Count, Ran
 from checks.pages import pages
 
 PAGE = TOP / 'docs' / 'FAULTS.md'
+# the file of which a diff is, unless it has a whole one
+BASE = TOP / 'docs' / 'every_table.toml'
 EXPLAIN = TOP / 'tools' / 'explain'
 CRATES = TOP / 'crates'
 FILES = CRATES / 'mcs_load' / 'src' / 'fault.rt'
@@ -29,21 +31,26 @@ RUNS = CRATES / 'mcs_cli' / 'src' / 'fault.rt'
 WITHIN = {'bad item': CRATES / 'mcs_script' / 'src' / 'fault.rt', 'control': CRATES / 'mcs_control' / 'src' / 'config.rt'}
 # a fault that no file has: there is room enough, or there is not
 WITHOUT_FILE = 'no memory'
-OF_WORDS = 'Words that are not understood'
-# of mcscheck alone, with how their lines begin
-OF_CHECKER = {
+# faults of the options, which the sources of files and runs do not have, with how their lines begin
+OF_OPTIONS = {
+    'Options that are not understood': 'error: ',
     'A notification that is not there': 'mcscheck: --allow-lost: no notification is called "',
-    'A thread or a round that is not there': 'mcscheck: --why: ',
+    'A thread or a job that is not there': 'mcscheck: --why: ',
 }
-FILE = 'toml'
+COMMANDS = ('./mcsim', './mcscheck')
 
 
 class Part(NamedTuple):
-    """What stands on the page for a fault once: the wrong file or command, the line, and the mended one."""
+    """A diff of the page: a wrong file or command, the line that it gives, and the mended one."""
 
-    wrong: tuple[str, str]
+    wrong: str
     line: str
-    mended: tuple[str, str]
+    mended: str
+    is_file: bool
+
+    @property
+    def asks_checker(self) -> bool:
+        return not self.is_file and pages.CHECKER in self.wrong
 
 
 def texts_of(source: pathlib.Path) -> list[str]:
@@ -51,26 +58,51 @@ def texts_of(source: pathlib.Path) -> list[str]:
     return re.findall(r'f\.write_str\("(?:mcsim: )?([^"]+)"\)', source.read_text())
 
 
-def faults() -> set[str]:
-    """The text of each fault, without its place."""
-    inner = {f'{before}: {text}' for before, source in WITHIN.items() for text in texts_of(source)}
-    return {*texts_of(FILES), *texts_of(RUNS), *inner}
+def faults() -> dict[str, str]:
+    """How the line of each fault begins, by the fault's text without its place."""
+    inner = (f'{before}: {text}' for before, source in WITHIN.items() for text in texts_of(source))
+    return {**{text: f'mcsim: {text}' for text in (*texts_of(FILES), *texts_of(RUNS), *inner)}, **OF_OPTIONS}
 
 
-def headings() -> dict[str, list[Part]]:
-    """For each fault of the page what stands below its heading."""
-    found = {}
-    for title, text in re.findall(r'^### ([^\n]*)\n(.*?)(?=^##|\Z)', PAGE.read_text(), re.M | re.S):
-        blocks = pages.blocks_in(text)
-        parts = [blocks[k:k + 3] for k in range(0, len(blocks), 3)]
-        found[title.strip('`')] = [Part(wrong, line[1].strip(), mended) for wrong, line, mended in parts]
-    return found
+def hunks_of(block: str) -> Iterator[list[str]]:
+    """The hunks of a block: one for each wrong line, or a single one if it has lines around them."""
+    lines = block.splitlines()
+    starts = [0] if any(line.startswith('  ') for line in lines) else [k for k, line in enumerate(lines) if line.startswith('-')]
+    for start, end in zip(starts, [*starts[1:], len(lines)]):
+        yield lines[start:end]
 
 
-def ran(program: pathlib.Path, block: tuple[str, str]) -> Ran:
-    """What a block comes to: a file that is read, or a command."""
-    kind, text = block
-    return common.run([program], text.encode()) if kind == FILE else pages.ran(program, text)
+def side(hunk: Sequence[str], sign: str) -> str:
+    """What a hunk has on one side, without the fault."""
+    return '\n'.join(re.sub(r'\s+# [^#]*$', '', line[1:])[1:] for line in hunk if line[0] in (sign, ' '))
+
+
+def part_of(hunk: Sequence[str], base: str) -> Part:
+    wrong, mended = side(hunk, '-'), side(hunk, '+')
+    line = next(line for line in hunk if line.startswith('-')).rpartition(' # ')[2]
+    if any(command in mended for command in COMMANDS):
+        return Part(wrong, line, mended, False)
+    if mended.startswith('version = ') and '\n' in mended:
+        return Part(wrong, f'mcsim: {line}', mended, True)
+    if base.count(mended) != 1:
+        common.stop(f'{PAGE.name}: {mended!r} stands {base.count(mended)} times in {BASE.name}')
+    return Part(base.replace(mended, wrong), f'mcsim: {line}', base, True)
+
+
+def parts_of(text: str, base: str) -> list[Part]:
+    """The diffs of the page."""
+    return [part_of(hunk, base) for kind, block in pages.blocks_in(text) if kind == 'diff' for hunk in hunks_of(block)]
+
+
+def fault_of(line: str) -> str | None:
+    """The fault that a line tells: the longest text with which it begins."""
+    told = [text for text, begins in faults().items() if line.startswith(begins)]
+    return max(told, key=len) if told else None
+
+
+def ran(program: pathlib.Path, text: str, is_file: bool) -> Ran:
+    """What a file that is read comes to, or a command."""
+    return common.run([program], text.encode()) if is_file else pages.ran(program, text)
 
 
 def explained(program: pathlib.Path, folder: pathlib.Path, text: str) -> Ran:
@@ -91,50 +123,46 @@ def explains(told: Ran, line: str) -> bool:
     return told.status == 1 and bool(lines) and bool(re.fullmatch(rf'system\.toml:\d+:\d+: {re.escape(fault)}', lines[0])) and lines[-1].startswith('  ')
 
 
-def is_of(title: str, line: str) -> bool:
-    """Whether a line tells the fault of a heading."""
-    begins = {OF_WORDS: 'error: ', **OF_CHECKER}
-    return line.startswith(begins.get(title, f'mcsim: {title}'))
-
-
-def try_part(program: pathlib.Path, folder: pathlib.Path, title: str, part: Part, count: Count) -> None:
-    count.expect(f'{title}: another fault stands there: {part.line}', is_of(title, part.line))
-    wrong, mended = ran(program, part.wrong), ran(program, part.mended)
+def try_part(program: pathlib.Path, folder: pathlib.Path, part: Part, count: Count) -> None:
+    count.expect(f'{part.line}: no fault of the sources', fault_of(part.line) is not None)
+    wrong, mended = ran(program, part.wrong, part.is_file), ran(program, part.mended, part.is_file)
     first = (lines_of(wrong.stderr) or [''])[0]
-    count.expect(f'{title}: the wrong one gives {first!r}, status {wrong.status}', wrong.status > 0 and first == part.line)
-    count.expect(f'{title}: the mended one gives {mended.stderr.decode()!r}, status {mended.status}', mended.status == 0 and not mended.stderr)
-    if part.wrong[0] == FILE:
-        told = explained(program, folder, part.wrong[1])
-        count.expect(f'{title}: tools/explain says {told.stdout.decode()!r}', explains(told, part.line))
+    count.expect(f'{part.line}: the wrong one gives {first!r}, status {wrong.status}', wrong.status > 0 and first == part.line)
+    count.expect(f'{part.line}: the mended one gives {mended.stderr.decode()!r}, status {mended.status}', mended.status == 0 and not mended.stderr)
+    if part.is_file:
+        told = explained(program, folder, part.wrong)
+        count.expect(f'{part.line}: tools/explain says {told.stdout.decode()!r}', explains(told, part.line))
 
 
-def try_first_lines(program: pathlib.Path, count: Count) -> None:
+def try_first_lines(program: pathlib.Path, text: str, count: Count) -> None:
     """The command at the head of the page, and what it prints."""
-    command, written = (text for _, text in pages.blocks_in(PAGE.read_text().partition('\n## ')[0]))
+    command, written = (block for _, block in pages.blocks_in(text.partition('\n## ')[0]))
     told = pages.ran(program, command)
     count.expect(f'the head of the page: {told.stdout.decode()!r}', told == Ran(1, written.encode(), b''))
 
 
-def parts_of(found: dict[str, list[Part]]) -> Iterator[tuple[str, Part]]:
-    return ((title, part) for title, parts in found.items() for part in parts)
+def try_faults(text: str, parts: Sequence[Part], count: Count) -> None:
+    """Each fault is named on the page, with a cause, and has a diff."""
+    shown = {fault_of(part.line) for part in parts}
+    for fault in sorted(faults()):
+        name = re.escape(fault.rpartition(': ')[2])
+        count.expect(f'{fault}: no cause on the page', re.search(rf'^(- |\*\*)`?{name}`?(\*\*)?: [\w`]', text, re.M) is not None)
+        count.expect(f'{fault}: no diff on the page', fault in shown or fault == WITHOUT_FILE)
 
 
 def main() -> None:
     program = common.built_program(common.asking_program(__doc__).parse_args().program)
-    count = Count()
-    try_first_lines(program, count)
-    found = headings()
-    for fault in sorted(faults() | set(found)):
-        is_known = fault in faults() or fault == OF_WORDS or fault in OF_CHECKER
-        count.expect(f'{fault}: no fault of the sources', is_known)
-        count.expect(f'{fault}: nothing on the page', bool(found.get(fault)) or fault == WITHOUT_FILE and fault in found)
+    count, text = Count(), PAGE.read_text()
+    try_first_lines(program, text, count)
+    parts = parts_of(text, BASE.read_text())
+    try_faults(text, parts, count)
     has_checker = common.checker_of(program) is not None
     with tempfile.TemporaryDirectory() as folder:
-        for title, part in parts_of(found):
-            if title in OF_CHECKER and not has_checker:
-                count.skip(f'{title}: mcscheck is not there')
+        for part in parts:
+            if part.asks_checker and not has_checker:
+                count.skip(f'{part.line}: mcscheck is not there')
             else:
-                try_part(program, pathlib.Path(folder), title, part, count)
+                try_part(program, pathlib.Path(folder), part, count)
     count.end()
 
 

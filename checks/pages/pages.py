@@ -1,7 +1,8 @@
 #!/usr/bin/env python3
-"""Tells whether the pages show what the built programs write: those of examples/, README.md and the guides of docs/. Each of their commands that runs
-a system is run, at the top of the repository. mcscheck is that beside the program that is tried, or the repository's; where there is none, its commands
-are skipped, and so are those of scripts over pandas where Debian's Python has none.
+"""Checks that pages show what the programs write: runs each of their commands that runs a system, and the jobs of docs/CI.md.
+
+mcscheck is the one beside the program that is tried, or else the repository's. If there is none, its commands are skipped; so are those over pandas if
+Debian's Python has none. A file that a page names and then shows as TOML has the lines that are shown.
 
 The lines of a block that follows a command are lines of its output, in order; a page may leave lines out, and marks that by a line of two dots.
 Each command says nothing on standard error, and ends with status 0, or with 5 where its verdict is that something was found. So does that of each row
@@ -36,6 +37,7 @@ LEFT_OUT = '..'
 # tools that run a program by themselves: the first mcsim, the second mcscheck
 ANALYSES = ' --analyse'
 SEARCHES = (' --least ', ' --greatest ')
+SWEEP = 'tools/sweep '
 # scripts of examples that ask the second for data frames, by Debian's Python
 FRAMES = ('examples/python/responses.py ',)
 DEBIAN_PYTHON = '/usr/bin/python3'
@@ -48,6 +50,8 @@ NOT_KNOWN = 6
 SETS = re.compile(r'sets (\d+) repeating (\d+) findings (\d+)')
 CLEAN = 'nothing is ever found'
 FOREVER = ' --forever'
+# rows without a line of counts, which do not say how the verdict ends
+CSV = ' --format csv'
 COUNTS = re.compile(r'missed (\d+) overdue (\d+) lost (\d+) never (\d+) .*hints (\d+)')
 # a block that ends with the status of any of its verdicts
 EXITS = 'exit $status'
@@ -57,10 +61,14 @@ LEFT = re.compile(r'(sweep: \d+ values? (is|are) left at most, .*\n)?')
 SOURCES = ('.toml', '.csv', '<<', '--random')
 # a block that writes files is run elsewhere
 WRITES = ' -o '
-GUIDE_NAMES = ('CI.md', 'FOREVER.md', 'FORMAT.md', 'KERNEL.md', 'LEFT_OUT.md', 'MODELLING.md', 'SWEEPS.md', 'WAYS_IN.md')
+GUIDE_NAMES = ('CHECK.md', 'CI.md', 'FOREVER.md', 'FORMAT.md', 'KERNEL.md', 'LEFT_OUT.md', 'MODELLING.md', 'SWEEPS.md', 'WAYS_IN.md')
 GUIDES = [TOP / 'docs' / name for name in GUIDE_NAMES]
 # pages with blocks beside those that a command wrote
-SHOW_OTHERS = tuple(pathlib.Path(name) for name in ('README.md', 'examples/README.md', 'docs/CI.md', 'docs/FORMAT.md', 'docs/WAYS_IN.md'))
+SHOW_OTHERS = tuple(pathlib.Path(name) for name in ('README.md', 'examples/README.md', 'docs/CHECK.md', 'docs/CI.md', 'docs/FORMAT.md', 'docs/WAYS_IN.md'))
+
+
+# a line that names a file of a system, and the block of TOML below it
+FILE_SHOWN = re.compile(r'\]\(([^)\s]+\.toml)\)[^\n]*:\n\n```toml\n(.*?)^```', re.M | re.S)
 
 
 def are_in(lines: Iterable[str], others: Iterable[str]) -> bool:
@@ -118,9 +126,14 @@ def status_for_ever(written: Sequence[str]) -> int:
     return 0 if written.count(CLEAN) == int(told[1]) else NOT_KNOWN
 
 
+def plain(line: str) -> str:
+    """A line, or an object of counts as the line that text has."""
+    return ' '.join(re.findall(r'\w+', line.partition('"counts",')[2])) or line
+
+
 def is_found(line: str, block: str) -> bool:
     """Whether a line is the last one of a verdict that is not clean."""
-    if counts := COUNTS.fullmatch(line):
+    if counts := COUNTS.fullmatch(plain(line)):
         return any(int(count) for count in counts.groups()[:None if '--strict' in block else -1])
     return NONE_WILL_DO.fullmatch(line) is not None
 
@@ -144,14 +157,14 @@ def has_pandas() -> bool:
 
 def missing(block: str, has_checker: bool) -> str | None:
     """What a block of commands needs and is not there, if anything."""
-    if not has_checker and (gives_a_verdict(block) or wants_pandas(block)):
+    if not has_checker and (gives_a_verdict(block) or SWEEP in block or wants_pandas(block)):
         return 'mcscheck'
     return 'the package pandas of Python' if wants_pandas(block) and not has_pandas() else None
 
 
 def runs_a_system(block: str) -> bool:
     """Whether a block of commands runs a program with a file, or with a text in the block."""
-    runs = PROGRAM in block or ANALYSES in block or gives_a_verdict(block) or wants_pandas(block)
+    runs = any(word in block for word in (PROGRAM, ANALYSES, SWEEP)) or gives_a_verdict(block) or wants_pandas(block)
     return runs and any(source in block for source in SOURCES) and WRITES not in block
 
 
@@ -164,7 +177,8 @@ def try_block(program: pathlib.Path, name: pathlib.Path, block: str, count: Coun
     """Tries a block of commands, and gives the lines that it wrote."""
     status, stdout, stderr = ran(program, block.strip())
     written = stdout.decode().splitlines()
-    is_good = status == status_of(block, written) and is_silent(block, stderr.decode())
+    has_counts = CSV not in block
+    is_good = status in ((status_of(block, written),) if has_counts else (0, FOUND)) and is_silent(block, stderr.decode())
     count.expect(f'{name}: {block.strip()}: status {status}, {stderr.decode().strip()}', is_good)
     return written
 
@@ -199,6 +213,18 @@ def try_page(program: pathlib.Path, page: pathlib.Path, count: Count) -> None:
             written = None if shows_others else written
         elif shows_others:
             written = None
+
+
+def settings_in(text: str) -> list[str]:
+    """The lines of a file that say something."""
+    return [line for line in text.splitlines() if line.strip() and not line.startswith('#')]
+
+
+def try_files(page: pathlib.Path, count: Count) -> None:
+    """Compares each file that a page names and shows with what it shows."""
+    for target, block in FILE_SHOWN.findall(page.read_text()):
+        is_same = settings_in((page.parent / target).read_text()) == settings_in(block)
+        count.expect(f'{page.relative_to(TOP)}: {target} has other lines than the page shows', is_same)
 
 
 # ---- jobs of pipelines
@@ -255,6 +281,7 @@ def main() -> None:
     program = common.built_program(common.asking_program(__doc__).parse_args().program)
     count = Count()
     for page in (*sorted((TOP / 'examples').glob('*.md')), TOP / 'README.md', *GUIDES):
+        try_files(page, count)
         try_questions(program, page, count)
         try_page(program, page, count)
     try_jobs(program, count)

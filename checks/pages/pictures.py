@@ -1,5 +1,5 @@
 #!/usr/bin/env python3
-"""Tells whether the pictures on pages are those that tools/view draws today, and whether each example's page has one.
+"""Checks that the pictures of pages are those that tools/view draws today; with --write, draws them.
 
 A page names the command of each of its pictures, `tools/view SYSTEM .. -o FILE.svg`. Each command is run at the top of the repository, but writes
 elsewhere, and what it draws has to be the file, byte for byte. With --write the pictures are drawn anew. The commands in blocks of docs/VIEWER.md are
@@ -20,7 +20,7 @@ from checks import common
 from checks.common import TOP, Count
 
 VIEWER = TOP / 'docs' / 'VIEWER.md'
-PAGES = [TOP / 'README.md', VIEWER, *sorted((TOP / 'examples').glob('*.md'))]
+PAGES = [TOP / 'README.md', VIEWER, TOP / 'docs' / 'MODELLING.md', *sorted((TOP / 'examples').glob('*.md'))]
 BLOCK = re.compile(r'^```sh\n(.*?)^```', re.M | re.S)
 NOT_RUN = ('gtkwave ', 'tools/live ')
 COMMAND = re.compile(r'`(tools/view [^`\n]* -o (examples/pictures/[^`\s]+\.svg))`')

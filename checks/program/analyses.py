@@ -1,5 +1,5 @@
 #!/usr/bin/env python3
-"""Tells whether response-time analysis and the programs agree, in random sets of tasks.
+"""Checks that response-time analysis, the runs and the table of mcscheck agree, on 300 random sets of tasks.
 
 Each set is made by UUniFast for one to three cores, with deadlines below and above the periods. Where all tasks begin together, the greatest response
 seen in the run of mcsim has to be the bound of `tools/tasks`, tick for tick, and that of cores which are played here tick by tick; with offsets no

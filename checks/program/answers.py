@@ -1,6 +1,6 @@
 """What mcscheck --why has to write of a round, found a second time: from the file and the rows that mcsim writes of it.
 
-It follows docs/FORMAT.md and the definitions of crates/mcs_why. Who runs is looked up tick by tick, so it takes small systems alone."""
+It follows docs/CHECK.md and the definitions of crates/mcs_why. Who runs is looked up tick by tick, so it takes small systems alone."""
 from __future__ import annotations
 
 import json

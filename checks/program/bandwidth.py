@@ -1,5 +1,5 @@
 #!/usr/bin/env python3
-"""Tells whether a thread in bandwidth mode runs within each stretch of one period for at most its budget, from the rows that the built program writes.
+"""Checks from rows that a thread in bandwidth mode runs at most its budget in any period, on random systems of versions 2 and 3.
 
 Random systems of versions 2 and 3 without orders run twice: with all their contexts in bandwidth mode, where none may have more than the budget, and with none, where
 some must, or else the systems show nothing. A context whose budget is its period is left out."""

@@ -1,5 +1,5 @@
 #!/usr/bin/env python3
-"""Tells whether the files in bin/ are the built programs and library of these sources, and, with --renew, puts them there.
+"""Checks that bin/ was built of these sources, and is what the gate has just built; with --renew, copies it.
 
 bin/SOURCES has the toolchain's line and, for each file, its SHA-256, and the digest of what it is built of: crates.txt, and the sources of its crate and
 of those below it. A digest that is not that of the sources is a failure, and so is a program or a library that was built here and has other bytes than

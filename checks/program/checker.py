@@ -1,7 +1,7 @@
 #!/usr/bin/env python3
-"""Tells whether mcscheck answers well: each of its statuses with its one line on standard error, and how far it is, on a terminal alone.
+"""Checks the exit codes and error lines of mcscheck, the examples of its page, and that progress is shown on a terminal alone.
 
-The cases are those of docs/FORMAT.md, whose example is run as it stands there. What is refused leaves nothing on standard output. A run of more than
+The cases are those of docs/CHECK.md, whose examples are run as they stand there. What is refused leaves nothing on standard output. A run of more than
 a second whose standard error is a terminal shows a line of how far it is, and wipes it before findings are written, and before it ends, well or
 not; a pipe sees nothing of that."""
 from __future__ import annotations
@@ -27,6 +27,8 @@ from checks.program.faults import DOUBLE_NAME, LONGEST, NOTHING, Case, begins, e
 from checks.program.progress import PATIENCE, WIPED, Command, terminal
 
 NAME = 'mcscheck'
+# the page, and the system of its examples
+PAGE, SYSTEM = TOP / 'docs' / 'CHECK.md', TOP / 'docs' / 'late.toml'
 CLEAN = 'missed 0 overdue 0 lost 0 never 0 merged 0 allowed 0 hints %d\n'
 READ_FAILED, WRITE_FAILED = (exactly(f'{NAME}: {what} failed\n'.encode()) for what in ('read', 'write'))
 NO_MEMORY = exactly(f'{NAME}: no memory\n'.encode())
@@ -54,25 +56,33 @@ script = ["compute 2"]
 '''
 
 
+class Shown(NamedTuple):
+    """A run of the example that docs/CHECK.md shows: its words, and what it writes."""
+
+    words: list[str]
+    written: bytes
+
+
 class Example(NamedTuple):
-    """The system of docs/FORMAT.md, and of each run the words and what it writes: its findings, its jobs, and its figures."""
+    """The system of docs/CHECK.md, as it stands there, with the runs that have findings, and the one that asks why a job took so long."""
 
     system: bytes
-    runs: list[tuple[list[str], bytes]]
+    runs: list[Shown]
+    answered: Shown
+
+    def shown(self, what: str) -> Shown:
+        """The first run with this word after --show."""
+        return next(run for run in self.runs if what in run.words)
 
 
 def example() -> Example:
-    text = (TOP / 'docs' / 'FORMAT.md').read_text().partition('\n### An example\n')[2].partition('\n### ')[0]
-    (_, system), *blocks = blocks_in(text)
-    words = [words.split() for words in re.findall(r'`mcscheck late\.toml (.*?)`', text)]
-    return Example(system.encode(), [(asked, written.encode()) for asked, (_, written) in zip(words, blocks, strict=True)])
-
-
-def answered() -> tuple[list[str], bytes]:
-    """Of the example of docs/FORMAT.md the words that ask why a round took so long, and what is written."""
-    text = (TOP / 'docs' / 'FORMAT.md').read_text().partition('\n### Its lines of a round\n')[2].partition('\n### ')[0]
-    words = re.findall(r'`mcscheck late\.toml (.*?)`', text)[0].split()
-    return words, blocks_in(text)[-1][1].encode()
+    blocks = blocks_in(PAGE.read_text())
+    system = next(text for kind, text in blocks if kind == 'toml').encode()
+    if system != SYSTEM.read_bytes():
+        common.stop(f'{PAGE.name} shows another system than {SYSTEM.name}')
+    runs = [Shown(text.split()[2:], written.encode()) for (kind, text), (_, written) in zip(blocks, blocks[1:]) if kind == 'sh']
+    asking = [run for run in runs if '--why' in run.words]
+    return Example(system, [run for run in runs if run not in asking], asking[0])
 
 
 def unknown(name: str, said: str) -> bytes:
@@ -85,12 +95,13 @@ def hinted(many: int) -> bytes:
 
 def cases_of_findings() -> Iterator[Case]:
     """Systems with findings, with hints alone, and with none."""
-    system, runs = example()
-    for words, written in runs:
+    shown = example()
+    system = shown.system
+    for words, written in shown.runs:
         yield Case(f'the example with {words}', words, system, exactly(written), NOTHING, 5)
         yield Case(f'two workers with {words}', [*words, '--workers', '2'], system, exactly(written), NOTHING, 5)
-    (words, written), _, (_, figures), *_ = runs
-    both = written[:written.rindex(b'missed ')] + figures
+    words, written = shown.shown('findings')
+    both = written[:written.rindex(b'missed ')] + shown.shown('table').written
     ways: tuple[list[str], ...] = ([], ['--show', 'both'], ['--workers', '2'])
     for asked in ways:
         yield Case(f'findings and figures with {asked}', ['--horizon', '30', *asked], system, exactly(both), NOTHING, 5)
@@ -146,7 +157,7 @@ def cases_of_words(folder: pathlib.Path) -> Iterator[Case]:
 
 def cases_of_rounds(folder: pathlib.Path) -> Iterator[Case]:
     """Why a round took so long, and rounds that are not there; each fault comes before those behind it."""
-    system, (words, written) = example().system, answered()
+    system, _, (words, written) = example()
     ways: tuple[list[str], ...] = ([], ['--workers', '2'], ['--format', 'text'])
     for more in ways:
         yield Case(f'a round with {more}', [*words, *more], system, exactly(written), NOTHING, 0)
@@ -177,7 +188,7 @@ def no_thread(name: str, said: str) -> bytes:
 
 def cases_of_targets() -> Iterator[Case]:
     """A device that takes nothing."""
-    system, runs = example()
+    system, runs, _ = example()
     for words, _ in runs:
         yield Case(f'{words} on a full device', words, system, NOTHING, WRITE_FAILED, 3, '/dev/full')
     yield Case('help on a full device', ['--help'], b'', NOTHING, WRITE_FAILED, 3, '/dev/full')

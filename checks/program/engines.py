@@ -1,5 +1,5 @@
 #!/usr/bin/env python3
-"""Tells whether a sweep gives the same CSV by each engine as by local jobs.
+"""Checks that a sweep by xargs, GNU parallel or Slurm writes the CSV of local jobs.
 
 A sweep of combinations of a system is run by local jobs, and by what is there: `xargs`, GNU parallel, a Slurm whose `sinfo` answers, and dask's workers
 at the address that --dask gives. Nothing is started for that. With --set-up, by hand and as root on a machine of Debian with the packages of

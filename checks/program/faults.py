@@ -1,5 +1,5 @@
 #!/usr/bin/env python3
-"""Tells whether the built program answers well where something is wrong: its words, its file, its input, or the place that it writes to.
+"""Checks the texts and exit codes of the programs if options, files, input or output are wrong, and the help.
 
 Standard output, standard error and status of each run are compared with what docs/FORMAT.md says. Beside the faults there are its help, and the
 schedule of a file that is named."""

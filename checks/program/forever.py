@@ -1,5 +1,5 @@
 #!/usr/bin/env python3
-"""Tells whether what mcscheck --forever says of all time holds as far as it can be run, on random systems and on some whose findings are known.
+"""Checks that claims of mcscheck --forever hold for three more periods, on 100 random systems and some whose findings are known.
 
 Of each set of cores that is said to repeat, mcsim runs three more periods: their rows are those of the first one, later, and their missed deadlines and
 lost signals are as many. All lines are those of a second, plain reading (`checks/program/forever_reading.py`) of these rows, byte by byte, as text and as JSON,

@@ -1,5 +1,5 @@
 #!/usr/bin/env python3
-"""Tells whether what mcscheck --forever finds is so by a plain model, and how much of what the model finds it misses. docs/FOREVER.md says what is compared.
+"""Checks claims of mcscheck --forever by a plain model of the rules, and counts the repetitions that it misses.
 
 The model (checks/program/model.py) takes random systems as of verdicts.py moment by moment. A set that is said to repeat has to stand, a period after the
 moment from which on it does, as it stood before it. Where nothing is ever to be found, nothing is at any horizon of two periods. Then the model looks itself:

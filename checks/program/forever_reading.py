@@ -1,7 +1,7 @@
 """What mcscheck --forever has to write of a system, found a second time: from the file, the moments and periods that it claims, and the rows that mcsim
 writes of it. Each claim is run on for three more periods.
 
-It follows docs/FORMAT.md, and reads rows as reading.py does, tick by tick. That a set repeats without end no rows can show: they only show where it does
+It follows docs/CHECK.md, and reads rows as reading.py does, tick by tick. That a set repeats without end no rows can show: they only show where it does
 not."""
 from __future__ import annotations
 

@@ -1,5 +1,5 @@
 #!/usr/bin/env python3
-"""Tells whether the library for C answers what the program does: builds the examples in C and in Python over it, and runs the worked systems.
+"""Checks that the library for C returns what the program writes, from C, from Python and from several threads.
 
 Each run of the corpus is made by a call, in a room that is too small, in one that just fits, and in a larger one, whose bytes behind the answer stay
 as they were. The lines, or the line of the fault, are those of the program. The example in C and that in Python print the program's reports of each

@@ -1,6 +1,5 @@
 #!/usr/bin/env python3
-"""Tells what mypy (--strict) and pyflakes find in the Python of this repository: the packages checks and mcsim_tools, the tools themselves, the tests
-and the examples.
+"""Checks the Python of checks, tools and examples with mypy (--strict) and pyflakes.
 
 Both are Debian's (apt-get install mypy pyflakes3); pyproject.toml has the settings. One that is not installed is skipped by its name. Each finding is
 a failure, with its file and line; a file in which nothing is found is a pass."""

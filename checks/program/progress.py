@@ -1,5 +1,5 @@
 #!/usr/bin/env python3
-"""Tells whether mcsim shows how far it is, on a terminal alone.
+"""Checks that mcsim shows its progress on a terminal alone, and wipes it.
 
 A run of more than a second whose standard error is a terminal shows a line of how far it is, and wipes it before reports are written, and before it
 ends, well or not: with one worker and with several, with the schedule and with the reports. Where the schedule itself goes to a terminal there is no such

@@ -1,5 +1,5 @@
 #!/usr/bin/env python3
-"""Tells whether what the tools read off the rows of mcsim is what mcscheck finds, on random systems of versions 2 and 3.
+"""Checks that tools read off the rows what mcscheck finds, on 500 random systems of versions 2 and 3.
 
 One pass over rows (tools/mcsim_tools/reading.py) is behind pictures, traces, waves and sweeps. Its rounds that missed their deadline, those that are overdue,
 threads that were never activated, lost and merged signals, and how many ticks each thread stood in each way are those that `mcscheck --show both` tells. Of

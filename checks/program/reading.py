@@ -1,6 +1,6 @@
 """What mcscheck has to write of a system, found a second time: from the file and the rows that mcsim writes of it.
 
-It follows the definitions of crates/mcs_verdict and crates/mcs_hints, and docs/FORMAT.md. Nothing is kept from one row to the next: what is asked
+It follows the definitions of crates/mcs_verdict and crates/mcs_hints, and docs/CHECK.md. Nothing is kept from one row to the next: what is asked
 of a moment is looked up in the rows before it, tick by tick. So it takes small systems alone."""
 from __future__ import annotations
 

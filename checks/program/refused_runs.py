@@ -1,6 +1,5 @@
 #!/usr/bin/env python3
-"""Tells whether the built programs answer well wherever memory is refused: the n-th growth, for n = 1, 2, .. until a run meets none, and then all
-growths from the n-th on.
+"""Checks that the programs report out of memory wherever an allocation fails: each allocation of some runs, in turn and from there on.
 
 Worked systems run with 1 and 2 workers, one of them for all time, and there are a malformed file and the help, and for mcscheck a name that no notification has. Each run gives
 the bytes and the status that it must give, or `mcsim: no memory` with status 4 and a first part of those bytes; where growths were refused only while
@@ -76,12 +75,12 @@ def kinds_of_events(program: pathlib.Path) -> Iterator[Kind]:
 
 
 def kinds_of_checker() -> Iterator[Kind]:
-    system, runs = checker.example()
+    system, runs, answered = checker.example()
     for words, written in runs:
         for workers in ('1', '2'):
             asked = [*words, '--workers', workers, '--allow-lost', 'fire']
-            yield Kind('mcscheck', f'the example of FORMAT with {" ".join(words)}, {workers} workers', asked, system, 5, written, b'')
-    asked, written = checker.answered()
+            yield Kind('mcscheck', f'the example of CHECK with {" ".join(words)}, {workers} workers', asked, system, 5, written, b'')
+    asked, written = answered
     for workers in ('1', '2'):
         yield Kind('mcscheck', f'a round of that example, {workers} workers', [*asked, '--workers', workers], system, 0, written, b'')
     near = checker.unknown('tik', 'the nearest is tick')

@@ -1,5 +1,5 @@
 #!/usr/bin/env python3
-"""Tells whether each test of each crate, or of those that are named, passes or tells of want of memory wherever a growth of memory is refused.
+"""Checks that each test passes, or reports out of memory, wherever an allocation fails.
 
 Its n-th growth is refused, for n = 1, 2, .. until a run meets none; past the thousandth n goes on by a hundredth of its thousands. `rt test` builds
 the tests of a crate first, and proves what has changed (`rt try --test --fail-alloc N`, which does this of one growth, would build them anew for

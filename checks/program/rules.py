@@ -1,5 +1,5 @@
 #!/usr/bin/env python3
-"""Tells whether the schedules of the built program are those of a plain model of the rules (checks/program/model.py), row by row.
+"""Checks each row of the program against a plain model of the rules (checks/program/model.py), on 1,000 random systems.
 
 Each random system is of version 2 or 3, and some have orders, calls of several ticks and a least budget. A file that the program refuses counts for
 nothing. The text of a system whose rows differ is kept, and its file named with the first row that differs. A kind of row or of stop that was seen

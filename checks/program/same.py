@@ -1,5 +1,5 @@
 #!/usr/bin/env python3
-"""same.py BEFORE AFTER   tells whether two builds of the programs do the same, byte for byte: standard output, standard error and exit code.
+"""Compares two builds of the programs byte for byte: output, standard error and exit code, in some 37,000 runs.
 
 BEFORE and AFTER are each a folder with mcsim and mcscheck, such as bin/, a checkout in which both were built, or one of the two programs; what both
 have is compared. Each random system is run with every --show and --format, once with one worker and once with four; and with mcscheck also for all

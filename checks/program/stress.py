@@ -1,5 +1,5 @@
 #!/usr/bin/env python3
-"""Tells whether the built program gives with several workers what it gives with one, and always ends, on small random systems.
+"""Checks that runs with several workers end, with the bytes and exit code of one worker, on 2,000 small random systems.
 
 Each system has 1 to 8 cores, some with delays of their own for pairs of cores, and is run up to a random horizon with 2 to 8 workers, as it is, on
 one processor, with more workers than processors (64), and with no thread to be had (an address space too small for a thread's stack, and no further

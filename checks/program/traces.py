@@ -1,5 +1,5 @@
 #!/usr/bin/env python3
-"""Tells whether tools/trace keeps the rules of the trace event format, which viewers enforce in silence, and shows what rows say.
+"""Checks that tools/trace keeps the rules of the trace event format, and shows the ticks that the reports have.
 
 Over the examples and random systems of versions 2 and 3, some with orders and a least budget: each event has the keys of its phase; slices of a track have a length and never overlap; a track has a name; a
 flow has one beginning and one end, in this order and each inside a slice. The ticks of the running slices of a thread are those that the reports

@@ -1,5 +1,5 @@
 #!/usr/bin/env python3
-"""Tells whether the scripts of checks/ and tools/ do what they say: runs the unit tests in checks/tests and tools/tests."""
+"""Runs the unit tests of checks/tests and tools/tests."""
 from __future__ import annotations
 
 import pathlib

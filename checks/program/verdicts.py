@@ -1,5 +1,5 @@
 #!/usr/bin/env python3
-"""Tells whether mcscheck finds what a second, plain reading finds in the rows that mcsim writes, byte by byte, and its statuses.
+"""Checks that mcscheck writes what a second, plain reading of the rows finds, byte for byte, on 1,000 random systems.
 
 Each random system has deadlines, signals that are lost or merged, orders, and contexts without a thread; it is checked as it is, once more with some
 of the words --workers, --strict and --allow-lost, and with the rounds that ended or figures in place of findings, and some with a notification that

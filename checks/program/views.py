@@ -1,5 +1,5 @@
 #!/usr/bin/env python3
-"""Tells whether the pages of tools/view show what schedules say, in a real browser: a headless Chromium, where one is installed.
+"""Checks in a headless Chromium that pages of tools/view show what the rows say, also when they are zoomed, searched and clicked.
 
 Each system is drawn as a page and opened. Bars, signs and lines that stand in the page are counted, and the ticks of a thread's bars summed, and held
 against the rows, which are read here once more in another way. Then the wheel is turned, the picture is drawn aside, a bar is pointed at, and a

@@ -1,5 +1,5 @@
 #!/usr/bin/env python3
-"""Tells whether tools/waves makes waves that say what a schedule says, for each worked schedule of crates/mcs_corpus/data.
+"""Checks that the waves of tools/waves say what the rows of each worked schedule say.
 
 A dump is read back, and for each core the thread that runs, for each thread whether it runs, the date of its budget and its rounds, for each
 notification its word and its arrivals are compared, moment by moment, with what the rows say. The view that is saved beside it names each wave once.

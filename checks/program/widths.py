@@ -1,5 +1,5 @@
 #!/usr/bin/env python3
-"""Tells whether pages of tools/view are legible in windows of 420, 700, 1,366 and 1,920 pixels, in light and in dark, in a real browser.
+"""Checks in a browser that pages of tools/view are legible in windows of 420 to 1,920 pixels, light and dark.
 
 In each window nothing reaches beyond its right edge, no text is smaller than 11 pixels, the text of the picture is told apart from its ground, the whole
 run can be seen and its end reached, and lanes, findings and buttons have names for a screen reader and are reached by Tab. With --pictures FOLDER

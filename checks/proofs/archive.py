@@ -1,5 +1,5 @@
 #!/usr/bin/env python3
-"""Builds the library for C, crates/mcs_c/out/libmcs_c.a, of the crates that the gate has just proved here (./test, or rt ci).
+"""Builds the library for C, crates/mcs_c/out/libmcs_c.a, of the crates that the gate has just proved here.
 
 The gate proves mcs_c too, but builds programs alone, and `rt lib` builds a library of crates that it proves once more, each of them: an hour for what
 the gate has done. So rt is loaded as a module, and its build of a library is called with the crates as the gate left them. mcs_c itself is proved on the

@@ -1,5 +1,5 @@
 #!/usr/bin/env python3
-"""Tells where a comment right above an item or a field is no doc comment; with --write, makes it one.
+"""Checks that comments on items and fields are doc comments; with --write, makes them so.
 
 The rule is: `///` on each item and field that needs a word, whoever sees it, and `//` inside bodies alone. An item is a function, a type, a trait, a constant
 or a block of an `impl`; a field is that of a struct or a variant. Each file of crates/*/src counts as one try."""

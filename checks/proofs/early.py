@@ -1,5 +1,5 @@
 #!/usr/bin/env python3
-"""Tells in some seconds what the gate (rt ci) refuses before it proves anything, and which edits cannot be applied.
+"""Checks in seconds what the gate refuses before it proves anything: layout, files that nothing reads, edits that cannot be applied.
 
 That is a layout that is not that of rt fmt, a file that no check reads, a module without a file, an operator under another name. An edit, whether the
 gate tries it or not, cannot be applied where its text does not stand once. And the launcher mcsim is asked for the crates that it proves: they are

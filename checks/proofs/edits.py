@@ -1,5 +1,5 @@
 #!/usr/bin/env python3
-"""edits.py [CRATE ..] [--edit NAME]   tries edits that the prover must refuse, and that the gate does not try: those of crates/CRATE/edits.
+"""Tries the edits that the prover must refuse and that the gate leaves out: those of crates/CRATE/edits.
 
 They turn functions whose contracts pin the result, so that any wrong body is refused; who changes a crate tries them. With --all those of
 crates/CRATE/must-fail are tried too, which the gate tries. With --look each is only read: whether it can be applied is told at once.

@@ -1,5 +1,5 @@
 #!/usr/bin/env python3
-"""Tells what the table of wrong bodies holds: checks/proofs/edits.csv, which `edits.py --table` writes as it tries them.
+"""Checks the table of wrong bodies, checks/proofs/edits.csv, which `edits.py --table` writes as it tries them.
 
 The table has a row for each edit of crates/*/must-fail and crates/*/edits that was tried: its crate, its name, what came of it, the CPU seconds, the
 goal that refused it, and the digest of the sources on which it was tried. The digest sums src, specs and proofs of the crate and of those

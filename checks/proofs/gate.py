@@ -1,5 +1,5 @@
 #!/usr/bin/env python3
-"""Tells what takes the time in the gate: runs it (rt ci), and then writes a table of the CPU seconds by crate, in Markdown.
+"""Runs the gate (rt ci), and writes a table of its CPU seconds by crate, in Markdown.
 
 After the table: the longest chain of tasks of which each waits for the one before, the wall time on 2 and on 4 processors by a model, and the dearest
 edits. With TIMES all this goes to that file too. A task that an earlier gate on this machine kept takes next to nothing, so a whole table needs

@@ -1,5 +1,5 @@
 #!/usr/bin/env python3
-"""take.py [CHECKOUT]   gives a checkout the libraries that a gate on this machine has proved of the same files.
+"""Gives a checkout the libraries that a gate on this machine has proved of the same files.
 
 Then `rt check` in a crate begins at once, where it would first prove what is below: the gate (`rt ci`) keeps what it proved for later gates, and
 `rt check` alone does not look there. It may be called while a gate runs, and again when that has proved more. What is taken is held to the sum of all

@@ -1,5 +1,5 @@
 #!/usr/bin/env python3
-"""Tells whether the worked theorems of crates/mcs_worked are those of the worked systems of crates/mcs_corpus/data; with --write, writes them so.
+"""Checks that the worked theorems of crates/mcs_worked are those of the files in crates/mcs_corpus/data; with --write, writes them.
 
 A theorem is `schedule SYSTEM HORIZON ≡ ROWS`, proved by computing. A system NAME is a file `NAME.toml`. In the folder `NAME` its run `schedule`, or
 else its run `both`, has two files: `RUN.words`, of which only `--horizon N` counts, and `RUN.stdout`, of which lines of reports are passed over. All

@@ -43,6 +43,20 @@ ALWAYS_TRIED = (
     'mcs_load/config_config_later_fault_first',
     'mcs_load/values_number_repairs_a_bad_file',
     'mcs_cli/streams_read_text_blames_a_source_that_did_not_fail',
+    # verdicts: a round that is let go
+    'mcs_verdict/account_see_lets_a_taken_word_begin_no_round',
+    'mcs_course/course_missed_by_takes_what_is_overdue',
+    # for all time: what is forgotten when two moments are compared
+    'mcs_forever/marks_joined_forgets_the_round',
+    'mcs_image/threads_stands_alike_forgets_what_is_left',
+    'mcs_under_way/signals_see_forgets_the_row',
+    'mcs_recurs/shifts_between_leaves_the_signals_out',
+    'mcs_recurring/doings_subject_forgets_a_wake',
+    'mcs_search/search_recurs_lets_an_order_pass',
+    'mcs_lockstep/turns_take_turns_leaves_the_first_core_behind',
+    # for all time: what is said of it
+    'mcs_outlook/settle_is_never_found_lets_a_miss_pass',
+    'mcs_check_forever/verdict_of_takes_open_for_clean',
 )
 
 
@@ -107,9 +121,10 @@ class Places(unittest.TestCase):
 
     def test_pages_say_how_many_the_gate_tries(self) -> None:
         tried, left_out = (len(list(edits.TOP.glob(f'crates/*/{place}/*.edit'))) for place in ('must-fail', 'edits'))
-        page, other = ((edits.TOP / name).read_text() for name in ('README.md', 'CONTRIBUTING.md'))
-        for text, said in ((page, f'tries {tried} edits'), (page, f'has {tried + left_out} such edits'), (page, f'the other {left_out},'), (other, f'the {tried} edits')):
-            self.assertIn(said, ' '.join(text.split()))
+        readme, other = (' '.join((edits.TOP / name).read_text().split()) for name in ('README.md', 'CONTRIBUTING.md'))
+        self.assertIn(f'tries {tried} of {tried + left_out} wrong bodies', readme)
+        self.assertIn(f'the {tried} edits of `must-fail`', other)
+        self.assertIn(f'the other {left_out}', other)
 
     def test_no_edit_stands_in_both_folders(self) -> None:
         places = [f'{edit.parent.parent.name}/{edit.stem}' for place in ('edits', 'must-fail') for edit in edits.TOP.glob(f'crates/*/{place}/*.edit')]

@@ -212,5 +212,29 @@ class OfChecks(InFolder):
         self.assertEqual(self.told('print("9 passed, 0 failed")\nsys.exit(1)'), (1, '11 passed, 1 failed, 1 skipped'))
 
 
+class Tables(unittest.TestCase):
+    def test_the_page_of_checks_has_the_tables_of_today(self) -> None:
+        page = everything.PAGE.read_text(encoding='utf-8')
+        self.assertEqual(everything.with_tables(page), page, 'checks/everything.py --write')
+        self.assertIn(everything.tables(), page)
+
+    def test_each_script_is_in_them(self) -> None:
+        scripts = {path.stem for folder in ('program', 'pages', 'proofs', 'measure') for path in (CHECKS / folder).glob('*.py') if '__main__' in path.read_text()}
+        listed = [check.name for check in everything.CHECKS] + [name for _, name in everything.BY_HAND]
+        # gate.py runs it
+        self.assertEqual(sorted(listed), sorted(scripts - {'timed_rt'}))
+
+    def test_a_script_does_what_its_first_paragraph_says(self) -> None:
+        with tempfile.TemporaryDirectory() as folder:
+            script = pathlib.Path(folder, 'script.py')
+            for text, wanted in (('"""Checks one\nthing.\n\nAnd more."""\n', 'Checks one thing.'), ('"""Checks."""\n', 'Checks.'), ('import sys\n', '')):
+                script.write_text(text)
+                self.assertEqual(everything.does(script), wanted)
+
+    def test_tables_stand_between_marks(self) -> None:
+        page = f'before\n\n{everything.BEGINS}\n\nold\n\n{everything.ENDS}\nafter\n'
+        self.assertEqual(everything.with_tables(page), page.replace('old\n', everything.tables()))
+
+
 if __name__ == '__main__':
     unittest.main()

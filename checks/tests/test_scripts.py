@@ -90,16 +90,16 @@ class WrongPrograms(unittest.TestCase):
         self.assertGreater(self.tally('pages', 'exit 0').failed, 4)
 
     def test_a_program_that_complains_writes_no_page(self) -> None:
-        # two commands of the pages run a tool alone; four jobs have a form, and one of them draws what the program says, which is nothing
-        self.assertLessEqual(self.tally('pages', 'echo wrong >&2').passed, 7)
+        # two commands of the pages run a tool alone; README shows a file; four jobs have a form, and one of them draws what the program says, which is nothing
+        self.assertLessEqual(self.tally('pages', 'echo wrong >&2').passed, 8)
 
     def test_a_program_that_says_nothing_draws_no_picture(self) -> None:
         self.assertGreater(self.tally('pictures', 'exit 0').failed, 4)
 
     def test_a_program_that_takes_every_file_has_no_fault_of_the_page(self) -> None:
         # of each wrong file, and what tools/explain says of it, and of each wrong command
-        wrong = [part.wrong[0] for parts in mended.headings().values() for part in parts]
-        self.assertEqual(self.tally('mended', 'exit 0').failed, 2 * wrong.count('toml') + wrong.count('sh') + 1)
+        parts = mended.parts_of(mended.PAGE.read_text(), mended.BASE.read_text())
+        self.assertEqual(self.tally('mended', 'exit 0').failed, len(parts) + sum(part.is_file for part in parts) + 1)
 
     def test_a_program_without_help_is_not_run_with_refused_memory(self) -> None:
         self.assertEqual(self.tally('refused_runs', 'exit 0').failed, 1)
@@ -214,6 +214,17 @@ class Rules(unittest.TestCase):
                 with contextlib.redirect_stdout(io.StringIO()), mock.patch('checks.pages.pages.TOP', page.parent):
                     pages.try_questions(pathlib.Path('mcsim'), page, count)
             self.assertEqual((count.tally.passed, count.tally.failed), (2 - failed, failed))
+
+    def test_a_file_that_a_page_names_and_shows_is_what_it_shows(self) -> None:
+        for shown, failed in (('version = 3\ncores = 1\n', 0), ('version = 3\ncores = 2\n', 1)):
+            count = common.Count()
+            with tempfile.TemporaryDirectory() as folder:
+                page = pathlib.Path(folder, 'page.md')
+                pathlib.Path(folder, 'one.toml').write_text('#:schema s\n# One.\nversion = 3\n\ncores = 1\n')
+                page.write_text(f'Here is [one.toml](one.toml), as it is:\n\n```toml\n{shown}```\n\nAnd [another](two.toml).\n\n```toml\ncall = 1\n```\n')
+                with contextlib.redirect_stdout(io.StringIO()), mock.patch('checks.pages.pages.TOP', page.parent):
+                    pages.try_files(page, count)
+            self.assertEqual((count.tally.passed, count.tally.failed), (1 - failed, failed))
 
     def test_the_lines_of_a_job_are_those_for_a_shell(self) -> None:
         job = {'name': 'one', 'steps': [{'uses': 'other'}, {'run': 'a'}, {'name': 'two', 'run': 'b'}]}

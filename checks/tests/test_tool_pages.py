@@ -4,6 +4,7 @@ from __future__ import annotations
 import unittest
 from unittest import mock
 
+from checks import common
 from checks.pages import tool_pages
 from mcsim_tools.options import Options
 
@@ -73,7 +74,7 @@ class Tools(unittest.TestCase):
             self.assertEqual(tool_pages.parser_of(tool).prog, f'mcsim-{tool}')
 
     def test_all_of_it_is_installed(self) -> None:
-        lines = [line.split() for line in (tool_pages.TOP / 'launcher' / 'installed').read_text().splitlines()]
+        lines = [line.split() for line in (common.TOP / 'launcher' / 'installed').read_text().splitlines()]
         installed = {tuple(line[:2]) for line in lines if line and line[0] != '#'}
         for tool in tool_pages.tools():
             name = f'mcsim-{tool}'

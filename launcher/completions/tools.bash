@@ -4,7 +4,7 @@ _mcsim_tools() {
     case $tool in
         mcsim-explain) words='--help --version --program' ;;
         mcsim-live) words='--help --version --horizon --program --from --to --tick-us --budgets --threads --cores --lanes --most --width --theme --port --limit' ;;
-        mcsim-microkit) words='--help --version --work --tick-us --output' ;;
+        mcsim-microkit) words='--help --version --work --partial --tick-us --output' ;;
         mcsim-sweep) words='--help --version --set --least --greatest --of --horizon --jobs --emit --run --again --collect --program --checker --output' ;;
         mcsim-tasks) words='--help --version --priorities --clocks --random --utilisation --seed --periods --list --analyse --horizon --program --output' ;;
         mcsim-trace) words='--help --version --horizon --program --rows --tick-ns --budgets --output' ;;

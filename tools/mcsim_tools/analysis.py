@@ -1,8 +1,8 @@
 """Response-time analysis of periodic tasks with fixed priorities on one core.
 
-Joseph and Pandya, and Audsley: R = C + sum over greater priorities of ceil(R / T) C. Where a job ends after the next one has come, Lehoczky: each job of
-the busy stretch that begins when all tasks come together is looked at. A task's *work* is what its response has in it, its *cost* what lesser ones see
-of a job: the same, but for a call that comes after the response."""
+Joseph and Pandya, and Audsley: R = C + sum over greater priorities of ceil(R / T) C. If a job ends after the next release, Lehoczky: the analysis takes
+each job of the busy period that begins when all tasks are released together. A task's *work* is what its response has in it. Its *cost* is what a job
+takes from tasks of lower priority: the same, and the call that comes after the response."""
 from __future__ import annotations
 
 import fractions
@@ -42,7 +42,7 @@ class Demand(NamedTuple):
 
 
 def is_too_much(demands: Sequence[Demand], effort: Effort) -> bool:
-    """Whether tasks ask for more than the core has."""
+    """Whether the utilisation of tasks is above 1."""
     effort.take(len(demands))
     near = math.fsum(one.cost / one.period for one in demands)
     if abs(near - 1) > NEAR:
@@ -52,12 +52,12 @@ def is_too_much(demands: Sequence[Demand], effort: Effort) -> bool:
 
 
 def jobs_until(moment: int, period: int) -> int:
-    """How many jobs have come before a moment, the first one at 0."""
+    """How many jobs were released before a moment, the first one at 0."""
     return -(-moment // period)
 
 
 def settled(end: int, own: int, others: Sequence[Demand], effort: Effort) -> int:
-    """The least moment, from one on, until which own work and the jobs of others that have come are done. It must exist."""
+    """The first moment, from one on, at which own work and all released jobs of others are done. It must exist."""
     while True:
         effort.take(len(others) + 1)
         longer = own + sum(jobs_until(end, one.period) * one.cost for one in others)
@@ -67,12 +67,12 @@ def settled(end: int, own: int, others: Sequence[Demand], effort: Effort) -> int
 
 
 def ends_at(own: int, others: Sequence[Demand], effort: Optional[Effort] = None) -> int:
-    """When work that is there at 0 is done, under others that all come at 0."""
+    """When work that is released at 0 is done, under others that are all released at 0."""
     return settled(own, own, others, effort or Effort())
 
 
 def bound(own: Demand, greater: Sequence[Demand], effort: Optional[Effort] = None) -> Optional[int]:
-    """The greatest response of a task under others of greater or equal priority; None where they ask for more than the core has."""
+    """The maximum response of a task under others of higher or equal priority; None if their utilisation is above 1."""
     effort = effort or Effort()
     if is_too_much([own, *greater], effort):
         return None
@@ -86,6 +86,6 @@ def bound(own: Demand, greater: Sequence[Demand], effort: Optional[Effort] = Non
 
 
 def busy_stretch(demands: Sequence[Demand], effort: Optional[Effort] = None) -> Optional[int]:
-    """How long a core is busy from the moment at which all tasks come; None where that has no end."""
+    """How long a core is busy from the moment at which all tasks are released; None if that has no end."""
     effort = effort or Effort()
     return None if is_too_much(demands, effort) else settled(sum(one.cost for one in demands), 0, demands, effort)

@@ -20,10 +20,12 @@ KEYS = {
     'order': ('at', 'core', 'budget', 'period', 'extra_refills'),
     'link': ('delay',),
     'server': ('core', 'priority', 'script'),
-    'source': ('badge', 'period', 'start', 'count'),
+    'source': ('badge', 'period', 'start', 'count', 'at'),
     'chain': ('badges', 'deadline'),
 }
 SCRIPT = 'script'
+# the list of a source; the `at` of an order is one number
+DATES = ('source', 'at')
 # items whose last part is a number
 NUMBERED = ('compute', 'signal', 'on', 'call')
 RANGE = re.compile(r'[0-9]+:[0-9]+(?::[0-9]+)?')
@@ -31,7 +33,8 @@ RANGE = re.compile(r'[0-9]+:[0-9]+(?::[0-9]+)?')
 
 @dataclass(frozen=True)
 class Place:
-    """A place of a system's tables, such as `context.control.budget`: a section, and in it a row by its number, a key of the row and an item of a script."""
+    """A place of a system's tables, such as `context.control.budget`: a section, and in it a row by its number, a key of the row and an item of a script
+    or a date."""
 
     text: str
     section: str
@@ -48,6 +51,8 @@ class Place:
         if self.key == SCRIPT:
             words = row[SCRIPT][self.item].split()
             row[SCRIPT][self.item] = ' '.join([*words[:-1], str(value)])
+        elif (self.section, self.key) == DATES:
+            row[self.key][self.item] = value
         else:
             row[self.key] = value
 
@@ -70,6 +75,8 @@ def place_of(text: str, tables: Tables) -> Place:
         raise Fault(f'{text}: the key {key!r} of a {section} is none of {", ".join(KEYS[section])}')
     if key == SCRIPT:
         return Place(text, section, row, key, item_of(text, rest[2:], tables[section][row][SCRIPT]))
+    if (section, key) == DATES:
+        return Place(text, section, row, key, date_of(text, rest[2:], tables[section][row].get(key, [])))
     if len(rest) > 2:
         raise Fault(f'{text}: nothing stands behind {section}.{rest[0]}.{key}')
     return Place(text, section, row, key)
@@ -95,6 +102,14 @@ def item_of(text: str, rest: list[str], script: list[str]) -> int:
         raise Fault(f'{text}: behind script stands the number of an item, 1 to {len(script)}')
     if script[number - 1].split()[0] not in NUMBERED:
         raise Fault(f'{text}: the item {script[number - 1]!r} has no number')
+    return number - 1
+
+
+def date_of(text: str, rest: list[str], dates: list[int]) -> int:
+    """The number of a source that is set."""
+    number = digits.number(rest[0], 1, len(dates)) if len(rest) == 1 else None
+    if number is None:
+        raise Fault(f'{text}: behind at stands the place of a number, 1 to {len(dates)}' if dates else f'{text}: the source has no list `at`')
     return number - 1
 
 

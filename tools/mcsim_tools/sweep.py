@@ -8,7 +8,7 @@ overdue and never activated, with chains also what was slow and unanswered, and 
 a line with the exit code 1 and the fault. A run that fails in another way ends the sweep: it is no answer about the system.
 
 A PLACE is context.NAME.KEY, thread.NAME.KEY, note.NAME.KEY, thread.NAME.script.K (the number of item K, from 1), order.K.KEY (the K-th order),
-link.MAKER-HOME.delay, or delay, call or min_budget, and in version 3 server.NAME.KEY, server.NAME.script.K, source.NAME.KEY and chain.NAME.KEY. VALUES are
+link.MAKER-HOME.delay, or delay, call or min_budget, and in version 3 server.NAME.KEY, server.NAME.script.K, source.NAME.KEY, source.NAME.at.K (number K of its list) and chain.NAME.KEY. VALUES are
 A:B:STEP with B in it, A:B, or a list with commas. --of looks at the findings of these threads alone, at signals lost where they wait, and at chains that
 end with them. A sweep with -o that was interrupted goes on where it was, by the same words and the same programs:
 what is done stands in FILE.csv.part.

@@ -1,18 +1,18 @@
 """tasks TASKS.csv [-o FILE] [--analyse]
 tasks --random N --utilisation U --seed S [-o FILE] [--analyse]
 
-Makes a system's file for mcsim of a list of periodic tasks: a CSV whose first line names its columns, `name`, `work` and `period`, and where they are
-wanted `deadline` (default: the period), `offset` (0), `priority` (the greatest runs first) and `core` (0). Times are ticks. Without priorities those
-of the shortest period are the greatest (rate monotonic); `--priorities deadline` takes the shortest deadline.
+Makes a system's file for mcsim of a list of periodic tasks: a CSV whose first line names its columns, `name`, `work` and `period`, and, if they are
+wanted, `deadline` (default: the period), `offset` (0), `priority` (the maximum runs first) and `core` (0). Times are ticks. If no task has a priority,
+the shortest period gets the maximum (rate monotonic); `--priorities deadline` takes the shortest deadline.
 
-A task is a thread with a budget of its work in its period, so that its context is its clock, and its script computes the work. With --clocks each has a
-clock on a core of its own and waits for it, as on a board; each wait costs a call. Both forms agree with the analysis to the tick.
+A task is a thread with a budget of its work in its period, in mode sporadic. The context lets it run once in each period, and its script computes the
+work. With --clocks each waits for a timer of its own, a source, as on a board; each wait costs a call. Both forms agree with the analysis to the tick.
 
---analyse runs the system and writes a CSV: for each task the bound of response-time analysis (none where its core is asked for more than it has), the
-greatest response seen, counted from its release, and their ratio. A job that had not ended at the horizon counts with its age. Without --horizon the
-run is as long as the answer needs: one busy stretch where all tasks of a core begin together, else until the schedule repeats.
+--analyse runs the system and writes a CSV: for each task the bound of response-time analysis (none if more than the core has is asked of it), the
+maximum response seen, counted from its release, and their ratio. A job that had not ended at the horizon counts with its age. Without --horizon the
+run is as long as the answer needs: one busy period if all tasks of a core begin together, else until the schedule repeats.
 
---random makes a list by UUniFast; the same words give the same list, and --list writes it as CSV."""
+--random makes a list by UUniFast; the same options give the same list, and --list writes it as CSV."""
 from __future__ import annotations
 
 import argparse
@@ -187,18 +187,14 @@ def priority_of(task: Task) -> int:
 
 @dataclass(frozen=True)
 class Form:
-    """How tasks become threads: with a clock each, or with their contexts as clocks."""
+    """How tasks become threads: with a timer each, or with their contexts as clocks."""
 
     tasks: Sequence[Task]
     has_clocks: bool
 
     def __post_init__(self) -> None:
-        if not self.has_clocks:
-            return
-        if self.board + len(self.tasks) > MOST_CORES:
-            raise Fault(f'{len(self.tasks)} tasks with a clock each and {self.board} cores want {self.board + len(self.tasks)} cores, of at most {MOST_CORES}')
         for task in self.tasks:
-            if task.work + CALL > task.period:
+            if self.has_clocks and task.work + CALL > task.period:
                 raise Fault(f'work {task.work} of {task.name} and a call are above its period {task.period}')
 
     @property
@@ -207,8 +203,8 @@ class Form:
 
     @property
     def first(self) -> int:
-        """When a task of offset 0 is first released: once all threads wait for their clocks, and what that cost has come back."""
-        return max(task.period for task in self.tasks) + CALL + DELAY if self.has_clocks else 0
+        """When a task of offset 0 is first released: once all threads wait for their timers, and what that cost is replenished."""
+        return max(task.period for task in self.tasks) + len(self.tasks) * CALL if self.has_clocks else 0
 
     def demand(self, task: Task) -> Demand:
         return Demand(task.work, task.work + CALL if self.has_clocks else task.work, task.period)
@@ -226,21 +222,22 @@ class Form:
         return [self.bound(task, effort) for task in self.tasks]
 
     def tables(self) -> dict[str, Any]:
-        contexts = [{'name': task.name, 'core': task.core, 'budget': self.demand(task).cost, 'period': task.period} for task in self.tasks]
-        threads = [self.thread(task) for task in self.tasks]
-        tables: dict[str, Any] = {'version': 2, 'cores': self.board, 'delay': DELAY}
-        if not self.has_clocks:
-            return {**tables, 'context': contexts, 'thread': threads}
-        names = {task.name for task in self.tasks}
-        for place, task in enumerate(self.tasks):
-            clock = f'clock{place + 1}'
-            while clock in names:
-                clock += '_'
-            contexts.append({'name': clock, 'core': self.board + place, 'budget': CALL, 'period': task.period})
-            start = self.first - CALL - DELAY + task.offset
-            threads.append({'name': clock, 'context': clock, 'priority': 1, 'start': start, 'script': [f'signal {task.name} 1']})
-        notes = [{'name': task.name, 'core': task.core} for task in self.tasks]
-        return {**tables, 'cores': self.board + len(self.tasks), 'call': CALL, 'context': contexts, 'note': notes, 'thread': threads}
+        """The system, in version 3."""
+        tables: dict[str, Any] = {'version': 3, 'cores': self.board, 'delay': DELAY, 'call': CALL, 'context': [self.context(task) for task in self.tasks]}
+        if self.has_clocks:
+            tables['note'] = [{'name': task.name, 'core': task.core} for task in self.tasks]
+            tables['source'] = [self.timer(task) for task in self.tasks]
+        tables['thread'] = [self.thread(task) for task in self.tasks]
+        return tables
+
+    def context(self, task: Task) -> dict[str, Any]:
+        """A budget of just the work, which agrees with the analysis in mode sporadic alone."""
+        cost = self.demand(task).cost
+        context: dict[str, Any] = {'name': task.name, 'core': task.core, 'budget': cost, 'period': task.period}
+        return {**context, 'mode': 'sporadic'} if cost < task.period else context
+
+    def timer(self, task: Task) -> dict[str, Any]:
+        return {'name': task.name, 'note': task.name, 'badge': 1, 'period': task.period, 'start': self.first + task.offset}
 
     def thread(self, task: Task) -> dict[str, Any]:
         thread: dict[str, Any] = {'name': task.name, 'context': task.name, 'priority': task.priority, 'deadline': task.deadline}
@@ -371,8 +368,8 @@ def tasks_of(asked: argparse.Namespace) -> list[Task]:
 def main() -> None:
     words = Options(__doc__)
     words.reads('tasks', nargs='?', metavar='TASKS.csv', help='the list of tasks')
-    words.add_argument('--priorities', choices=('given', 'rate', 'deadline'), help='whose: of the list, or by the shortest period or deadline')
-    words.add_argument('--clocks', action='store_true', help='gives each task a clock for which it waits')
+    words.add_argument('--priorities', choices=('given', 'rate', 'deadline'), help='those of the list, or by the shortest period or deadline')
+    words.add_argument('--clocks', action='store_true', help='gives each task a timer for which it waits')
     words.add_argument('--random', type=count, metavar='N', help='makes a list of N tasks')
     words.add_argument('--utilisation', type=share, default=0.7, metavar='U', help='what they ask of a core together (default: %(default)s)')
     words.add_argument('--seed', type=int, default=1, metavar='S', help='the seed of the list (default: %(default)s)')

@@ -46,7 +46,7 @@ thread = [
     { name = "A", context = "a", priority = 5, deadline = 10, script = ["wait n", "on 2", "call v 1"] },
     { name = "B", context = "b", priority = 5, script = ["spin"] },
 ]
-source = [{ name = "s", note = "n", badge = 1, period = 10 }]
+source = [{ name = "s", note = "n", badge = 1, period = 10 }, { name = "k", note = "n", badge = 2, period = 10, at = [0, 4] }]
 chain = [{ name = "e", source = "s", thread = "A", deadline = 8 }, { name = "f", source = "s", thread = "B" }]
 '''
 # what is found of chains: the earliest origin of an answer that came late, and one that has none
@@ -425,6 +425,7 @@ class Places(unittest.TestCase):
             ('server.v.script.2=1:2', lambda tables: tables['server'][0]['script'], [['on 1', 'compute 1'], ['on 1', 'compute 2']]),
             ('thread.A.script.2=4', lambda tables: tables['thread'][0]['script'], [['wait n', 'on 4', 'call v 1']]),
             ('thread.A.script.3=2', lambda tables: tables['thread'][0]['script'], [['wait n', 'on 2', 'call v 2']]),
+            ('source.k.at.2=5:6', lambda tables: tables['source'][1]['at'], [[0, 5], [0, 6]]),
             ('source.s.start=2', lambda tables: tables['source'][0], [{'name': 's', 'note': 'n', 'badge': 1, 'period': 10, 'start': 2}]),
             ('chain.e.deadline=5', lambda tables: tables['chain'][0]['deadline'], [5]),
         )
@@ -432,6 +433,10 @@ class Places(unittest.TestCase):
             self.assertEqual([look(tables) for tables in self.edited(text, NEW_SYSTEM)], wanted)
         with self.assertRaisesRegex(Fault, "thread.B.script.1: the item 'spin' has no number"):
             self.edited('thread.B.script.1=1', NEW_SYSTEM)
+        with self.assertRaisesRegex(Fault, 'source.k.at.3: behind at stands the place of a number, 1 to 2'):
+            self.edited('source.k.at.3=1', NEW_SYSTEM)
+        with self.assertRaisesRegex(Fault, 'source.s.at.1: the source has no list `at`'):
+            self.edited('source.s.at.1=1', NEW_SYSTEM)
 
     def test_no_place(self) -> None:
         for text, wanted in (

@@ -75,23 +75,26 @@ class Systems(unittest.TestCase):
     def test_contexts_as_clocks(self) -> None:
         tables = tomllib.loads(ran('name, work, period, offset\nslow, 3, 12, 5\nfast, 1, 4,\n').stdout)
         self.assertEqual(tables, {
-            'version': 2, 'cores': 1, 'delay': 1,
-            'context': [{'name': 'slow', 'core': 0, 'budget': 3, 'period': 12}, {'name': 'fast', 'core': 0, 'budget': 1, 'period': 4}],
+            'version': 3, 'cores': 1, 'delay': 1, 'call': 1,
+            'context': [{'name': 'slow', 'core': 0, 'budget': 3, 'period': 12, 'mode': 'sporadic'},
+                        {'name': 'fast', 'core': 0, 'budget': 1, 'period': 4, 'mode': 'sporadic'}],
             'thread': [
                 {'name': 'slow', 'context': 'slow', 'priority': 1, 'deadline': 12, 'start': 5, 'script': ['compute 3']},
                 {'name': 'fast', 'context': 'fast', 'priority': 2, 'deadline': 4, 'script': ['compute 1']},
             ],
         })
 
-    def test_a_clock_each(self) -> None:
-        tables = tomllib.loads(ran('name,work,period,core\na,1,4,0\nclock1,2,8,1\n', '--clocks').stdout)
-        self.assertEqual((tables['cores'], tables['call']), (4, 1))
-        self.assertEqual([(row['name'], row['core'], row['budget'], row['period']) for row in tables['context']],
-                         [('a', 0, 2, 4), ('clock1', 1, 3, 8), ('clock1_', 2, 1, 4), ('clock2', 3, 1, 8)])
-        self.assertEqual([(row['name'], row.get('start', 0), row['script']) for row in tables['thread']], [
-            ('a', 0, ['wait a', 'compute 1']), ('clock1', 0, ['wait clock1', 'compute 2']),
-            ('clock1_', 8, ['signal a 1']), ('clock2', 8, ['signal clock1 1']),
-        ])
+    def test_a_timer_each(self) -> None:
+        tables = tomllib.loads(ran('name,work,period,offset,core\na,1,4,0,0\nb,7,8,3,1\n', '--clocks').stdout)
+        self.assertEqual((tables['version'], tables['cores'], tables['call']), (3, 2, 1))
+        # the budget of b, its work and a call, is its period, so it is a time slice
+        self.assertEqual([(row['name'], row['core'], row['budget'], row['period'], row.get('mode')) for row in tables['context']],
+                         [('a', 0, 2, 4, 'sporadic'), ('b', 1, 8, 8, None)])
+        self.assertEqual([(row['name'], row['core']) for row in tables['note']], [('a', 0), ('b', 1)])
+        # the longest period is 8, and the first waits of two threads take 2 ticks
+        self.assertEqual(tables['source'], [
+            {'name': 'a', 'note': 'a', 'badge': 1, 'period': 4, 'start': 10}, {'name': 'b', 'note': 'b', 'badge': 1, 'period': 8, 'start': 13}])
+        self.assertEqual([(row['name'], row['script']) for row in tables['thread']], [('a', ['wait a', 'compute 1']), ('b', ['wait b', 'compute 7'])])
 
     def test_priorities(self) -> None:
         def priorities(text: str, *words: str) -> list[int]:

@@ -1,4 +1,5 @@
-//! The lines of what is shown, in each format. If memory runs out, a call leaves the text unchanged.
+//! The lines of what is shown, in each format. If memory runs out, a call leaves the text
+//! unchanged.
 ghost use Rattle.std.specs.Prelude.{◌≡◌, ◌++◌, OnOk, OnErr};
 ghost use Rattle.mcs_fields.specs.Fields.{object_text};
 ghost use Rattle.mcs_check.specs.Fields.{hint_fields};

@@ -1,4 +1,4 @@
--- What is kept of each thread and of each notification, row by row.
+-- The counts of each thread and of each notification, row by row.
 use Rattle.std.proofs.Common.{◌≡◌, ◌≢◌, ℕ, zero, suc, ◌+◌, ◌<◌, Bool, true, false, cond, ◌||◌, List, [], ◌∷◌, length, map, get_or, set, replicate, refl, sym, ap, ◌∙◌, Option, Some, None, arith}
 use Rattle.std.specs.Prelude.{◌==◌}
 use Rattle.std.specs.List.{range_with_len}
@@ -43,7 +43,7 @@ module _ {T : Type 0} (f g : ℕ → T) (n : ℕ) (d : T) where
           get_or-set_other (map f (range_with_len 0 n)) y x v d other
           ∙ get_or-map-range_with_len f 0 n x x d l (omega arith) ∙ same x e
 
--- one more of what is counted, as far as it is
+-- one more of a count, as far as 64 bits hold it
 capped-more : (n : ℕ) → one_more (capped n) ≡ capped (1 + n)
 capped-more n = grind arith
 
@@ -98,7 +98,7 @@ module _ (f : ℕ → Bool) (n : ℕ) where
       same : (y : ℕ) → (y == y) ≡ true
       same y = grind (arith, nat_tests)
 
--- whom a row tells of
+-- the thread or the notification that a row names
 whose-miss : (x : ℕ) (found : Option Finding) → is_some_of (missed_by found) x ≡ is_miss x found
 whose-miss x None = refl
 whose-miss x (Some (Miss y number response deadline activated queued stood)) = refl
@@ -132,7 +132,7 @@ whose-spent x (row.Got y note word) = refl
 whose-spent x (row.Order context) = refl
 whose-spent x (row.Interrupt source at_note badge) = refl
 
--- what is kept, of these lists
+-- the counts, by these lists
 abbrev pub course : List ℕ → List (Option ℕ) → List Bool → List ℕ → Course
 course misses greatest spent losses = record { misses = misses; greatest = greatest; spent = spent; losses = losses }
 

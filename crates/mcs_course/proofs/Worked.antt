@@ -1,5 +1,6 @@
--- What rows come to that were worked by hand. Thread 0 computes 2 ticks of each 4, within a deadline of 3: its first round ends 2 ticks after it was
--- activated, and its second one 4 ticks after, too late. Thread 1 has no deadline: it computes 4 ticks and signals a notification for which nobody waits.
+-- The counts of rows, by hand. Thread 0 computes 2 ticks of each 4, within a deadline of 3. Its
+-- first round ends 2 ticks after it was activated, and its second one 4 ticks after, too late.
+-- Thread 1 has no deadline: it computes 4 ticks and signals a notification for which nobody waits.
 use Rattle.std.specs.Prelude.{◌≡◌, ℕ, true, false, List, [], ◌∷◌, Some, None, refl}
 use Rattle.mcs_ticks.specs.declared.row.Row.{Row}
 use Rattle.mcs_ticks.specs.declared.row.What.{What}

@@ -1,4 +1,5 @@
--- What a schedule's rows came to so far, thread by thread and notification by notification. The rows are the latest first.
+-- The counts of a schedule's rows so far, thread by thread and notification by notification. The
+-- rows are the latest first.
 use Rattle.std.specs.Prelude.{ℕ, ◌+◌, ◌==◌, max, Bool, false, if◌then◌else◌, List, [], ◌∷◌, map, length, Option, Some, None}
 use Rattle.std.specs.List.{list_any, range_with_len}
 use Rattle.mcs_ticks.specs.Capped.{capped}
@@ -13,55 +14,57 @@ use Rattle.mcs_verdict.specs.declared.job.Job.{Job}
 use Rattle.mcs_verdict.specs.Findings.{finding}
 use Rattle.mcs_verdict.specs.Jobs.{job_of}
 
--- whether a finding is that a round of the thread missed its deadline
+-- whether a finding is a deadline miss of the thread
 abbrev pub is_miss : ℕ → Option Finding → Bool
 is_miss thread (Some (Miss x number response deadline activated queued stood)) = x == thread
 is_miss thread _ = false
 
--- and that a signal was lost at the notification
+-- whether a finding is a signal lost at the notification
 abbrev pub is_loss : ℕ → Option Finding → Bool
 is_loss note (Some (Lost x word)) = x == note
 is_loss note _ = false
 
--- whether the thread stops since the head of its context's refills, or its time slice, is wholly used
+-- whether the thread stops because the head of its context's refills, or its time slice, is wholly
+-- used
 abbrev pub is_spent : ℕ → What → Bool
 is_spent thread (row.Stop x why.Spent charged until) = x == thread
 is_spent thread _ = false
 
--- the greater of a response and what was the greatest before it
+-- the maximum of a response and the earlier maximum
 abbrev pub greater : Option ℕ → ℕ → ℕ
 greater None response = response
 greater (Some before) response = max before response
 
--- what a round makes of the greatest response of the thread
+-- the maximum response of the thread after a job
 abbrev pub or_greater : ℕ → Option Job → Option ℕ → Option ℕ
 or_greater thread None before = before
 or_greater thread (Some job) before = if job.thread == thread then Some (greater before job.response) else before
 
 module _ (system : System) where
-  -- how many findings pass a test, each of a row by those before it
+  -- the number of findings that pass a test, each of a row by those before it
   abbrev pub times : (Option Finding → Bool) → List Row → ℕ
   times test [] = 0
   times test (r ∷ past) = (if test (finding system past r.moment r.what) then 1 else 0) + times test past
 
-  -- how many rounds of the thread missed their deadline
+  -- the number of rounds of the thread that missed their deadline
   abbrev pub misses : ℕ → List Row → ℕ
   misses thread past = times (is_miss thread) past
 
-  -- how many signals were lost at the notification
+  -- the number of signals lost at the notification
   abbrev pub losses : ℕ → List Row → ℕ
   losses note past = times (is_loss note) past
 
-  -- the greatest response of a round of the thread that ended, from its activation, if one did
+  -- the maximum response of the thread's jobs, from their activations, if a round of it ended
   abbrev pub greatest : ℕ → List Row → Option ℕ
   greatest thread [] = None
   greatest thread (r ∷ past) = or_greater thread (job_of system past r.moment r.what) (greatest thread past)
 
--- whether the thread was ever stopped so
+-- whether the thread was ever stopped with its budget exhausted
 abbrev pub was_spent : ℕ → List Row → Bool
 was_spent thread past = list_any (λ (r : Row). is_spent thread r.what) past
 
--- for each thread what its rounds came to, and for each notification what was lost there; numbers as 64 bits hold them
+-- the counts of each thread, and the lost signals of each notification; numbers as 64 bits hold
+-- them
 pub record Course : Type 0 where
   pub misses : List ℕ
   pub greatest : List (Option ℕ)

@@ -12,7 +12,7 @@ use mcs_verdict::{Finding, Job};
 use std::alloc::Global;
 use std::marker::Model;
 
-/// The thread of which a round missed its deadline.
+/// The thread that missed its deadline.
 fn missed_by(found: &Option<Finding>) -> Option<usize>
     ensures { result ≡ missed_by found.now }
 {
@@ -22,7 +22,7 @@ fn missed_by(found: &Option<Finding>) -> Option<usize>
     }
 }
 
-/// The notification at which a signal was lost.
+/// The notification that lost a signal.
 fn lost_at(found: &Option<Finding>) -> Option<usize>
     ensures { result ≡ lost_at found.now }
 {
@@ -32,7 +32,7 @@ fn lost_at(found: &Option<Finding>) -> Option<usize>
     }
 }
 
-/// The thread that stops since its head or its time slice is wholly used.
+/// The thread that stops because its budget is exhausted.
 fn spent_by(what: &What) -> Option<usize>
     ensures { result ≡ spent_by what.now }
 {
@@ -46,7 +46,7 @@ fn spent_by(what: &What) -> Option<usize>
     }
 }
 
-/// The greater of a response and what was the greatest before it.
+/// The maximum of a response and the earlier maximum.
 fn greater(before: Option<u64>, response: u64) -> u64
     ensures { result ≡ greater before response }
 {
@@ -56,7 +56,7 @@ fn greater(before: Option<u64>, response: u64) -> u64
     }
 }
 
-/// One more at a place, if there is one.
+/// Adds one at a place, if there is one; the count stays at 2^64 - 1.
 fn count(counts: &mut [u64], place: Option<usize>)
     ensures { counts.new ≡ counted place counts.old }
 {
@@ -67,7 +67,7 @@ fn count(counts: &mut [u64], place: Option<usize>)
     }
 }
 
-/// A response more of the job's thread, if there is one.
+/// Adds the job's response to the maximum of its thread.
 fn raise(greatest: &mut [Option<u64>], job: &Option<Job>)
     ensures { greatest.new ≡ raised job.now greatest.old }
 {
@@ -80,7 +80,7 @@ fn raise(greatest: &mut [Option<u64>], job: &Option<Job>)
     }
 }
 
-/// A mark at a place, if there is one.
+/// Sets the flag at a place, if there is one.
 fn mark(marks: &mut [bool], place: Option<usize>)
     ensures { marks.new ≡ marked place marks.old }
 {
@@ -91,8 +91,8 @@ fn mark(marks: &mut [bool], place: Option<usize>)
     }
 }
 
-/// What a schedule's rows came to so far, for each thread and for each notification. Numbers are exact up to 2^64 - 1, where they stay. A row more takes
-/// constant time and no memory, since all room is taken when it is made.
+/// The counts of a schedule's rows so far, for each thread and for each notification. Numbers are
+/// exact up to 2^64 - 1, and stay there. One more row takes constant time and no memory.
 #[derive(Drop)]
 pub struct Course {
     misses: Vec<u64>,
@@ -115,7 +115,8 @@ impl Model for Course {
 }
 
 impl Course {
-    /// Before the first row of a run of the system. `NoMemory` where a growth was refused.
+    /// Returns the counts before the first row of a run of the system. Fails only if memory runs
+    /// out.
     pub fn new(alloc: Global, system: &System) -> Result<Self, NoMemory>
         ensures { IfOk result (λ course. course ≡ course_of system.now []) }
     {
@@ -129,7 +130,8 @@ impl Course {
         })
     }
 
-    /// After one row more, in constant time and without memory. A watch over the same rows tells of it what is found, and the round that it ends.
+    /// Adds one more row. Takes what a watch of the same rows returns for it: its finding and the
+    /// job that it ends. Constant time, no memory.
     pub fn see(&mut self, found: &Option<Finding>, job: &Option<Job>, row: &Row)
         ensures { (system : TheSystem) (past : List TheRow) → self.old ≡ course_of system past →
             found.now ≡ finding system past row.now.moment row.now.what → job.now ≡ job_of system past row.now.moment row.now.what →
@@ -141,7 +143,7 @@ impl Course {
         count(self.losses.as_mut_slice(), lost_at(found));
     }
 
-    /// The same once more. `NoMemory` where a growth was refused.
+    /// Returns a copy. Fails only if memory runs out.
     pub fn copy(&self, alloc: Global) -> Result<Course, NoMemory>
         ensures { IfOk result (λ copy. copy ≡ self.now) }
     {
@@ -153,14 +155,15 @@ impl Course {
         })
     }
 
-    /// How many rounds of the thread missed their deadline, and 0 where there is no such thread.
+    /// The deadline misses of the thread; 0 if there is no such thread.
     pub fn misses(&self, thread: ThreadId) -> u64
         ensures { result ≡ get_or self.now.misses thread 0 }
     {
         number_at(self.misses.as_slice(), thread.0)
     }
 
-    /// The greatest response of a round of the thread that ended, from its activation. None where none ended, or there is no such thread.
+    /// The maximum response of the thread's jobs, from their activations; `None` if no round of it
+    /// ended, or if there is no such thread.
     pub fn greatest(&self, thread: ThreadId) -> Option<u64>
         ensures { result ≡ get_or self.now.greatest thread None }
     {
@@ -171,15 +174,15 @@ impl Course {
         }
     }
 
-    /// Whether the thread was ever stopped since its budget was spent: the head of its context's refills, or its time slice, wholly used. No where there
-    /// is no such thread.
+    /// Whether the thread was ever stopped because its budget was exhausted: the head of its
+    /// context's refills, or its time slice, wholly used. `false` if there is no such thread.
     pub fn was_spent(&self, thread: ThreadId) -> bool
         ensures { result ≡ get_or self.now.spent thread false }
     {
         thread.0 < self.spent.len() && self.spent[thread.0]
     }
 
-    /// How many signals were lost at the notification, and 0 where there is no such notification.
+    /// The signals lost at the notification; 0 if there is no such notification.
     pub fn losses(&self, note: NoteId) -> u64
         ensures { result ≡ get_or self.now.losses note 0 }
     {
@@ -187,7 +190,7 @@ impl Course {
     }
 }
 
-/// The number at a place, and 0 where there is none.
+/// The number at a place; 0 past the end.
 fn number_at(numbers: &[u64], place: usize) -> u64
     ensures { result ≡ get_or numbers.now place 0 }
 {

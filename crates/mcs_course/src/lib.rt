@@ -1,5 +1,5 @@
-//! What a schedule's rows came to so far: for each thread how many rounds missed their deadline, the greatest response and whether its budget was
-//! ever spent, and for each notification how many signals were lost.
+//! The counts of a schedule's rows so far. A thread has its deadline misses, its maximum response
+//! and whether its budget was exhausted; a notification its lost signals.
 #![tactic(auto)]
 
 mod course;

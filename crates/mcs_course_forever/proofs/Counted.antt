@@ -1,4 +1,4 @@
--- Where nothing is counted, nothing was found.
+-- Without a count there is no finding.
 use Rattle.std.proofs.Common.{◌≡◌, ℕ, ◌+◌, ◌<◌, ◌≤◌, ◌⊎◌, inl, inr, Bool, true, false, cond, List, [], ◌∷◌, ◌++◌, length, refl, ap, ◌∙◌, Option, Some, None, arith}
 use Rattle.std.specs.Prelude.{filter, ◌==◌}
 use Rattle.std.specs.List.{AllByRecursion}
@@ -43,7 +43,8 @@ lost-counts note word true = inr (same note)
 lost-counts note word false = inl refl
 
 module _ (system : System) (group : ℕ → Bool) where
-  -- what is counted of a finding: a miss of a thread of the group, or a lost signal at a notification of it
+  -- the count of a finding: a miss of a thread of the group, or a lost signal at a notification of
+  -- it
   record Misses (found : Option Finding) : Type 0 where
     thread : ℕ
     known : thread < length system.threads
@@ -89,7 +90,7 @@ module _ (system : System) (group : ℕ → Bool) where
       let more = grows test (r ∷ past) rows in
       omega (arith, more)
 
-  -- so where it is 0 at the end, no finding was counted
+  -- a count of 0 at the end: no finding was counted
   counted : (test : Option Finding → Bool) (past rows : List Row) (r : Row) → test (finding system past r.moment r.what) ≡ true →
       times system test (past_of (r ∷ past) rows) ≡ 0 → ⊥
   counted test past rows r e none =

@@ -1,4 +1,4 @@
--- The greatest response before the end of the first period is the greatest ever.
+-- The maximum response before the end of the first period is the maximum for ever.
 use Rattle.std.proofs.Common.{◌≡◌, ℕ, ◌+◌, ◌≤◌, Bool, true, false, cond, not, ◌||◌, List, [], ◌∷◌, ◌++◌, refl, ap, ◌∙◌, Option, Some, None, arith}
 use Rattle.std.specs.Prelude.{filter, max, nat_le, ◌==◌, option_to_list}
 use Rattle.std.specs.List.{AllByRecursion}
@@ -15,7 +15,7 @@ use Rattle.mcs_verdict_forever.proofs.Findings.{job-tests-are-forever}
 use Rattle.mcs_course.specs.Course.{greater, or_greater, greatest}
 use Rattle.mcs_course_forever.specs.laws.Course.{is_at_most, is_within, GreatestIsForever}
 
--- the greatest response only grows
+-- the maximum response only grows
 at-most-more : (n a b : ℕ) → nat_le n a ≡ true → a ≤ b → nat_le n b ≡ true
 at-most-more n a b h l = grind (arith, nat_tests)
 

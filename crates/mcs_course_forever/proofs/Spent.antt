@@ -1,4 +1,4 @@
--- Who is not stopped since its budget was spent in the first period never is.
+-- A thread that is not stopped with its budget exhausted in the first period never is.
 use Rattle.std.proofs.Common.{◌≡◌, ℕ, ◌+◌, ◌<◌, ◌≤◌, Bool, true, false, ◌||◌, List, [], ◌∷◌, refl, sym, ap, ◌∙◌, arith}
 use Rattle.std.specs.Prelude.{◌==◌}
 use Rattle.std.specs.List.{AllByRecursion}

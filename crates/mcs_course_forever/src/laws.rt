@@ -1,19 +1,20 @@
 ghost use Rattle.mcs_course_forever.specs.laws.Course.{GreatestIsForever, NeverSpent, NoneIsCounted};
 
-/// A law of schedules: where a group of cores recurs in what is kept of its rows, the greatest response of each of its threads before the end of the
-/// first period is the greatest ever.
+/// A law of schedules, for a group of cores that recurs in its findings: the maximum response of
+/// each of its threads before the end of the first period is its maximum for ever.
 pub fn greatest_is_forever()
     ensures { GreatestIsForever }
 {}
 
-/// A law of schedules: where a group of cores recurs, a thread of it whose budget was never spent before the end of the first period is never stopped
-/// for that.
+/// A law of schedules, for a group of cores that recurs: a thread of it that was not stopped with
+/// its budget exhausted before the end of the first period never is.
 pub fn never_spent()
     ensures { NeverSpent }
 {}
 
-/// A law of schedules: where of the threads of a group no miss is counted before a moment, and of its notifications no lost signal, nothing is found in
-/// its rows before then.
+/// A law of schedules, for any group of cores and any moment: if no deadline miss of its threads
+/// and no lost signal of its notifications is counted before the moment, its rows before it have no
+/// finding.
 pub fn none_is_counted()
     ensures { NoneIsCounted }
 {}

@@ -1,5 +1,5 @@
-//! Laws of what the rows of schedules come to where they repeat: contracts of functions whose bodies are empty. Such a function may be called for what
-//! its contract says.
+//! Laws about the counts of a schedule that recurs. Each is the contract of a function with an
+//! empty body; a proof calls the function to use the law.
 #![tactic(auto)]
 
 mod laws;

@@ -1,4 +1,4 @@
--- The cores of a set, told one after another.
+-- The text of a set of cores, one core after another.
 use Rattle.std.proofs.Common.{arith, ◌≡◌, ◌∙◌, ◌+◌, ◌++◌, ◌∷◌, [], ℕ, Bool, true, false, List, cond, decimal, map, refl, ap, ap₂, sym, append_assoc, append-nil}
 use Rattle.std.specs.List.{filter, join_with_byte, range_with_len}
 use Rattle.std.proofs.lemmas.List.{map-id}

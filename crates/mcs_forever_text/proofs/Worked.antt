@@ -1,4 +1,4 @@
--- Lines of what is found for all time, worked by hand.
+-- Lines of a check for all time, worked by hand.
 use Rattle.std.specs.Prelude.{◌≡◌, Bool, true, false, List, [], ◌∷◌, Some, None, codes, refl}
 use Rattle.std.specs.Fmt.{digits}
 use Rattle.serde_json.proofs.OnLiterals.{serde_json_on_literals}
@@ -103,7 +103,7 @@ never_object : line_text format.Json system (Never 0 25) ≡ codes "{\"kind\":\"
 unfolding system digits serde_json_on_literals
 never_object = refl
 
--- what is told of a thread, and what only where it is so
+-- the line of a thread, with and without its optional parts
 thread : line_text format.Text system (Thread 0 (Some 4) true (Some 13))
     ≡ codes "thread T: greatest response 4, throttled: never, ends no round from 13 on\n"
 unfolding system digits

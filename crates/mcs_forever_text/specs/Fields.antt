@@ -1,4 +1,4 @@
--- The lines of what is found for all time, as named values.
+-- The lines of a check for all time, as named values.
 use Rattle.std.specs.Prelude.{ℕ, Bool, true, false, Option, Some, None, List, [], ◌∷◌, codes}
 use Rattle.mcs_fields.specs.Fields.{Text, Value, amount, empty, name}
 use Rattle.mcs_system.specs.System.{System}
@@ -12,17 +12,17 @@ use Rattle.mcs_forever_text.specs.declared.line.Often.TheVariants.{Forever, SoFa
 abbrev pub Fields : Type 0
 Fields = List (Text × Value)
 
--- a number, where there is one
+-- a number, if there is one
 abbrev pub known : Option ℕ → Value
 known None = empty
 known (Some n) = amount n
 
--- how often
+-- how often something is found
 abbrev pub often_fields : Often → Fields
 often_fields (Forever before each_period) = (codes "each_period", amount each_period) ∷ (codes "before", amount before) ∷ []
 often_fields (SoFar times) = (codes "so_far", amount times) ∷ []
 
--- whether a thread never stops with its budget spent, where it is so
+-- that a thread never stops with its budget exhausted, if that is so
 abbrev pub throttled_value : Bool → Value
 throttled_value false = empty
 throttled_value true = name (codes "never")
@@ -37,7 +37,7 @@ module _ (system : System) where
   abbrev pub note_field : ℕ → Text × Value
   note_field note = (codes "note", name (note_name system note))
 
-  -- what a line tells, behind what it is called
+  -- the values of a line, after its kind
   abbrev pub line_fields : Line → Fields
   line_fields (line.Repeats cores from period) =
       (codes "kind", name (codes "repeats")) ∷ cores_field cores ∷ (codes "from", amount from) ∷ (codes "period", amount period) ∷ []

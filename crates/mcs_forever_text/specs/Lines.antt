@@ -1,4 +1,4 @@
--- The lines of what is found for all time, in words.
+-- The lines of a check for all time, in words.
 use Rattle.std.specs.Prelude.{ℕ, Bool, true, false, Option, Some, None, List, [], ◌∷◌, ◌++◌, codes, decimal, map}
 use Rattle.std.specs.List.{filter, join_with_byte, range_with_len}
 use Rattle.mcs_fields.specs.Fields.{Text}
@@ -10,30 +10,30 @@ use Rattle.mcs_forever_text.specs.declared.line.Line.TheVariants as line
 use Rattle.mcs_forever_text.specs.declared.line.Often.{Often}
 use Rattle.mcs_forever_text.specs.declared.line.Often.TheVariants.{Forever, SoFar}
 
--- the cores of a set that the system has, from the least on, with a space between two of them
+-- those cores of a set that the system has, in rising order, with a space between two of them
 abbrev pub cores_text : System → List Bool → Text
 cores_text system set = join_with_byte 32 (map decimal (filter (has set) (range_with_len 0 system.cores)))
 
--- what is told, by its name
+-- a name and a colon
 abbrev pub named : Text → Text
 named name = name ++ codes ":"
 
--- how often
+-- how often something is found
 abbrev pub often_words : Often → List Text
 often_words (Forever before each_period) = decimal each_period ∷ codes "in each period," ∷ decimal before ∷ codes "before" ∷ []
 often_words (SoFar times) = decimal times ∷ codes "so far" ∷ []
 
--- a number, where there is one
+-- a number; `-` for none
 abbrev pub known_word : Option ℕ → Text
 known_word None = codes "-"
 known_word (Some n) = decimal n
 
--- what is told of a thread only where it is so: that it never stops with its budget spent ..
+-- that a thread never stops with its budget exhausted, if that is so
 abbrev pub throttled_text : Bool → Text
 throttled_text false = []
 throttled_text true = codes ", throttled: never"
 
--- .. and from when on it ends no round
+-- the time from which on a thread ends no round, if there is one
 abbrev pub silent_text : Option ℕ → Text
 silent_text None = []
 silent_text (Some moment) = codes ", ends no round from" ++ after (decimal moment ∷ codes "on" ∷ [])

@@ -1,4 +1,4 @@
-//! A set of cores, as it is told.
+//! The text of a set of cores.
 ghost use Rattle.std.specs.Prelude.{◌≡◌, ◌++◌, ◌∷◌, cond, decimal, IfOk};
 ghost use Rattle.std.specs.String.{string_bytes};
 ghost use Rattle.mcs_forever_text.specs.Lines.{cores_text};
@@ -9,7 +9,7 @@ use mcs_system::System;
 use mcs_ticks::NoMemory;
 use std::alloc::Global;
 
-/// The cores of the set that the system has.
+/// Returns the numbers of those cores of the set that the system has.
 pub(crate) fn cores_text(
     alloc: Global,
     system: &System,
@@ -28,7 +28,7 @@ pub(crate) fn cores_text(
     Ok(text)
 }
 
-/// Puts the number of a core behind the text, and a space before it where there is one already.
+/// Appends the number of a core, after a space if it is not the first.
 fn push_core(text: &mut String, later: bool, core: usize) -> Result<(), NoMemory>
     ensures { IfOk result (λ done. string_bytes text.new ≡ string_bytes text.old ++ cond later (32 ∷ decimal core) (decimal core)) }
 {

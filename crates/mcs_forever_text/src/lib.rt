@@ -1,4 +1,4 @@
-//! What is found of a system for all time, as lines of words or as JSON objects.
+//! The lines of a check for all time, in words or as JSON objects.
 #![tactic(auto)]
 
 mod cores;

@@ -1,76 +1,79 @@
 use mcs_forever::CoreSet;
 use mcs_ticks::{NoteId, ThreadId, Tick};
 
-/// How lines are written.
+/// The format of lines.
 #[derive(Clone, Copy, Debug, PartialEq, Eq)]
 pub enum LineFormat {
-    /// In words.
+    /// Words.
     Text,
-    /// Each as a JSON object.
+    /// A JSON object for each line.
     Json,
 }
 
 /// How often something is found.
 #[derive(Clone, Copy, Debug, PartialEq, Eq)]
 pub enum Often {
-    /// So often in each period, for ever, and so often before the first one.
+    /// The counts in each period, for ever, and before the first one.
     Forever { before: u64, each_period: u64 },
-    /// So often up to the horizon, where no repetition was found.
+    /// The count up to the horizon, for cores that were not found to recur.
     SoFar { times: u64 },
 }
 
-/// A line of what is found for all time. Of a set of cores those are told that the system has.
+/// A line of a check for all time. A set of cores is written as those of its cores that the system
+/// has.
 #[derive(Clone, Copy, Debug, PartialEq, Eq)]
 pub enum Line {
-    /// From this moment on all that these cores do comes again each so many ticks, for ever.
+    /// All that these cores do recurs with this period in ticks, from this time on, for ever.
     Repeats {
         cores: CoreSet,
         from: Tick,
         period: u64,
     },
-    /// No repetition of what these cores do was found up to the horizon.
+    /// No recurrence of these cores was found up to the horizon.
     Open {
         cores: CoreSet,
         horizon: Tick,
     },
-    /// How many rounds of the thread missed their deadline.
+    /// The deadline misses of the thread.
     Miss {
         thread: ThreadId,
         often: Often,
     },
-    /// How many signals were lost at the notification.
+    /// The signals lost at the notification.
     Lost {
         note: NoteId,
         often: Often,
     },
-    /// A round of the thread is overdue at this moment.
+    /// A round of the thread is overdue at this time.
     Overdue {
         thread: ThreadId,
         moment: Tick,
     },
-    /// The thread has a deadline, and none of its rounds was activated up to this moment.
+    /// The thread has a deadline, and was not activated for a round up to this time.
     Never {
         thread: ThreadId,
         moment: Tick,
     },
-    /// The greatest response of all rounds of the thread that ever end, where one does; whether the thread never stops with its budget spent; and from
-    /// when on it ends no round, where it is so.
+    /// The maximum response of all rounds of the thread that ever end, if one does; whether the
+    /// thread never stops with its budget exhausted; and the time from which on it ends no round,
+    /// if there is one.
     Thread {
         thread: ThreadId,
         greatest: Option<u64>,
         never_throttled: bool,
         silent_from: Option<Tick>,
     },
-    /// The greatest response of the rounds of the thread that ended up to the horizon, where one did: no repetition was found.
+    /// The maximum response of the rounds of the thread that ended up to the horizon, if one did;
+    /// no recurrence was found.
     ThreadSoFar {
         thread: ThreadId,
         greatest: Option<u64>,
     },
-    /// At no horizon anything is found of these cores.
+    /// These cores have no finding at any horizon.
     Clean {
         cores: CoreSet,
     },
-    /// How many sets of cores there are, how many of them repeat, and how many findings were told.
+    /// The number of sets of cores, of those that recur, and of findings.
     Sets {
         sets: u64,
         repeating: u64,

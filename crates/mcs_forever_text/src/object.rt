@@ -14,7 +14,7 @@ use mcs_text::{note_name, thread_name};
 use mcs_ticks::{NoMemory, NoteId, ThreadId, Tick};
 use std::alloc::Global;
 
-/// Appends a line as a JSON object. After a refusal the text is as it was.
+/// Appends a line as a JSON object. If memory runs out, the text is unchanged.
 pub(crate) fn put_fields(
     alloc: Global,
     text: &mut Vec<u8>,
@@ -170,7 +170,8 @@ fn put_never(
     put_moment(alloc, text, "never", thread_name(system, thread), moment)
 }
 
-/// Puts how often something was found of what has this name, as a thread or a notification.
+/// Appends how often something was found. `key` says whether the name is that of a thread or of a
+/// notification.
 fn put_often<'s>(
     alloc: Global,
     text: &mut Vec<u8>,
@@ -201,7 +202,7 @@ fn put_often<'s>(
     }
 }
 
-/// Puts what is found of a thread at a moment, or up to it.
+/// Appends the finding of a thread at a time, or up to it.
 fn put_moment<'s>(
     alloc: Global,
     text: &mut Vec<u8>,

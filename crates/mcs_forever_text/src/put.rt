@@ -11,7 +11,7 @@ use mcs_system::System;
 use mcs_ticks::NoMemory;
 use std::alloc::Global;
 
-/// Appends a line, with the names that the system has. After a refusal the text is as it was.
+/// Appends a line, with the system's names. If memory runs out, the text is unchanged.
 pub fn put_line(
     alloc: Global,
     text: &mut Vec<u8>,
@@ -28,7 +28,7 @@ pub fn put_line(
     }
 }
 
-/// Appends lines, one after another. After a refusal the text is as it was.
+/// Appends lines, one after another. If memory runs out, the text is unchanged.
 pub fn put_lines(
     alloc: Global,
     text: &mut Vec<u8>,
@@ -63,7 +63,7 @@ fn append_lines(
     Ok(())
 }
 
-/// Appends a line as words. After a refusal the text is as it was.
+/// Appends a line in words. If memory runs out, the text is unchanged.
 fn put_words(
     alloc: Global,
     text: &mut Vec<u8>,

@@ -14,7 +14,7 @@ use mcs_text::{note_name, thread_name};
 use mcs_ticks::{NoMemory, NoteId, ThreadId, Tick};
 use std::alloc::Global;
 
-/// Appends a line. After a refusal a first part of it may stand behind the text.
+/// Appends a line. If memory runs out, a prefix of it may have been appended.
 pub(crate) fn append_told(
     alloc: Global,
     text: &mut Vec<u8>,
@@ -143,7 +143,7 @@ fn append_never(
     append_moment(text, "never", thread_name(system, thread), "up to", moment)
 }
 
-/// Appends how often something was found of what has this name.
+/// Appends how often something was found of the thread or the notification with this name.
 fn append_often(text: &mut Vec<u8>, kind: &str, name: &str, often: &Often) -> Result<(), NoMemory>
     ensures ok { OnOk result (text.new.items ≡ text.old.items ++ line kind.now (named name.now ∷ often_words often.now)) }
     ensures kept { StartsWith text.new.items text.old.items }
@@ -173,7 +173,7 @@ fn append_often(text: &mut Vec<u8>, kind: &str, name: &str, often: &Often) -> Re
     }
 }
 
-/// Appends what is found of a thread at a moment, or up to it.
+/// Appends the finding of a thread at a time, or up to it.
 fn append_moment<'s>(
     text: &mut Vec<u8>,
     kind: &str,
@@ -215,7 +215,7 @@ fn append_thread(
     Ok(())
 }
 
-/// Appends that a thread never stops with its budget spent, where it is so.
+/// Appends that a thread never stops with its budget exhausted, if that is so.
 fn append_throttled(text: &mut Vec<u8>, never_throttled: bool) -> Result<(), NoMemory>
     ensures ok { OnOk result (text.new.items ≡ text.old.items ++ throttled_text never_throttled) }
     ensures kept { StartsWith text.new.items text.old.items }
@@ -226,7 +226,7 @@ fn append_throttled(text: &mut Vec<u8>, never_throttled: bool) -> Result<(), NoM
     Ok(())
 }
 
-/// Appends from when on a thread ends no round, where it is so.
+/// Appends the time from which on a thread ends no round, if there is one.
 fn append_silent(text: &mut Vec<u8>, silent_from: Option<Tick>) -> Result<(), NoMemory>
     ensures ok { OnOk result (text.new.items ≡ text.old.items ++ silent_text silent_from) }
     ensures kept { StartsWith text.new.items text.old.items }

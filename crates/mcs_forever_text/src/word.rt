@@ -1,4 +1,4 @@
-//! Words of a line.
+//! The words of a line.
 ghost use Rattle.std.specs.Prelude.{◌≡◌, ◌++◌, ◌∷◌, [], OnOk, decimal, map};
 ghost use Rattle.std.specs.Io.{StartsWith};
 ghost use Rattle.mcs_text.specs.Text.{after, line};
@@ -8,16 +8,16 @@ ghost use Rattle.mcs_forever_text.specs.stored.Words.{word_of};
 use mcs_text::{append_number, append_word};
 use mcs_ticks::NoMemory;
 
-/// A word, or some of them.
+/// A part of a line, of one word or more.
 #[derive(Clone, Copy)]
 pub(crate) enum Word<'a> {
     Number(u64),
     Plain(&'a str),
-    /// A name, and a colon behind it.
+    /// A name and a colon.
     Named(&'a str),
 }
 
-/// A number, and `-` where there is none.
+/// A number; `-` for `None`.
 pub(crate) fn known_word<'s>(number: Option<u64>) -> Word<'s>
     ensures { word_of result ≡ known_word number }
 {
@@ -27,7 +27,8 @@ pub(crate) fn known_word<'s>(number: Option<u64>) -> Word<'s>
     }
 }
 
-/// Appends a line of words with one space between two of them. After a refusal a first part of it may stand behind the text.
+/// Appends a line of words, with one space between two of them. If memory runs out, a prefix of it
+/// may have been appended.
 pub(crate) fn append_line(
     text: &mut Vec<u8>,
     first: &str,
@@ -41,7 +42,7 @@ pub(crate) fn append_line(
     Ok(())
 }
 
-/// Appends words with one space between two of them.
+/// Appends words, with one space between two of them.
 pub(crate) fn append_words(
     text: &mut Vec<u8>,
     first: &str,
@@ -57,7 +58,7 @@ pub(crate) fn append_words(
     Ok(())
 }
 
-/// Appends a word behind a space.
+/// Appends a space and a word.
 fn append_one(text: &mut Vec<u8>, word: &Word<'_>) -> Result<(), NoMemory>
     ensures ok { OnOk result (text.new.items ≡ text.old.items ++ 32 ∷ word_of word.now) }
     ensures kept { StartsWith text.new.items text.old.items }

@@ -1,4 +1,4 @@
--- Contexts that are later, each by a number of its own, place by place.
+-- Contexts that are later, each by its own number of ticks, place by place.
 use Rattle.std.proofs.Common.{◌≡◌, ℕ, zero, suc, ◌+◌, ◌<◌, List, [], ◌∷◌, length, get_or, Option, None, refl, sym, ap, ◌∙◌, arith}
 use Rattle.std.specs.Prelude.{option_map}
 use Rattle.std.proofs.lemmas.List.{ext_get_or}

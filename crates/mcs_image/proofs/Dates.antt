@@ -63,7 +63,7 @@ module _ (lag : ℕ) where
       ∙ ap (λ dates. dates ++ later_dates lag (dates_of rs)) (sym (map-range lag r.amount r.begins))
       ∙ sym (map-append (λ date. date + lag) (range_with_len r.begins r.amount) (dates_of rs))
 
--- of refills that are those of their dates: one is later exactly where the other is
+-- refills are later exactly if their dates are, for refills that are those of their dates
 pub refills-are-later : (lag : ℕ) (before after : List Refill) → refills_of (dates_of before) ≡ before → refills_of (dates_of after) ≡ after →
     dates_of after ≡ later_dates lag (dates_of before) → after ≡ map (later_refill lag) before
 refills-are-later lag before after regular regular' same =
@@ -72,12 +72,12 @@ refills-are-later lag before after regular regular' same =
 pub dates-are-later : (lag : ℕ) (before after : List Refill) → after ≡ map (later_refill lag) before → dates_of after ≡ later_dates lag (dates_of before)
 dates-are-later lag before after same = ap dates_of same ∙ dates_of-later lag before
 
--- the refills that are shown of a budget are those of their dates
+-- the refills that a budget shows are those of their dates
 pub regular-shown : (budget : Budget) → refills_of (dates_of (refills_shown budget)) ≡ refills_shown budget
 regular-shown (Dates dates) = ap refills_of (dates_of-refills_of dates)
 regular-shown (Slice left) = refl
 
--- and the budget is what they show
+-- the budget is the one that its refills show
 pub slice-shown : (left : ℕ) (budget : Budget) → Some left ≡ left_shown budget → Slice left ≡ budget
 slice-shown left (Dates dates) shown = cc
 slice-shown left (Slice left') shown = cc

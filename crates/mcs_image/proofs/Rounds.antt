@@ -1,4 +1,4 @@
--- Threads that are later, each by numbers of its own, place by place.
+-- Threads that are later, each by its own numbers, place by place.
 use Rattle.std.proofs.Common.{◌≡◌, ℕ, zero, suc, ◌+◌, ◌<◌, List, [], ◌∷◌, length, get_or, refl, sym, ap, ◌∙◌, arith}
 use Rattle.std.proofs.lemmas.List.{ext_get_or}
 use Rattle.mcs_core.specs.declared.standing.Thread.{Thread}

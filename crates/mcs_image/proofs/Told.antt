@@ -1,4 +1,4 @@
--- What is told of one lag is told of another that is later just where the first is.
+-- A lag of one thing is the lag of another, if both are later by the same numbers.
 use Rattle.std.proofs.Common.{ℕ, zero, suc, ◌<◌, ◌≤◌, List, [], ◌∷◌, length, get_or, Option, Some, None, arith}
 use Rattle.mcs_image.specs.Lag.{TellsLag}
 

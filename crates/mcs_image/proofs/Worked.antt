@@ -62,7 +62,8 @@ before =
     core 1 (thread Running 4 2 12 ∷ thread Ready 3 3 8 ∷ thread Pending 1 2 0 ∷ []) 24
     (sporadic 2 4 (12 ∷ 13 ∷ []) ∷ sporadic 3 4 (3 ∷ 4 ∷ 12 ∷ []) ∷ sporadic 1 8 (24 ∷ []) ∷ [])
 
--- 12 ticks later: the second context is 8 later, the first thread has ended 3 rounds more and the second one 2
+-- 12 ticks later: the second context is 8 later, the first thread has ended 3 more rounds and the
+-- second one 2
 abbrev after : ℕ → Core
 after using =
     core using (thread Running 7 2 24 ∷ thread Ready 5 3 20 ∷ thread Pending 1 2 0 ∷ []) 36

@@ -14,12 +14,12 @@ pub(crate) struct RefillsImage {
     refills: Vec<Refill>,
 }
 
-/// What a context has to spend, by kind.
+/// The budget of a context, by kind.
 #[derive(Debug, Drop)]
 pub(crate) enum BudgetImage {
     /// The refills of a sporadic context.
     Sporadic(RefillsImage),
-    /// The ticks that are left of the slice of a round robin context.
+    /// The ticks left of the slice of a round robin context.
     RoundRobin(u64),
 }
 
@@ -35,7 +35,7 @@ impl Model for RefillsImage {
 }
 
 impl RefillsImage {
-    /// These refills, which are those of their dates.
+    /// Returns these refills, which must be those of their dates.
     fn new(refills: Vec<Refill>) -> Self
         requires { refills_of (dates_of refills.items) ≡ refills.items }
         ensures { result ≡ dates_of refills.items }
@@ -43,8 +43,8 @@ impl RefillsImage {
         RefillsImage { refills }
     }
 
-    /// By how many ticks, at most `by`, the dates are later than they were: `by` where there are none. None where they are not the
-    /// same dates later by one such number.
+    /// Returns by how many ticks, at most `by`, the dates are later than before; `by` if there are
+    /// none. `None` if they are not all later by one such number.
     pub(crate) fn lag(&self, before: &RefillsImage, by: u64) -> Option<u64>
         ensures { TellsLag result by (λ lag. self.now ≡ later_dates lag before.now) }
     {
@@ -53,7 +53,7 @@ impl RefillsImage {
 }
 
 impl BudgetImage {
-    /// The budget that shows these refills, or this rest of a slice.
+    /// Returns the budget with these refills, or with this rest of a slice.
     pub(crate) fn new(refills: Vec<Refill>, left: Option<u64>) -> Self
         requires { refills_of (dates_of refills.items) ≡ refills.items }
         ensures { (budget : Budget) → refills.items ≡ refills_shown budget → left ≡ left_shown budget → budget_of result ≡ budget }
@@ -64,8 +64,8 @@ impl BudgetImage {
         }
     }
 
-    /// By how many ticks, at most `by`, the budget is later than it was: a slice, which has no date, by `by`. None where it is not the
-    /// same budget later by one such number.
+    /// Returns by how many ticks, at most `by`, the budget is later than before; `by` for an equal
+    /// slice, which has no date. `None` if it is not the same budget, later by one such number.
     pub(crate) fn lag(&self, before: &BudgetImage, by: u64) -> Option<u64>
         ensures { TellsLag result by (λ lag. budget_of self.now ≡ later_budget lag (budget_of before.now)) }
     {
@@ -78,7 +78,7 @@ impl BudgetImage {
     }
 }
 
-/// Whether a refill is the other one, so many ticks later.
+/// Whether the refill is the earlier one, `lag` ticks later.
 fn refill_is_later(before: Refill, after: Refill, lag: u64) -> bool
     ensures { IsTrue result ↔ (after ≡ later_refill lag before) }
 {
@@ -87,7 +87,7 @@ fn refill_is_later(before: Refill, after: Refill, lag: u64) -> bool
         && after.amount == before.amount
 }
 
-/// Whether the refills are the other ones, so many ticks later.
+/// Whether the refills are the earlier ones, `lag` ticks later.
 fn refills_are_later(before: &[Refill], after: &[Refill], lag: u64) -> bool
     ensures { IsTrue result ↔ (after.now ≡ map (later_refill lag) before.now) }
 {
@@ -102,7 +102,8 @@ fn refills_are_later(before: &[Refill], after: &[Refill], lag: u64) -> bool
     true
 }
 
-/// By how many ticks, at most `by`, the refills are later than they were: `by` where there are none.
+/// Returns by how many ticks, at most `by`, the refills are later than before; `by` if there are
+/// none. `None` if they are not all later by one such number.
 fn refills_lag(before: &[Refill], after: &[Refill], by: u64) -> Option<u64>
     ensures { TellsLag result by (λ lag. after.now ≡ map (later_refill lag) before.now) }
 {

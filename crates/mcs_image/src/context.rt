@@ -8,7 +8,8 @@ use mcs_ticks::{ContextId, NoMemory};
 use std::alloc::Global;
 use std::marker::Model;
 
-/// A scheduling context at a moment: the configuration in force, its mode, and its budget. Contracts see the context.
+/// A scheduling context at a moment: its configuration in force, its mode and its budget. Contracts
+/// see the context.
 #[derive(Debug, Drop)]
 pub(crate) struct ContextImage {
     config: Config,
@@ -27,7 +28,7 @@ impl Model for ContextImage {
 }
 
 impl ContextImage {
-    /// A context as it is. `NoMemory` is answered where the list of its refills is refused.
+    /// Returns the image of a context. Fails only if memory runs out.
     pub(crate) fn new(alloc: Global, context: &Context) -> Result<Self, NoMemory>
         ensures { IfOk result (λ image. image ≡ context.now.context) }
     {
@@ -44,8 +45,9 @@ impl ContextImage {
         })
     }
 
-    /// By how many ticks, at most `by`, the budget is later than it was, where all else is the same: `by` where it has no date. None
-    /// where it is not the same context later by one such number.
+    /// Returns by how many ticks, at most `by`, the budget is later than before, if all else is
+    /// equal; `by` if it has no date. `None` if it is not the same context, later by one such
+    /// number.
     fn lag(&self, before: &ContextImage, by: u64) -> Option<u64>
         ensures { TellsLag result by (λ lag. self.now ≡ later_context lag before.now) }
     {
@@ -56,7 +58,7 @@ impl ContextImage {
     }
 }
 
-/// The same of a context that a core may hold: `by` where it does not.
+/// Returns the lag of a context that the core may hold; `by` if it does not.
 fn context_lag(before: &Option<ContextImage>, after: &Option<ContextImage>, by: u64) -> Option<u64>
     ensures { TellsLag result by (λ lag. after.now ≡ option_map (later_context lag) before.now) }
 {
@@ -67,7 +69,8 @@ fn context_lag(before: &Option<ContextImage>, after: &Option<ContextImage>, by: 
     }
 }
 
-/// By how many ticks, at most `by`, each context is later than it was. None where one of them is not the same context later.
+/// Returns the lag of each context, at most `by`. `None` if one of them is not the same context,
+/// later. Fails only if memory runs out.
 pub(crate) fn context_lags(
     alloc: Global,
     before: &[Option<ContextImage>],

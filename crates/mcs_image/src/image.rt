@@ -16,7 +16,7 @@ use mcs_ticks::{NoMemory, Queued, Sequence, ThreadId};
 use std::alloc::Global;
 use std::marker::Model;
 
-/// A core between two turns in plain lists, so that it can be kept and compared. Contracts see the core.
+/// A core between two turns in plain lists, to be kept and compared. Contracts see the core.
 #[derive(Debug, Drop)]
 pub struct CoreImage {
     running: Option<Chosen>,
@@ -43,7 +43,7 @@ impl Model for CoreImage {
 }
 
 impl CoreImage {
-    /// The image of a core as it stands. `NoMemory` is answered where a list is refused.
+    /// Returns the image of a core of the system. Fails only if memory runs out.
     pub fn new(alloc: Global, system: &System, state: &CoreState) -> Result<Self, NoMemory>
         requires fits { Fits system.now state.now }
         requires going { state.now.failed ≡ false }
@@ -60,9 +60,10 @@ impl CoreImage {
         })
     }
 
-    /// Whether a core may stand again as it did here, but later: the same thread runs, with as many ticks in use, and each thread stands at
-    /// the same item with as much left of it, the same word of the round and the same priority. It takes no memory. Where it answers no, the
-    /// core is not this one, later by any shift.
+    /// Whether a core may be that of the image, but later: the same thread runs, with as many ticks
+    /// in use, and each thread is at the same item. Each must have as much left of it, the same
+    /// word of the round and the same priority. If not, the core is not that of the image, later by
+    /// any shift. Allocates no memory.
     pub fn may_be_again(&self, system: &System, state: &CoreState) -> bool
         requires fits { Fits system.now state.now }
         requires going { state.now.failed ≡ false }
@@ -83,14 +84,20 @@ impl CoreImage {
         true
     }
 
-    /// By how much this core is later than it was: it stands as it stood before, but `by` ticks later. Who runs, and with how many ticks in
-    /// use, how each thread stands, its item, what is left of it, its round's word and its priority, the ready threads in their order, the
-    /// words and who waits for them, and the contexts' configurations, modes and slices are the same; the releases are the same in the same order, their dates later by
-    /// `by`; the dates of each context are later by a number of its own, at most `by`, and so is the beginning of each thread's round,
-    /// and a thread may have ended more rounds.
+    /// Returns the lags with which this core is the earlier one, `by` ticks later; `None` if it is
+    /// so with no lags.
     ///
-    /// None where it stands otherwise: by no such numbers is it what it was. `NoMemory` is answered where the room for the numbers is
-    /// refused.
+    /// Equal in both are:
+    /// - the running thread and its ticks in use;
+    /// - each thread's standing, item, ticks left of it, word of the round and priority;
+    /// - the ready threads in their order;
+    /// - the words and the threads that wait for them;
+    /// - the contexts' configurations, modes and slices.
+    ///
+    /// The releases are the same in the same order, their dates later by `by`. The dates of each
+    /// context may be later by their own number of ticks, at most `by`; the beginning of each
+    /// thread's round by any number. A thread may have ended more rounds. Fails only if memory runs
+    /// out.
     pub fn lags(&self, alloc: Global, before: &CoreImage, by: u64) -> Result<Option<Lags>, NoMemory>
         ensures { IfOk result (λ found. TellsLags found by before.now self.now) }
     {
@@ -110,8 +117,8 @@ impl CoreImage {
         }))
     }
 
-    /// Whether the same thread runs, with as many ticks in use, the ready threads and the notifications are the same, and the releases
-    /// are later by so many ticks.
+    /// Whether the running thread and its ticks in use, the ready threads and the notifications are
+    /// equal, and the releases are `by` ticks later.
     fn queues_are_later(&self, before: &CoreImage, by: u64) -> bool
         ensures { IsTrue result
             ↔ ((self.now.running ≡ before.now.running)

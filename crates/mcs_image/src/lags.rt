@@ -6,20 +6,21 @@ ghost use Rattle.mcs_system.specs.System.{thread_part};
 use mcs_system::{System, SystemParts};
 use mcs_ticks::{Sequence, ThreadId};
 
-/// By how much a core is later than it was, where it is so by a number of ticks.
+/// The lags of a core that is later than before: those of its contexts and its threads.
 #[derive(Debug, Drop)]
 pub struct Lags {
-    /// By how many ticks the dates of each context are later: by as many as the core where it has no date, or belongs to another core.
+    /// The ticks by which the dates of each context are later. A context with no date, or of
+    /// another core, is as late as the core.
     pub contexts: Sequence<u64>,
-    /// By how many ticks each thread's round began later.
+    /// The ticks by which each thread's round began later.
     pub threads: Sequence<u64>,
-    /// How many rounds more each thread has ended.
+    /// How many more rounds each thread has ended.
     pub rounds: Sequence<u64>,
 }
 
 impl Lags {
-    /// Whether a core that is later by so many ticks, with these lags, is shifted: no context lags more than the core, and only a thread
-    /// with no last round has ended more rounds.
+    /// Whether these lags are a shift of a core that is `by` ticks later: no context is later than
+    /// the core, and only threads with no last round have ended more rounds.
     pub fn is_shift(&self, system: &System, by: u64) -> bool
         ensures { IsTrue result ↔ IsShift system.now (shift_by by self.now) }
     {
@@ -28,7 +29,7 @@ impl Lags {
     }
 }
 
-/// Whether no context lags more than so many ticks.
+/// Whether no context is later by more than `by` ticks.
 fn are_within(lags: &[u64], by: u64) -> bool
     ensures { IsTrue result ↔ ((context : ℕ) → get_or lags.now context by ≤ by) }
 {
@@ -40,7 +41,6 @@ fn are_within(lags: &[u64], by: u64) -> bool
     true
 }
 
-/// Whether a thread of the system has a last round.
 fn has_last_round(system: &SystemParts, thread: ThreadId) -> bool
     ensures { IsTrue result ↔ ((thread_part system.now thread).rounds ≢ 0) }
 {

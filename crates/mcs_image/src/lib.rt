@@ -1,4 +1,4 @@
-//! An image of a core in plain lists, kept to be compared with what the core is later.
+//! The image of a core in plain lists, to be compared with the core at a later moment.
 #![tactic(auto)]
 
 mod budget;

@@ -4,7 +4,8 @@ use crate::queues::queues_are_same;
 use mcs_ticks::Queued;
 use std::marker::Model;
 
-/// A notification at a moment: its word, and the threads that wait on it in the order in which they began to wait. Contracts see the note.
+/// A notification at a moment: its word, and the threads that wait for it, in the order in which
+/// they began to wait. Contracts see the notification.
 #[derive(Debug, Drop)]
 pub(crate) struct NoteImage {
     word: u32,
@@ -20,7 +21,6 @@ impl Model for NoteImage {
 }
 
 impl NoteImage {
-    /// A notification with this word and these waiters.
     pub(crate) fn new(word: u32, waiters: Vec<Queued>) -> Self
         ensures { result ≡ record { word = word; waiters = waiters.items } }
     {
@@ -35,7 +35,6 @@ impl NoteImage {
     }
 }
 
-/// Whether both lists have the same notifications.
 pub(crate) fn notes_are_same(before: &[NoteImage], after: &[NoteImage]) -> bool
     ensures { IsTrue result ↔ (after.now ≡ before.now) }
 {

@@ -4,14 +4,14 @@ ghost use Rattle.mcs_forever.specs.Later.{later_dated};
 use mcs_release::Dated;
 use mcs_ticks::Queued;
 
-/// Whether the same threads stand in both queues, in the same order.
+/// Whether both queues have the same threads in the same order.
 pub(crate) fn queues_are_same(before: &[Queued], after: &[Queued]) -> bool
     ensures { IsTrue result ↔ (after.now ≡ before.now) }
 {
     after == before
 }
 
-/// Whether a release is the other one, so many ticks later.
+/// Whether the release is the earlier one, `by` ticks later.
 fn release_is_later(before: Dated, after: Dated, by: u64) -> bool
     ensures { IsTrue result ↔ (after ≡ later_dated by before) }
 {
@@ -19,7 +19,7 @@ fn release_is_later(before: Dated, after: Dated, by: u64) -> bool
     after.thread == before.thread && after_date >= before_date && after_date - before_date == by
 }
 
-/// Whether the releases are the other ones, in the same order, so many ticks later.
+/// Whether the releases are the earlier ones, in the same order, `by` ticks later.
 pub(crate) fn releases_are_later(before: &[Dated], after: &[Dated], by: u64) -> bool
     ensures { IsTrue result ↔ (after.now ≡ map (later_dated by) before.now) }
 {

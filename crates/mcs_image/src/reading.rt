@@ -7,7 +7,7 @@ use mcs_core::{CoreState, Thread};
 use mcs_ticks::{ContextId, NoMemory, NoteId, ThreadId};
 use std::alloc::Global;
 
-/// All threads of a system, as they stand on the core.
+/// Returns all threads of a system, by the core's state.
 pub(crate) fn read_threads(
     alloc: Global,
     state: &CoreState,
@@ -23,7 +23,7 @@ pub(crate) fn read_threads(
     Ok(threads)
 }
 
-/// A context, if the core holds it.
+/// Returns a context, if the core holds it.
 fn read_context(
     alloc: Global,
     state: &CoreState,
@@ -38,7 +38,7 @@ fn read_context(
     }
 }
 
-/// All contexts of a system, of which the core holds its own.
+/// Returns all contexts of a system; only those of the core are present.
 pub(crate) fn read_contexts(
     alloc: Global,
     state: &CoreState,
@@ -54,7 +54,6 @@ pub(crate) fn read_contexts(
     Ok(contexts)
 }
 
-/// A notification.
 fn read_note(alloc: Global, state: &CoreState, note: NoteId) -> Result<NoteImage, NoMemory>
     requires { note < length state.now.core.notes }
     ensures { IfOk result (λ image. image ≡ note_of state.now.core note) }
@@ -63,7 +62,6 @@ fn read_note(alloc: Global, state: &CoreState, note: NoteId) -> Result<NoteImage
     Ok(NoteImage::new(state.word(note), waiters))
 }
 
-/// All notifications of a system.
 pub(crate) fn read_notes(
     alloc: Global,
     state: &CoreState,

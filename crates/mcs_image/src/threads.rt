@@ -5,28 +5,29 @@ use mcs_core::{Chosen, Thread};
 use mcs_ticks::NoMemory;
 use std::alloc::Global;
 
-/// How much later a thread's round began, in ticks, and how many rounds more the thread has ended.
+/// How many ticks later a thread's round began, and how many more rounds the thread has ended.
 #[derive(Clone, Copy, Debug)]
 pub(crate) struct ThreadLag {
     since: u64,
     rounds: u64,
 }
 
-/// The same of each thread, by number.
+/// These numbers of all threads.
 #[derive(Debug, Drop)]
 pub(crate) struct ThreadLags {
     pub(crate) since: Vec<u64>,
     pub(crate) rounds: Vec<u64>,
 }
 
-/// Whether the same thread runs, with as many ticks in use, or none.
+/// Whether the same thread runs, with as many ticks in use, or none in both.
 pub(crate) fn runs_alike(before: Option<Chosen>, after: Option<Chosen>) -> bool
     ensures { IsTrue result ↔ (after ≡ before) }
 {
     after == before
 }
 
-/// Whether the thread stands as it did, at the same item, with as much left of it, the same word of the round and the same priority.
+/// Whether the thread has the same standing, item, ticks left of it, word of the round and
+/// priority.
 pub(crate) fn stands_alike(before: &Thread, after: &Thread) -> bool
     ensures { IsTrue result
         ↔ ((after.now.standing ≡ before.now.standing)
@@ -42,7 +43,8 @@ pub(crate) fn stands_alike(before: &Thread, after: &Thread) -> bool
         && after.place.priority == before.place.priority
 }
 
-/// How much later a thread's round began, and how many rounds more it has ended. None where it is not the same thread but for that.
+/// Returns how much later the thread's round began, and how many more rounds it has ended. `None`
+/// if anything else differs.
 fn thread_lag(before: &Thread, after: &Thread) -> Option<ThreadLag>
     ensures { TellsThreadLag result before.now after.now }
 {
@@ -58,7 +60,8 @@ fn thread_lag(before: &Thread, after: &Thread) -> Option<ThreadLag>
     })
 }
 
-/// The same of all threads. None where one of them is not the same thread but for that.
+/// Returns the lags of all threads. `None` if anything else differs in one of them. Fails only if
+/// memory runs out.
 pub(crate) fn thread_lags(
     alloc: Global,
     before: &[Thread],

@@ -1,4 +1,4 @@
--- What is counted of findings is 0 only where there are none.
+-- The counts of findings are 0 only if there are no findings.
 use Rattle.std.proofs.Common.{◌≡◌, ℕ, ◌+◌, ◌<◌, ◌≤◌, Bool, true, false, cond, ◌||◌, List, [], ◌∷◌, length, get_or, Option, Some, None, refl, sym, ap, ◌∙◌, arith}
 use Rattle.std.specs.List.{list_any}
 use Rattle.std.proofs.lemmas.List.Folds.{list_any-append}
@@ -21,7 +21,7 @@ or-false true = refl
 or-false false = refl
 
 module _ (system : System) (test : Option Finding → Bool) where
-  -- more rows have no fewer
+  -- more rows have no smaller count
   no-fewer : (rows past : List Row) → times system test past ≤ times system test (past_of past rows)
   no-fewer [] past = omega arith
   no-fewer (r ∷ rows) past =
@@ -68,7 +68,7 @@ module _ (system : System) (h : ℕ) where
   abbrev past : List Row
   past = past_of [] (schedule system h)
 
-  -- where no miss of a thread is counted, none is found
+  -- if no miss of a thread is counted, it has none
   pub no-miss : (thread : ℕ) → thread < length system.threads → get_or (course_up_to system h).misses thread 0 ≡ 0 →
       has_miss_of thread (told_up_to system h) ≡ false
   no-miss thread l e =
@@ -76,7 +76,7 @@ module _ (system : System) (h : ℕ) where
       (none-capped (misses system thread past)
       (sym (get_or-map-range_with_len (λ (x : ℕ). capped (misses system x past)) 0 (length system.threads) thread thread 0 l (omega arith)) ∙ e))
 
-  -- and where no lost signal of a notification is counted
+  -- if no lost signal of a notification is counted, it lost none
   pub no-loss : (note : ℕ) → note < length system.notes → get_or (course_up_to system h).losses note 0 ≡ 0 →
       has_lost_of note (told_up_to system h) ≡ false
   no-loss note l e =

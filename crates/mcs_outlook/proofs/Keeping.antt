@@ -1,4 +1,4 @@
--- What an outlook keeps, from one call to the next.
+-- An outlook's invariant, from one call to the next.
 use Rattle.std.proofs.Common.{◌≡◌, ℕ, zero, suc, ◌+◌, ◌-◌, ◌<◌, ◌≤◌, Bool, true, false, List, [], ◌∷◌, length, get_or, cond, replicate, Option, Some, None, Result, Ok, Err, ◌&&◌, refl, sym, ap, subst, ◌∙◌, arith}
 use Rattle.std.specs.Prelude.{IfSome, IfOk, nat_le}
 use Rattle.std.proofs.lemmas.Bool.Decides.{nat_tests}
@@ -42,7 +42,7 @@ module _ (sets : List (List Bool)) (groups : List Group) (is : groups ≡ groups
       let within : i < length (firsts sets) = omega (arith, l, many-groups) in
       kept-below (is_first sets) (length sets) 0 (length sets) 0 (omega arith) i within
 
-  -- the sets of the groups are least sets that no core outside signals
+  -- the sets of the groups are closed: no core outside signals one of them
   pub groups-closed : (system : System) → AreLeastClosed system sets → AreClosed system groups
   groups-closed system closed i d l =
       let P : Group → Type 0 = λ group. IsClosed system (has group.set) in
@@ -50,7 +50,7 @@ module _ (sets : List (List Bool)) (groups : List Group) (is : groups ≡ groups
       let known : get_or (firsts sets) i 0 < system.cores = (let m = closed.many in omega (arith, m, first-below i l)) in
       subst P (sym (group-at i d l)) (closed.each (get_or (firsts sets) i 0) known).closed
 
-  -- all is told, in order
+  -- the results of all sets are true, in order
   pub all-told : (system : System) (allowed : List Bool) (horizon : ℕ) (all : List Told) →
       AreLeastClosed system sets → AreToldBelow system allowed horizon groups (length groups) all → AreTold system allowed horizon all
   all-told system allowed horizon all closed told =
@@ -65,7 +65,7 @@ module _ (sets : List (List Bool)) (groups : List Group) (is : groups ≡ groups
             subst P (group-at i (group_of sets 0) within) (told.each (group_of sets 0) d i within);
       }
 
--- before anything is told
+-- before the first step no set has a result
 pub none-told-yet : (system : System) (allowed : List Bool) (horizon : ℕ) (groups : List Group) (told : List (Option Told)) →
     told ≡ replicate (length groups) None → AreToldSoFar system allowed horizon groups told
 none-told-yet system allowed horizon groups told is i d l =
@@ -73,7 +73,7 @@ none-told-yet system allowed horizon groups told is i d l =
     let P : Option Told → Type 0 = λ one. IfSome one (IsTold system allowed horizon (get_or groups i d).set (get_or groups i d).own) in
     subst P (sym e) tt
 
--- where nothing is left, each is told
+-- if no set is left, each has a result
 left-at : (told : List (Option Told)) (i : ℕ) → is_any_left told ≡ false → i < length told → get_or told i None ≡ None → ⊥
 left-at [] i none l e = omega (arith, l)
 left-at (None ∷ told) i none l e = cc
@@ -83,7 +83,7 @@ left-at (Some one ∷ told) (suc i) none l e = left-at told i none (omega (arith
 pub nothing-left : (told : List (Option Told)) → is_any_left told ≡ false → (i : ℕ) → i < length told → get_or told i None ≡ None → ⊥
 nothing-left told none i l e = left-at told i none l e
 
--- where something is left, the horizon is met
+-- if a set is left, the horizon is met
 pub at-end : (clock horizon : ℕ) (told : List (Option Told)) → (nat_le clock horizon && is_any_left told) ≡ false → clock ≤ horizon + 1 →
     (i : ℕ) → i < length told → get_or told i None ≡ None → clock ≡ horizon + 1
 at-end clock horizon told e t i l none = by (nat_le clock horizon) refl
@@ -94,7 +94,7 @@ at-end clock horizon told e t i l none = by (nat_le clock horizon) refl
         let late : horizon < clock = grind (arith, nat_tests) in
         omega (arith, late, t)
 
--- what is told stays so, of what is the same
+-- results stay true for an equal system, horizon and list of notifications
 pub told-on : (s s' : System) (al al' : List Bool) (h : ℕ) (g g' : List Group) (t t' n n' : List (Option Told)) → s' ≡ s → al' ≡ al → g' ≡ g → t' ≡ t → n' ≡ n →
     (AreToldSoFar s' al' h g' t' → AreToldSoFar s' al' h g' n) → AreToldSoFar s al h g t → AreToldSoFar s al h g n'
 told-on s s' al al' h g g' t t' n n' es ea eg et en f so =

@@ -1,4 +1,4 @@
--- The numbers below one, and one more.
+-- The numbers below n, and one more.
 use Rattle.std.proofs.Common.{◌≡◌, ℕ, zero, suc, ◌+◌, ◌<◌, ◌≤◌, ◌⊎◌, inl, inr, Bool, true, false, ◌||◌, List, [], ◌∷◌, ◌++◌, map, Option, Some, None, cond, refl, sym, ap, ◌∙◌, append_assoc, arith}
 use Rattle.std.specs.List.{filter, filter_map, list_any, range_with_len}
 use Rattle.std.proofs.lemmas.Bool.{cases_lt}
@@ -22,7 +22,7 @@ any-at p n =
     ap (list_any p) (range-more n) ∙ list_any-append p (range_with_len 0 n) (n ∷ [])
     ∙ ap (λ b. list_any p (range_with_len 0 n) || b) (or-false (p n))
 
--- one more number passes no test either
+-- if no number below n passes the test, and n fails it, none below n + 1 passes
 pub none-more : (p : ℕ → Bool) (n : ℕ) → list_any p (range_with_len 0 n) ≡ false → p n ≡ false → list_any p (range_with_len 0 (n + 1)) ≡ false
 none-more p n before now = any-at p n ∙ ap (λ b. b || p n) before ∙ now
 
@@ -48,7 +48,7 @@ some-below p k (suc n) l at =
 kept-one : (p : ℕ → Bool) (n : ℕ) (b : Bool) → p n ≡ b → filter p (n ∷ []) ≡ cond b (n ∷ []) []
 kept-one p n b e = ap (λ b. cond b (n ∷ []) []) e
 
--- of the numbers that pass a test, one more or none
+-- the numbers that pass a test: one more, or none
 module _ {T : Type 0} (p : ℕ → Bool) (f : ℕ → T) (n : ℕ) where
   map-one : (b : Bool) → map f (cond b (n ∷ []) []) ≡ cond b (f n ∷ []) []
   map-one true = refl
@@ -69,7 +69,7 @@ pub back : {T : Type 0} (xs ys : List T) → xs ++ ys ≡ [] → ys ≡ []
 back [] ys e = e
 back (x ∷ xs) ys e = cc
 
--- of the lines of numbers, one more where there is one
+-- the lines of one number more: another line, if it has one
 module _ {T : Type 0} (tell : ℕ → Option T) where
   one : (n : ℕ) (o : Option T) → tell n ≡ o → filter_map tell (n ∷ []) ≡ if_some o
   one n None e = simp e
@@ -97,7 +97,7 @@ module _ {T : Type 0} (tell : ℕ → Option T) where
       let same : k ≡ n = omega (arith, l, more) in
       ap tell same ∙ nothing (tell n) now
 
-  -- where no line is told, there is none for any number
+  -- an empty list of lines has no line for any number
   pub none-told : (n : ℕ) → filter_map tell (range_with_len 0 n) ≡ [] → (k : ℕ) → k < n → tell k ≡ None
   none-told zero e k l = absurd (omega (arith, l))
   none-told (suc n) e k l =

@@ -1,4 +1,4 @@
--- Where nothing is found of a thread or a notification by the end of the first period, nothing ever is.
+-- A thread or a notification without a finding by the end of the first period never has one.
 use Rattle.std.proofs.Common.{◌≡◌, ℕ, suc, ◌+◌, ◌-◌, ◌<◌, ◌≤◌, Bool, true, List, [], length, get_or, None, sym, subst, arith}
 use Rattle.mcs_system.specs.System.{System, note_part}
 use Rattle.mcs_system.specs.WellFormed.{IsWellFormed}
@@ -21,7 +21,7 @@ module _ (system : System) (well : IsWellFormed system) (search : Compared) (set
   over : search.kept + has_recurred.shifts.by ≤ suc last
   over = omega (arith, has_recurred.by_is)
 
-  -- by what is counted and kept up to the last moment of the first period
+  -- by the counts and the watch up to the last moment of the first period
   pub thread-never : NoDeadlineIsMissed → ThreadIsNeverFound → WhoWaitsAloneTakesIt → (thread : ℕ) → thread < length system.threads →
       EndIsKnown system set by search.kept thread → get_or (course_up_to system last).misses thread 0 ≡ 0 → unended_at system last thread ≡ None →
       IsNeverFound system search.kept thread
@@ -37,7 +37,7 @@ module _ (system : System) (well : IsWellFormed system) (search : Compared) (set
   note-never law note l own few h =
       law system (has set) has_recurred.shifts search.kept well has_recurred.recurs note own last over (no-loss system last note l few) h
 
--- where no line is told of what is found, nothing is ever found
+-- without a line of a finding, nothing is ever found
 pub clean : (system : System) (allowed own : List Bool) (p : Period) → AreSettled system allowed own p → found_in_period system allowed own p ≡ [] →
     NothingIsEverFound system allowed own p.from
 clean system allowed own p settled e =

@@ -1,4 +1,4 @@
--- What was kept since a moment, of a set that recurs since then.
+-- Facts kept since a moment, for a set that recurs since then.
 use Rattle.std.proofs.Common.{◌≡◌, ℕ, zero, suc, ◌+◌, ◌-◌, ◌≤◌, List, [], ◌++◌, Bool, length, map, get_or, false, refl, sym, ap, subst, ◌∙◌, append_assoc, append-nil, arith}
 use Rattle.std.specs.List.{range_with_len}
 use Rattle.std.proofs.lemmas.List.FromFn.{fill_by_all, length-map-range_with_len}
@@ -26,7 +26,7 @@ use Rattle.mcs_course.specs.Course.{Course, course_of}
 use Rattle.mcs_outlook.specs.Outlook.{course_before, course_up_to, ended_between}
 use Rattle.mcs_outlook.specs.stored.Looks.{IsLook, HasRecurred}
 
--- the rows by which the schedule goes on
+-- the rows by which a schedule to a later horizon continues
 rows-on : (s : System) → TakesTime s → (from n : ℕ) → (rows : List Row) × (rows_before s (from + n) ≡ rows_before s from ++ rows)
 rows-on s takes from zero =
     let e : from + 0 ≡ from = omega arith in
@@ -58,7 +58,7 @@ module _ (system : System) (search : Compared) (look : IsLook system search) whe
             ∙ ap (λ (told : List What). doings_of system told) (sym (tell search.kept (search.kept + by) more.0 l more.1));
       }
 
-  -- what the doings since then tell of the rounds
+  -- the rounds that ended, by the doings since then
   pub ended-since : (by : ℕ) → search.kept + by ≡ search.clock → (doings : Doings) →
       doings ≡ doings_of search.system (told_between search.system search.kept search.clock) →
       doings.ended ≡ ended_between system search.kept (search.kept + by)
@@ -66,7 +66,7 @@ module _ (system : System) (search : Compared) (look : IsLook system search) whe
       ap (λ (d : Doings). d.ended) (d ∙ ap (λ (s : System). doings_of s (told_between s search.kept search.clock)) look.same
       ∙ ap (λ (m : ℕ). doings_of system (told_between system search.kept m)) (sym period))
 
-  -- what the rows before a moment, some moment after another one, came to up to that one
+  -- the counts of the rows before a moment are those of the rows up to the tick before it
   course-last : (clock : ℕ) → 1 ≤ clock → course_of system (past_before system clock) ≡ course_up_to system (clock - 1)
   course-last clock some =
       let e : clock ≡ suc (clock - 1) = omega arith in
@@ -86,7 +86,7 @@ module _ (system : System) (search : Compared) (look : IsLook system search) whe
   pub watch-at : (t : ℕ) → 1 ≤ t → (watch : Watch) → watch ≡ watch_before search.system t → watch ≡ watch_of system (past_of [] (schedule system (t - 1)))
   watch-at t some watch is = is ∙ ap (λ (s : System). watch_before s t) look.same ∙ watch-last t some
 
-  -- a repetition of the search
+  -- a recurrence that the search found
   pub has-recurred : (set : List Bool) (shifts : Shifts) → RecursSince search set shifts →
       FindingsRecur system (has set) (shifts_told shifts.by shifts.lags.items) search.kept → HasRecurred system search set shifts.by
   has-recurred set shifts since recurs =

@@ -1,4 +1,4 @@
--- The lines that are told, put behind one another.
+-- The lines of a set, appended to one another.
 use Rattle.std.proofs.Common.{◌≡◌, ℕ, suc, ◌+◌, ◌-◌, Bool, true, false, List, [], ◌∷◌, ◌++◌, length, ap, ◌∙◌, append_assoc, arith}
 use Rattle.mcs_system.specs.System.{System}
 use Rattle.mcs_course.specs.Course.{Course}
@@ -22,7 +22,7 @@ module _ (s : System) (allowed : List Bool) (horizon : ℕ) (set own : List Bool
   abbrev found : List Line
   found = found_in_period s allowed own p
 
-  -- of cores that repeat
+  -- for a set that recurs
   pub record AreOfPeriod (lines : List Line) (findings : ℕ) : Type 0 where
     pub lines_are : lines ≡ period_lines s allowed horizon set own p
     pub findings_are : findings ≡ length found
@@ -59,7 +59,7 @@ module _ (s : System) (allowed : List Bool) (horizon : ℕ) (set own : List Bool
       }
 
 module _ (s : System) (allowed : List Bool) (horizon : ℕ) (set own : List Bool) where
-  -- of cores of which no repetition was found
+  -- for a set that was not found to recur
   pub record AreOpen (lines : List Line) (findings : ℕ) : Type 0 where
     pub lines_are : lines ≡ open_lines s allowed horizon set own
     pub findings_are : findings ≡ length (found_so_far s allowed horizon set own)

@@ -1,4 +1,4 @@
--- What is told of a thread at the end of a run is told wherever something is found.
+-- Each finding of a thread at the end of a run has a line.
 use Rattle.std.proofs.Common.{◌≡◌, ℕ, ◌-◌, Bool, true, false, cond, ◌&&◌, not, List, Option, Some, None, refl}
 use Rattle.std.specs.Prelude.{◌==◌, is_some}
 use Rattle.mcs_ticks.specs.declared.row.Row.{Row}
@@ -22,7 +22,7 @@ some-none None e is = cc
 some-none (Some x) e is = cc
 
 module _ (h x : ℕ) where
-  -- nothing is told of it, and so nothing is found
+  -- without a line the thread has no finding
   abbrev IsTold : Option Finding → Type 0
   IsTold o = end_told h x o ≡ None → o ≡ None
 

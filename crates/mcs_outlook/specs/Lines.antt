@@ -1,4 +1,4 @@
--- The lines that are told of a set of cores.
+-- The lines of one set of cores.
 use Rattle.std.specs.Prelude.{ℕ, ◌+◌, ◌-◌, Bool, true, false, ◌&&◌, not, ◌==◌, if◌then◌else◌, List, [], ◌∷◌, ◌++◌, length, get_or, Option, Some, None}
 use Rattle.std.specs.List.{filter_map, range_with_len}
 use Rattle.mcs_system.specs.System.{System, thread_part, note_part, core_of}
@@ -11,29 +11,29 @@ use Rattle.mcs_forever_text.specs.declared.line.Line.TheVariants as line
 use Rattle.mcs_forever_text.specs.declared.line.Often.{Often}
 use Rattle.mcs_forever_text.specs.declared.line.Often.TheVariants.{Forever, SoFar}
 
--- how often by the end of the first period, where it was so often before that; or how often so far
+-- the count in each period, and the count before the first one; or the count so far
 abbrev pub often_of : Bool → ℕ → ℕ → Often
 often_of true before times = Forever before (times - before)
 often_of false before times = SoFar times
 
--- whether it is at all
+-- whether the count is not 0
 abbrev pub is_some : Often → Bool
 is_some (Forever before each_period) = not (before + each_period == 0)
 is_some (SoFar times) = not (times == 0)
 
--- from when on a thread ends no round, where none ended in the first period
+-- the time from which on a thread ends no round, if none ended in the first period
 abbrev pub silent_from : ℕ → Bool → Option ℕ
 silent_from from true = None
 silent_from from false = Some from
 
--- what is found of a thread at the horizon
+-- the line of a thread's finding at the horizon
 abbrev pub end_told : ℕ → ℕ → Option Finding → Option Line
 end_told horizon thread (Some (finding.Overdue x deadline activated queued stood)) = Some (line.Overdue thread horizon)
 end_told horizon thread (Some (finding.Never x deadline)) = Some (line.Never thread horizon)
 end_told horizon thread _ = None
 
 module _ (system : System) where
-  -- for each thread of the system a line, where there is one, and for each notification
+  -- a line for each thread of the system, if there is one, and for each notification
   abbrev pub of_threads : (ℕ → Option Line) → List Line
   of_threads tell = filter_map tell (range_with_len 0 (length system.threads))
 
@@ -48,7 +48,7 @@ module _ (system : System) (own : List Bool) where
   abbrev pub is_own_note : ℕ → Bool
   is_own_note note = has own (note_part system note).core
 
-  -- what the rows came to before the first period and by its end; for ever, or so far
+  -- the counts of the rows before the first period and up to its end; or both so far
   module _ (forever : Bool) (before after : Course) where
     abbrev pub misses_of : ℕ → Often
     misses_of thread = often_of forever (get_or before.misses thread 0) (get_or after.misses thread 0)
@@ -56,12 +56,12 @@ module _ (system : System) (own : List Bool) where
     abbrev pub losses_of : ℕ → Often
     losses_of note = often_of forever (get_or before.losses note 0) (get_or after.losses note 0)
 
-    -- rounds of the thread that missed their deadline
+    -- the rounds of the thread that missed their deadline
     abbrev pub miss_line : ℕ → Option Line
     miss_line thread =
         if is_own_thread thread && is_some (misses_of thread) then Some (line.Miss thread (misses_of thread)) else None
 
-    -- signals that the notification lost, where this is not allowed
+    -- the signals that the notification lost, unless it may lose signals
     abbrev pub lost_line : List Bool → ℕ → Option Line
     lost_line allowed note =
         if is_own_note note && (not (has allowed note) && is_some (losses_of note)) then Some (line.Lost note (losses_of note)) else None
@@ -75,7 +75,8 @@ module _ (system : System) (own : List Bool) where
   abbrev pub end_lines : ℕ → (ℕ → Option Finding) → List Line
   end_lines horizon unended = of_threads system (end_line horizon unended)
 
-  -- the greatest response of the thread, whether it never spent its budget, and from when on it ends no round
+  -- the maximum response of the thread, whether it never exhausted its budget, and the time from
+  -- which on it ends no round
   abbrev pub thread_line : Course → ℕ → List Bool → ℕ → Option Line
   thread_line course from ended thread =
       if is_own_thread thread
@@ -93,7 +94,7 @@ module _ (system : System) (own : List Bool) where
   abbrev pub threads_so_far : Course → List Line
   threads_so_far course = of_threads system (thread_so_far course)
 
--- nothing is ever found, where nothing was
+-- the line `nothing is ever found`, if there are no lines of findings
 abbrev pub clean_lines : List Bool → List Line → List Line
 clean_lines set [] = line.Clean set ∷ []
 clean_lines set (l ∷ lines) = []

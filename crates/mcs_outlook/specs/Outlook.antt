@@ -1,4 +1,4 @@
--- What is told of the cores of a system for all time, and what it says.
+-- The results of a check for all time, and what they mean.
 use Rattle.std.specs.Prelude.{◌≡◌, ℕ, ◌+◌, ◌-◌, ◌<◌, ◌≤◌, Bool, true, false, List, [], ◌∷◌, ◌++◌, length, get_or, Option, Some, None}
 use Rattle.mcs_system.specs.System.{System}
 use Rattle.mcs_core.specs.Clock.{schedule}
@@ -20,22 +20,23 @@ use Rattle.mcs_outlook.specs.Sets.{own_of, firsts}
 use Rattle.mcs_outlook.specs.Lines.{count_lines, end_line, end_lines, thread_lines, threads_so_far, clean_lines, miss_line, lost_line, is_own_thread, is_own_note}
 
 module _ (system : System) where
-  -- what the rows before a moment came to, and those up to it
+  -- the counts of the rows before a moment, and of those up to a horizon
   abbrev pub course_before : ℕ → Course
   course_before t = course_of system (past_before system t)
 
   abbrev pub course_up_to : ℕ → Course
   course_up_to horizon = course_of system (past_of [] (schedule system horizon))
 
-  -- for each thread whether a round of it ended between two moments
+  -- for each thread, whether a round of it ended between two moments
   abbrev pub ended_between : ℕ → ℕ → List Bool
   ended_between from past = (doings_of system (told_between system from past)).ended
 
-  -- what is found of a thread at the end of a run
+  -- the finding of a thread at the end of a run
   abbrev pub unended_at : ℕ → ℕ → Option Finding
   unended_at horizon thread = unended system (past_of [] (schedule system horizon)) horizon thread
 
-  -- nothing is found of a thread at any horizon from some moment on, and no signal of a notification is lost up to any
+  -- a thread has no finding at any horizon from some moment on; a notification loses no signal up
+  -- to any horizon
   abbrev pub IsNeverFound : ℕ → ℕ → Type 0
   IsNeverFound from thread = (h : ℕ) → from ≤ h → NothingIsFoundOf system h thread
 
@@ -47,55 +48,58 @@ abbrev pub last_of : Period → ℕ
 last_of p = p.from + p.ticks - 1
 
 module _ (system : System) (own : List Bool) (p : Period) where
-  -- of a thread that is told with the set: rounds that missed their deadline, and what is found at the end of the first period
+  -- for a thread that is reported with the set: its missed deadlines, and its finding at the end of
+  -- the first period
   abbrev pub told_miss : ℕ → Option Line
   told_miss = miss_line system own true (course_before system p.from) (course_up_to system (last_of p))
 
   abbrev pub told_end : ℕ → Option Line
   told_end = end_line system own (last_of p) (unended_at system (last_of p))
 
-  -- where neither is told of a thread, it is never found
+  -- a thread with neither line has no finding at any horizon from the first period on
   abbrev pub ThreadIsSettled : ℕ → Type 0
   ThreadIsSettled thread =
       is_own_thread system own thread ≡ true → told_miss thread ≡ None → told_end thread ≡ None → IsNeverFound system p.from thread
 
 module _ (system : System) (allowed own : List Bool) (p : Period) where
-  -- signals that a notification lost that may lose none
+  -- the lost signals of a notification that may lose none
   abbrev pub told_loss : ℕ → Option Line
   told_loss = lost_line system own true (course_before system p.from) (course_up_to system (last_of p)) allowed
 
-  -- where none is told, it never loses one
+  -- a notification without that line never loses a signal
   abbrev pub NoteIsSettled : ℕ → Type 0
   NoteIsSettled note =
       is_own_note system own note ≡ true → has allowed note ≡ false → told_loss note ≡ None → NeverLoses system note
 
-  -- so it is of all threads and notifications
+  -- each thread and each notification is settled
   pub record AreSettled : Type 0 where
     pub threads : (thread : ℕ) → thread < length system.threads → ThreadIsSettled system own p thread
     pub notes : (note : ℕ) → note < length system.notes → NoteIsSettled note
 
-  -- what is found of cores that repeat
+  -- the findings of cores that recur
   abbrev pub found_in_period : List Line
   found_in_period =
       count_lines system own true (course_before system p.from) (course_up_to system (last_of p)) allowed
       ++ end_lines system own (last_of p) (unended_at system (last_of p))
 
--- nothing is ever found: from some moment on, at no horizon, of a thread of these cores, and at none at all of a notification that may lose no signal
+-- no finding for ever: no thread of these cores has a finding at any horizon from some moment on,
+-- and no notification of them that may lose no signal ever loses one
 pub record NothingIsEverFound (system : System) (allowed own : List Bool) (from : ℕ) : Type 0 where
   pub threads : (thread : ℕ) → thread < length system.threads → is_own_thread system own thread ≡ true → IsNeverFound system from thread
   pub notes : (note : ℕ) → note < length system.notes → is_own_note system own note ≡ true → has allowed note ≡ false →
       NeverLoses system note
 
--- notifications that may lose signals, the horizon, a set of cores, and those of them that are told with it
+-- notifications that may lose signals, the horizon, a set of cores, and those of its cores that are
+-- reported with it
 module _ (system : System) (allowed : List Bool) (horizon : ℕ) (set own : List Bool) where
-  -- all that is told of cores that repeat
+  -- all lines of a set that recurs
   abbrev pub period_lines : Period → List Line
   period_lines p =
       line.Repeats set p.from p.ticks ∷ (found_in_period system allowed own p
       ++ (thread_lines system own (course_up_to system (last_of p)) p.from (ended_between system p.from (p.from + p.ticks))
       ++ clean_lines set (found_in_period system allowed own p)))
 
-  -- of cores of which no repetition was found
+  -- the findings of a set that was not found to recur
   abbrev pub found_so_far : List Line
   found_so_far =
       count_lines system own false (course_up_to system horizon) (course_up_to system horizon) allowed
@@ -112,7 +116,8 @@ module _ (system : System) (allowed : List Bool) (horizon : ℕ) (set own : List
   found_of (Some p) = found_in_period system allowed own p
   found_of None = found_so_far
 
-  -- the set recurs so, in what is found, too; of whatever nothing is told by the end of the first period, nothing is ever found
+  -- the set recurs with this period, in its findings, too; a thread or a notification without a
+  -- finding by the end of the first period never has one
   pub record Repeats (p : Period) : Type 0 where
     pub shifts : Shifts
     pub by : shifts.by ≡ p.ticks
@@ -124,14 +129,15 @@ module _ (system : System) (allowed : List Bool) (horizon : ℕ) (set own : List
   IsTrueOf (Some p) = Repeats p
   IsTrueOf None = Unit {0}
 
-  -- what is told of the set is so, and these are its lines and its findings
+  -- the result of the set is true, and these are its lines and the number of its findings
   pub record IsTold (told : Told) : Type 0 where
     pub cores : told.set ≡ set
     pub so : IsTrueOf told.period
     pub lines : told.lines.items ≡ lines_of told.period
     pub findings : told.findings ≡ length (found_of told.period)
 
--- of each set of cores that no core outside it signals something is told, in order of the first core of which it is the least one
+-- each closed set, which no core outside it signals, has a result, in order of the first core whose
+-- smallest closed set it is
 pub record AreTold (system : System) (allowed : List Bool) (horizon : ℕ) (told : List Told) : Type 0 where
   pub sets : List (List Bool)
   pub closed : AreLeastClosed system sets

@@ -1,9 +1,9 @@
--- How far an outlook is.
+-- The progress of a check for all time.
 use Rattle.std.specs.Prelude.{◌≡◌, ℕ, Bool, List}
 use Rattle.mcs_system.specs.System.{System}
 
--- the system, the notifications that may lose signals, the last moment up to which a repetition is looked for, the moment before which all cores
--- stand, and whether a set is left of which nothing is told yet
+-- the system, the notifications that may lose signals, the last moment up to which a recurrence is
+-- searched for, the time of the next turn of all cores; and whether some set has no result yet
 pub record Progress : Type 0 where
   pub system : System
   pub allowed : List Bool
@@ -11,13 +11,13 @@ pub record Progress : Type 0 where
   pub clock : ℕ
   pub left : Bool
 
--- a run of the same system up to the same horizon, with the same notifications that may lose signals
+-- the system, the horizon and the notifications that may lose signals are kept
 pub record IsOfSame (old new : Progress) : Type 0 where
   pub system : new.system ≡ old.system
   pub allowed : new.allowed ≡ old.allowed
   pub horizon : new.horizon ≡ old.horizon
 
--- before the first moment
+-- the check before its first moment
 pub record IsOpening (system : System) (allowed : List Bool) (horizon : ℕ) (new : Progress) : Type 0 where
   pub of_system : new.system ≡ system
   pub may_lose : new.allowed ≡ allowed

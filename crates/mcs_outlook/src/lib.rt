@@ -1,5 +1,5 @@
-//! What is told of the cores of a system for all time: which sets of them repeat, from when on and with which period, and what is found of them for
-//! ever.
+//! The results of a check for all time: which closed sets of cores recur, from when on and with
+//! which period, and their findings for ever.
 #![tactic(auto)]
 
 mod lines;

@@ -1,4 +1,4 @@
-//! The lines that are told of a set of cores.
+//! The lines of one set of cores.
 ghost use Rattle.std.specs.Prelude.{◌≡◌, ◌++◌, ◌<◌, List, length, OnOk};
 ghost use Rattle.mcs_ticks.specs.declared.row.Row.{Row as TheRow};
 ghost use Rattle.mcs_verdict.specs.Findings.{UpTo};
@@ -40,7 +40,8 @@ fn is_some(often: &Often) -> bool
     }
 }
 
-/// Cores of a system, and what the rows came to before the first period of their doings and by its end, or so far.
+/// A group of cores, with the counts of the rows before its first period and up to the period's
+/// end. Without a recurrence both are the counts so far.
 #[derive(Clone, Copy)]
 pub(crate) struct Span<'s> {
     pub(crate) system: &'s System,
@@ -50,7 +51,7 @@ pub(crate) struct Span<'s> {
     pub(crate) after: &'s Course,
 }
 
-/// Whether a thread is on one of these cores.
+/// Whether the thread is on one of these cores.
 pub(crate) fn is_own_thread(system: &System, own: &CoreSet, thread: ThreadId) -> bool
     requires { thread < length system.now.threads }
     ensures { result ≡ is_own_thread system.now own.now thread }
@@ -59,7 +60,7 @@ pub(crate) fn is_own_thread(system: &System, own: &CoreSet, thread: ThreadId) ->
     is_own(own, parts.core_of_thread(parts.thread(thread)))
 }
 
-/// What is told of rounds of the thread that missed their deadline.
+/// The line of the thread's deadline misses, if it is on one of these cores and has any.
 pub(crate) fn miss_line(span: &Span<'_>, thread: ThreadId) -> Option<Line>
     requires { thread < length span.now.system.now.threads }
     ensures { result ≡ miss_line span.now.system.now span.now.own.now span.now.forever span.now.before.now span.now.after.now thread }
@@ -76,7 +77,8 @@ pub(crate) fn miss_line(span: &Span<'_>, thread: ThreadId) -> Option<Line>
     }
 }
 
-/// What is told of signals that the notification lost.
+/// The line of the notification's lost signals, if it is on one of these cores, has any, and may
+/// lose none.
 pub(crate) fn lost_line(span: &Span<'_>, allowed: &[bool], note: NoteId) -> Option<Line>
     requires { note < length span.now.system.now.notes }
     ensures { result ≡ lost_line span.now.system.now span.now.own.now span.now.forever span.now.before.now span.now.after.now allowed.now note }
@@ -94,7 +96,7 @@ pub(crate) fn lost_line(span: &Span<'_>, allowed: &[bool], note: NoteId) -> Opti
     }
 }
 
-/// What is told of what is found of a thread.
+/// The line of a thread's finding at the horizon, if there is one.
 fn end_told(moment: Tick, thread: ThreadId, found: &Option<Finding>) -> Option<Line>
     ensures { result ≡ end_told moment thread found.now }
 {
@@ -105,7 +107,7 @@ fn end_told(moment: Tick, thread: ThreadId, found: &Option<Finding>) -> Option<L
     }
 }
 
-/// What is told of the thread at the end of a run, by what was kept of its rows.
+/// The line of the thread at the end of a run, by a watch of the run's rows.
 pub(crate) fn end_line(
     system: &System,
     own: &CoreSet,
@@ -124,14 +126,14 @@ pub(crate) fn end_line(
     }
 }
 
-/// From when on the thread ends no round, where it ended none in the first period.
+/// The time from which on the thread ends no round, if it ended none in the first period.
 fn silent_from(from: Tick, ended: bool) -> Option<Tick>
     ensures { result ≡ silent_from from ended }
 {
     if ended { None } else { Some(from) }
 }
 
-/// What is told of a thread for ever.
+/// The line of a thread whose set recurs.
 fn thread_line(
     system: &System,
     own: &CoreSet,
@@ -155,7 +157,7 @@ fn thread_line(
     }
 }
 
-/// What is told of a thread so far.
+/// The line of a thread whose set was not found to recur.
 fn thread_so_far(system: &System, own: &CoreSet, course: &Course, thread: ThreadId) -> Option<Line>
     requires { thread < length system.now.threads }
     ensures { result ≡ thread_so_far system.now own.now course.now thread }
@@ -170,7 +172,7 @@ fn thread_so_far(system: &System, own: &CoreSet, course: &Course, thread: Thread
     }
 }
 
-/// Puts one more behind the others, if there is one.
+/// Appends the item, if there is one.
 pub(crate) fn push<T: Copy>(items: &mut Vec<T>, one: Option<T>) -> Result<(), NoMemory>
     ensures { OnOk result (items.new.items ≡ items.old.items ++ if_some one) }
 {
@@ -180,7 +182,6 @@ pub(crate) fn push<T: Copy>(items: &mut Vec<T>, one: Option<T>) -> Result<(), No
     Ok(())
 }
 
-/// Puts the lines of missed deadlines behind the others.
 fn push_misses(lines: &mut Vec<Line>, span: &Span<'_>) -> Result<(), NoMemory>
     ensures { OnOk result (lines.new.items ≡ lines.old.items ++ of_threads span.now.system.now
         (miss_line span.now.system.now span.now.own.now span.now.forever span.now.before.now span.now.after.now)) }
@@ -191,7 +192,6 @@ fn push_misses(lines: &mut Vec<Line>, span: &Span<'_>) -> Result<(), NoMemory>
     Ok(())
 }
 
-/// Puts the lines of lost signals behind the others.
 fn push_losses(lines: &mut Vec<Line>, span: &Span<'_>, allowed: &[bool]) -> Result<(), NoMemory>
     ensures { OnOk result (lines.new.items ≡ lines.old.items ++ of_notes span.now.system.now
         (lost_line span.now.system.now span.now.own.now span.now.forever span.now.before.now span.now.after.now allowed.now)) }
@@ -202,7 +202,7 @@ fn push_losses(lines: &mut Vec<Line>, span: &Span<'_>, allowed: &[bool]) -> Resu
     Ok(())
 }
 
-/// Puts the lines of what is counted behind the others.
+/// Appends the lines of deadline misses and of lost signals.
 pub(crate) fn push_counts(
     lines: &mut Vec<Line>,
     span: &Span<'_>,
@@ -215,7 +215,7 @@ pub(crate) fn push_counts(
     push_losses(lines, span, allowed)
 }
 
-/// Puts the lines of what is found at the end of a run behind the others, by what was kept of its rows.
+/// Appends the lines of findings at the end of a run, by a watch of the run's rows.
 pub(crate) fn push_ends(
     lines: &mut Vec<Line>,
     system: &System,
@@ -235,7 +235,6 @@ pub(crate) fn push_ends(
     Ok(())
 }
 
-/// Puts the lines of the threads behind the others, for ever.
 pub(crate) fn push_threads(
     lines: &mut Vec<Line>,
     system: &System,
@@ -253,7 +252,7 @@ pub(crate) fn push_threads(
     Ok(())
 }
 
-/// Puts the lines of the threads behind the others, so far.
+/// Appends the threads' lines, for a set that was not found to recur.
 pub(crate) fn push_so_far(
     lines: &mut Vec<Line>,
     system: &System,

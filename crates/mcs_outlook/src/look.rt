@@ -1,4 +1,4 @@
-//! What a search tells of a set of cores at some moment.
+//! The questions that a check asks a search about one set of cores at one moment.
 ghost use Rattle.std.specs.Prelude.{◌≡◌, ◌≢◌, ◌+◌, ◌-◌, ◌<◌, Bool, List, true, length, None, IfOk, IsTrue};
 ghost use Rattle.mcs_ticks.specs.declared.row.What.{What as TheWhat};
 ghost use Rattle.mcs_system.specs.System.{thread_part, core_of};
@@ -20,7 +20,7 @@ use mcs_ticks::{NoMemory, ThreadId, Tick};
 use mcs_verdict_laws::schedules_are_in_order;
 use std::alloc::Global;
 
-/// A search at some moment, and notifications that may lose signals.
+/// A search at one moment, and the notifications that may lose signals.
 #[derive(Clone, Copy)]
 pub(crate) struct Look<'s> {
     pub(crate) system: &'s System,
@@ -28,14 +28,14 @@ pub(crate) struct Look<'s> {
     pub(crate) allowed: &'s [bool],
 }
 
-/// The moment before this one.
+/// The tick before; 0 at time 0.
 pub(crate) fn before(moment: Tick) -> Tick
     ensures { result ≡ moment - 1 }
 {
     Tick::new(moment.get().saturating_sub(1)).unwrap()
 }
 
-/// For each thread whether a round of it ended.
+/// Returns for each thread whether it ended a round.
 pub(crate) fn ended_flags(
     alloc: Global,
     system: &System,
@@ -50,7 +50,7 @@ pub(crate) fn ended_flags(
     Ok(flags)
 }
 
-/// Whether a set that recurs since the kept moment does so in what is found, too.
+/// Whether a set that recurs since the kept moment also recurs in its findings.
 pub(crate) fn finds_again(look: &Look<'_>, group: &Group, by: u64) -> bool
     requires { IsLook look.now.system.now look.now.search.now }
     ensures { IsTrue result → (shifts : TheShifts) → shifts.by ≡ by → look.now.search.now.kept + by ≡ look.now.search.now.clock →
@@ -70,7 +70,7 @@ pub(crate) fn finds_again(look: &Look<'_>, group: &Group, by: u64) -> bool
     )
 }
 
-/// Whether what horizons tell of a thread recurs, where the set does.
+/// Whether the thread's finding at horizons recurs, if its set does.
 fn ends_again(look: &Look<'_>, by: u64, thread: ThreadId) -> bool
     requires known { thread < length look.now.system.now.threads }
     requires look { IsLook look.now.system.now look.now.search.now }
@@ -90,7 +90,8 @@ fn ends_again(look: &Look<'_>, by: u64, thread: ThreadId) -> bool
     )
 }
 
-/// Whether the thread has no deadline, or takes its first word alone.
+/// Whether the thread has no deadline, or no other script waits for the notification for which its
+/// script waits first.
 fn is_alone(system: &System, thread: ThreadId) -> bool
     requires { thread < length system.now.threads }
     ensures { IsTrue result → (thread_part system.now thread).deadline ≢ 0 → WaitsAlone system.now thread }
@@ -98,7 +99,7 @@ fn is_alone(system: &System, thread: ThreadId) -> bool
     system.parts().thread(thread).deadline == 0 || waits_alone(system, thread)
 }
 
-/// Whether nothing was found of the thread at the horizon before the kept moment.
+/// Whether the thread has no finding at the horizon one tick before the kept moment.
 fn was_clear(look: &Look<'_>, thread: ThreadId) -> bool
     requires { IsLook look.now.system.now look.now.search.now }
     ensures { IsTrue result → unended_at look.now.system.now (look.now.search.now.kept - 1) thread ≡ None }
@@ -114,7 +115,8 @@ fn was_clear(look: &Look<'_>, thread: ThreadId) -> bool
     found.is_none()
 }
 
-/// Whether it is known of the thread that where nothing is found of it by the end of the first period, nothing ever is.
+/// Whether the premises are known by which a thread without a finding by the end of the first
+/// period never has one.
 pub(crate) fn end_is_known(look: &Look<'_>, group: &Group, by: u64, thread: ThreadId) -> bool
     requires known { thread < length look.now.system.now.threads }
     requires look { IsLook look.now.system.now look.now.search.now }

@@ -15,7 +15,8 @@ use std::alloc::Global;
 use std::marker::Model;
 use std::sync::Arc;
 
-/// What is found of the cores of a system for all time, as a run goes on in which repetitions are looked for.
+/// A check for all time that proceeds moment by moment: a run in which recurrences are searched
+/// for.
 #[derive(Drop)]
 pub struct Outlook {
     system: Arc<System>,
@@ -43,8 +44,9 @@ impl Model for Outlook {
 }
 
 impl Outlook {
-    /// Before the first moment: repetitions are looked for up to this horizon, and nothing is told of signals that these notifications lose.
-    /// `NoMemory` where a growth was refused.
+    /// Returns a check before its first moment. Recurrences are searched for up to this horizon, at
+    /// most 2^40. Lost signals of the notifications flagged in `allowed` are not reported. Fails
+    /// only if memory runs out.
     pub fn new(
         alloc: Global,
         system: Arc<System>,
@@ -74,15 +76,16 @@ impl Outlook {
         })
     }
 
-    /// The moment before which all cores stand.
+    /// The time of the next turn of all cores.
     pub fn clock(&self) -> Tick
         ensures { result ≡ self.now.clock }
     {
         self.search.clock()
     }
 
-    /// Goes on to the next moment at which something happens, unless something is told of all sets or the horizon is met: tells whether it did.
-    /// `NoMemory` where a growth was refused, now or before.
+    /// Moves on to the next moment at which something happens, and returns whether it did. It
+    /// returns `false`, and nothing changes, once each set is reported or the horizon has passed.
+    /// Fails only if memory runs out; each later call then fails, too.
     pub fn step(&mut self, alloc: Global) -> Result<bool, NoMemory>
         ensures same { IsOfSame self.old self.new }
         ensures on { IfOk result (λ on. on ≡ (nat_le self.old.clock self.old.horizon && self.old.left)) }
@@ -114,8 +117,8 @@ impl Outlook {
         Ok(true)
     }
 
-    /// What is told of each set of cores, in order of the first core of each, once the run has gone on until something is told of all of them or
-    /// the horizon is met. `NoMemory` where a growth was refused, now or before.
+    /// Takes all remaining steps and returns the result of each set, in order of the first core of
+    /// each. Fails only if memory runs out or ran out before.
     pub fn finish(mut self, alloc: Global) -> Result<Vec<Told>, NoMemory>
         ensures { IfOk result (λ told. AreTold self.system self.allowed self.horizon told.items) }
     {
@@ -123,7 +126,7 @@ impl Outlook {
         self.close(alloc)
     }
 
-    /// What is told, where something is told of all sets or the horizon is met.
+    /// Returns the results, once each set is reported or the horizon has passed.
     fn close(&mut self, alloc: Global) -> Result<Vec<Told>, NoMemory>
         requires { (nat_le self.old.clock self.old.horizon && self.old.left) ≡ false }
         ensures { IfOk result (λ told. AreTold self.old.system self.old.allowed self.old.horizon told.items) }
@@ -147,9 +150,12 @@ impl Outlook {
     }
 }
 
-/// What is told of each set of cores of a system that no core outside it signals, in order of the first core of each: whether and how its doings
-/// repeat, by a run up to this horizon, and what is found of it for ever. Signals that these notifications lose are not told. `NoMemory` where a
-/// growth was refused.
+/// Returns the result of each closed set of cores, in order of the first core of each.
+///
+/// A closed set is the smallest set around a core that no core outside it signals. Its result says
+/// from when on it recurs, with which period, and its findings for ever. If it was not found to
+/// recur by the horizon, at most 2^40, the result has its findings so far. Lost signals of the
+/// notifications flagged in `allowed` are not reported. Fails only if memory runs out.
 pub fn tell_all(
     alloc: Global,
     system: Arc<System>,

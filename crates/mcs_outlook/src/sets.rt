@@ -1,4 +1,4 @@
-//! Each set of cores is told once, and each core with its own.
+//! The closed sets of cores, each once, and for each the cores that are reported with it.
 ghost use Rattle.std.specs.Prelude.{◌≡◌, ◌<◌, ◌++◌, ◌∷◌, [], cond, length, IfOk, OnOk};
 ghost use Rattle.mcs_outlook.specs.Sets.{set_has, have_one_set, own_of, is_first};
 ghost use Rattle.mcs_outlook.specs.stored.Groups.{group_of, groups_of};
@@ -7,28 +7,27 @@ use mcs_forever::CoreSet;
 use mcs_ticks::{CoreId, Limits, NoMemory};
 use std::alloc::Global;
 
-/// A set of cores, and those of them that are told with it.
+/// A closed set of cores, and those of its cores that are reported with it.
 #[derive(Clone, Copy)]
 pub(crate) struct Group {
     pub(crate) set: CoreSet,
     pub(crate) own: CoreSet,
 }
 
-/// Whether the set of a core has another one.
 fn set_has(sets: &[CoreSet], core: CoreId, other: CoreId) -> bool
     ensures { result ≡ set_has sets.now core other }
 {
     core.0 < sets.len() && other.0 < Limits::CORES && sets[core.0][other.0]
 }
 
-/// Whether two cores have one set.
+/// Whether two cores have the same set.
 fn have_one_set(sets: &[CoreSet], core: CoreId, other: CoreId) -> bool
     ensures { result ≡ have_one_set sets.now core other }
 {
     set_has(sets, core, other) && set_has(sets, other, core)
 }
 
-/// The cores that are told with the set of this one.
+/// The cores that are reported with the set of this one: those that have the same set.
 fn own_of(sets: &[CoreSet], core: CoreId) -> CoreSet
     ensures { result ≡ own_of sets.now core }
 {
@@ -39,7 +38,7 @@ fn own_of(sets: &[CoreSet], core: CoreId) -> CoreSet
     own
 }
 
-/// Whether no lesser core has the same set.
+/// Whether no core of a smaller number has the same set.
 fn is_first(sets: &[CoreSet], core: CoreId) -> bool
     ensures { result ≡ is_first sets.now core }
 {
@@ -51,7 +50,6 @@ fn is_first(sets: &[CoreSet], core: CoreId) -> bool
     true
 }
 
-/// The set of a core.
 fn group_of(sets: &[CoreSet], core: CoreId) -> Group
     requires { core < length sets.now }
     ensures { result ≡ group_of sets.now core }
@@ -62,7 +60,7 @@ fn group_of(sets: &[CoreSet], core: CoreId) -> Group
     }
 }
 
-/// Puts the set of a core behind the others, unless a lesser core has it, too.
+/// Appends the set of a core, unless a core of a smaller number has the same set.
 fn push_group(groups: &mut Vec<Group>, sets: &[CoreSet], core: CoreId) -> Result<(), NoMemory>
     requires { core < length sets.now }
     ensures { OnOk result (groups.new.items ≡ groups.old.items ++ cond (is_first sets.now core) (group_of sets.now core ∷ []) []) }
@@ -74,7 +72,7 @@ fn push_group(groups: &mut Vec<Group>, sets: &[CoreSet], core: CoreId) -> Result
     Ok(())
 }
 
-/// Each set, in order of the least core of which it is the set. `NoMemory` where a growth was refused.
+/// Returns each set once, in order of the first core that has it. Fails only if memory runs out.
 pub(crate) fn groups_of(alloc: Global, sets: &[CoreSet]) -> Result<Vec<Group>, NoMemory>
     ensures { IfOk result (λ groups. groups.items ≡ groups_of sets.now) }
 {

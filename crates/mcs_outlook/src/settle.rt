@@ -1,4 +1,5 @@
-//! Where nothing is found of a thread or a notification by the end of the first period, nothing ever may be.
+//! Whether it is known that a thread or a notification without a finding by the end of the first
+//! period never has one.
 ghost use Rattle.std.specs.Prelude.{◌≡◌, ◌+◌, ◌-◌, ℕ, ◌<◌, length, None, IsTrue};
 ghost use Rattle.mcs_forever.specs.Closed.{has};
 ghost use Rattle.mcs_outlook.specs.Outlook.{unended_at, IsNeverFound, ThreadIsSettled, NoteIsSettled, AreSettled};
@@ -12,7 +13,8 @@ use mcs_ticks::{NoteId, ThreadId};
 use mcs_verdict_forever::{no_deadline_is_missed, no_signal_is_lost, thread_is_never_found};
 use mcs_verdict_laws::{schedules_are_in_order, who_waits_alone_takes_it};
 
-/// Whether it is known that the thread is never found, where nothing is found of it at the end of the first period.
+/// Whether it is known that the thread never has a finding, if it has none at the end of the first
+/// period.
 fn is_never_found(look: &Look<'_>, group: &Group, by: u64, thread: ThreadId) -> bool
     requires known { thread < length look.now.system.now.threads }
     requires look { IsLook look.now.system.now look.now.search.now }
@@ -30,7 +32,8 @@ fn is_never_found(look: &Look<'_>, group: &Group, by: u64, thread: ThreadId) -> 
     end_is_known(look, group, by, thread)
 }
 
-/// Whether a miss or an end is told of the thread, or it is never found.
+/// Whether the thread has a line of misses or of the end, or never has a finding. A thread that is
+/// not reported with the set is settled.
 fn thread_is_settled(look: &Look<'_>, group: &Group, by: u64, thread: ThreadId) -> bool
     requires known { thread < length look.now.system.now.threads }
     requires look { IsLook look.now.system.now look.now.search.now }
@@ -62,7 +65,6 @@ fn thread_is_settled(look: &Look<'_>, group: &Group, by: u64, thread: ThreadId) 
     is_never_found(look, group, by, thread)
 }
 
-/// So it is of all threads.
 fn threads_are_settled(look: &Look<'_>, group: &Group, by: u64) -> bool
     requires look { IsLook look.now.system.now look.now.search.now }
     ensures { IsTrue result → HasRecurred look.now.system.now look.now.search.now group.now.set by →
@@ -77,14 +79,14 @@ fn threads_are_settled(look: &Look<'_>, group: &Group, by: u64) -> bool
     true
 }
 
-/// Whether the notification may lose signals.
 fn may_lose(allowed: &[bool], note: NoteId) -> bool
     ensures { result ≡ has allowed.now note }
 {
     note.0 < allowed.len() && allowed[note.0]
 }
 
-/// Whether a lost signal is told of the notification, or it may lose some, or it never loses one.
+/// Whether the notification has a line of lost signals, or may lose signals, or never loses one. A
+/// notification that is not reported with the set is settled.
 fn note_is_settled(look: &Look<'_>, group: &Group, by: u64, note: NoteId) -> bool
     requires known { note < length look.now.system.now.notes }
     requires look { IsLook look.now.system.now look.now.search.now }
@@ -115,7 +117,6 @@ fn note_is_settled(look: &Look<'_>, group: &Group, by: u64, note: NoteId) -> boo
     is_own(&group.set, home)
 }
 
-/// So it is of all notifications.
 fn notes_are_settled(look: &Look<'_>, group: &Group, by: u64) -> bool
     requires look { IsLook look.now.system.now look.now.search.now }
     ensures { IsTrue result → HasRecurred look.now.system.now look.now.search.now group.now.set by →
@@ -130,8 +131,9 @@ fn notes_are_settled(look: &Look<'_>, group: &Group, by: u64) -> bool
     true
 }
 
-/// Whether all threads and notifications that are told with the set are settled: where nothing is found of one by the end of the first period,
-/// nothing ever is.
+/// Whether all threads and notifications that are reported with the set are settled: each has a
+/// finding by the end of the first period, or never has one. A notification that may lose signals
+/// is settled.
 pub(crate) fn are_settled(look: &Look<'_>, group: &Group, by: u64) -> bool
     requires { IsLook look.now.system.now look.now.search.now }
     ensures { IsTrue result → HasRecurred look.now.system.now look.now.search.now group.now.set by →

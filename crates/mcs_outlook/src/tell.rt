@@ -1,4 +1,4 @@
-//! What is told of a set of cores.
+//! The result of a set of cores.
 ghost use Rattle.std.specs.Prelude.{◌≡◌, ◌+◌, ◌-◌, ◌<◌, ◌≤◌, ◌++◌, ◌∷◌, [], ℕ, List, length, get_or, None, replicate, OnOk, IfOk, IfSome};
 ghost use Rattle.mcs_forever.specs.Recurs.{IsClosed};
 ghost use Rattle.mcs_forever.specs.Closed.{has};
@@ -19,7 +19,6 @@ use mcs_ticks::NoMemory;
 use mcs_verdict_laws::schedules_are_in_order;
 use std::alloc::Global;
 
-/// The line of the set.
 fn first_line(alloc: Global, line: Line) -> Result<Vec<Line>, NoMemory>
     ensures { IfOk result (λ lines. lines.items ≡ line ∷ []) }
 {
@@ -28,7 +27,7 @@ fn first_line(alloc: Global, line: Line) -> Result<Vec<Line>, NoMemory>
     Ok(lines)
 }
 
-/// Puts behind the lines that nothing is ever found, where there are no findings.
+/// Appends the line `nothing is ever found`, if there are no findings.
 fn push_clean(lines: &mut Vec<Line>, set: &CoreSet, findings: usize) -> Result<(), NoMemory>
     ensures { (found : List TheLine) → findings ≡ length found →
         OnOk result (lines.new.items ≡ lines.old.items ++ clean_lines set.now found) }
@@ -39,7 +38,7 @@ fn push_clean(lines: &mut Vec<Line>, set: &CoreSet, findings: usize) -> Result<(
     push(lines, Some(Line::Clean { cores: *set }))
 }
 
-/// What is told of a set that recurs, where all is settled.
+/// Returns the result of a set that recurs and whose threads and notifications are settled.
 fn told_for_ever(alloc: Global, look: &Look<'_>, group: &Group, by: u64) -> Result<Told, NoMemory>
     requires { IsLook look.now.system.now look.now.search.now }
     ensures { (horizon : ℕ) → HasRecurred look.now.system.now look.now.search.now group.now.set by →
@@ -89,7 +88,7 @@ fn told_for_ever(alloc: Global, look: &Look<'_>, group: &Group, by: u64) -> Resu
     })
 }
 
-/// What is told of a set that no core outside signals, where it recurs now and all is settled.
+/// Returns the result of a closed set if it recurs at this moment and all in it is settled.
 fn told_now(alloc: Global, look: &Look<'_>, group: &Group) -> Result<Option<Told>, NoMemory>
     requires look { IsLook look.now.system.now look.now.search.now }
     requires closed { IsClosed look.now.system.now (has group.now.set) }
@@ -105,7 +104,7 @@ fn told_now(alloc: Global, look: &Look<'_>, group: &Group) -> Result<Option<Told
     Ok(Some(told_for_ever(alloc, look, group, shifts.by)?))
 }
 
-/// The set is told, where nothing is told of it yet, it recurs now and all is settled.
+/// Sets the result of a set if it has none, recurs at this moment, and all in it is settled.
 fn tell_one(
     alloc: Global,
     look: &Look<'_>,
@@ -124,8 +123,8 @@ fn tell_one(
     Ok(())
 }
 
-/// Each set of which nothing is told yet is told, where it recurs now and all is settled. What is told already stays. `NoMemory` where a growth was
-/// refused.
+/// Sets the result of each set that has none, recurs at this moment, and has all settled. Other
+/// results are kept. Fails only if memory runs out.
 pub(crate) fn tell_now(
     alloc: Global,
     look: &Look<'_>,
@@ -144,7 +143,7 @@ pub(crate) fn tell_now(
     Ok(())
 }
 
-/// What is told of a set of which no repetition was found.
+/// Returns the result of a set that was not found to recur.
 fn told_open(alloc: Global, look: &Look<'_>, group: &Group) -> Result<Told, NoMemory>
     requires look { IsLook look.now.system.now look.now.search.now }
     requires some { 1 ≤ look.now.search.now.clock }
@@ -183,7 +182,7 @@ fn told_open(alloc: Global, look: &Look<'_>, group: &Group) -> Result<Told, NoMe
     })
 }
 
-/// What is told of a set, or that no repetition was found.
+/// Takes the result of a set, or makes that of a set that was not found to recur.
 fn told_or_open(
     alloc: Global,
     look: &Look<'_>,
@@ -203,8 +202,8 @@ fn told_or_open(
     }
 }
 
-/// What is told of all sets, in order, at the moment after the horizon, or where something is told of all already. `NoMemory` where a growth was
-/// refused.
+/// Returns the results of all sets, in order. Each set must have one already, or the search must be
+/// one moment past the horizon. Fails only if memory runs out.
 pub(crate) fn all_told(
     alloc: Global,
     look: &Look<'_>,
@@ -228,14 +227,14 @@ pub(crate) fn all_told(
     Ok(all)
 }
 
-/// Whether there is a set of which nothing is told yet.
+/// Whether some set has no result yet.
 pub(crate) fn is_any_left(told: &[Option<Told>]) -> bool
     ensures { result ≡ is_any_left told.now }
 {
     told.iter().any(|one| one.is_none())
 }
 
-/// Nothing is told yet of so many sets. `NoMemory` where a growth was refused.
+/// Returns a list of `sets` missing results. Fails only if memory runs out.
 pub(crate) fn nothing_told(alloc: Global, sets: usize) -> Result<Vec<Option<Told>>, NoMemory>
     ensures { IfOk result (λ told. told.items ≡ replicate sets None) }
 {

@@ -2,24 +2,25 @@ use mcs_forever::CoreSet;
 use mcs_forever_text::Line;
 use mcs_ticks::Tick;
 
-/// From which moment on the doings of cores repeat, and in how many ticks.
+/// How a set of cores recurs.
 #[derive(Clone, Copy, Debug, PartialEq, Eq)]
 pub struct Period {
-    /// The moment, from which on all that they do comes again.
+    /// The time from which on all that the set does recurs.
     pub from: Tick,
-    /// The period, at least 1.
+    /// The period in ticks, at least 1.
     pub ticks: u64,
 }
 
-/// What is told of a set of cores that no core outside it signals.
+/// The result of a closed set of cores: one that no core outside it signals.
 #[derive(Debug, Drop)]
 pub struct Told {
     /// The set.
     pub set: CoreSet,
-    /// How its doings repeat, or none where no repetition was found up to the horizon.
+    /// How it recurs; `None` if no recurrence was found up to the horizon.
     pub period: Option<Period>,
-    /// The lines: of the set, of what is found of those cores that are told with it, and of their threads.
+    /// The lines of the set, of the findings on those cores that are reported with it, and of their
+    /// threads.
     pub lines: Vec<Line>,
-    /// How many of these lines tell that something is found.
+    /// The number of lines that report a finding.
     pub findings: usize,
 }

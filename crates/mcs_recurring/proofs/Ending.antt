@@ -1,4 +1,4 @@
--- What horizons tell of a thread recurs.
+-- The finding of a thread at horizons recurs.
 use Rattle.std.proofs.Common.{◌≡◌, ℕ, ◌<◌, ◌⊎◌, inl, inr, Bool, true, length, get_or, Some, sym, ap, subst, ◌∙◌, arith}
 use Rattle.mcs_system.specs.System.{System, no_thread, thread_part, note_part, core_of}
 use Rattle.mcs_system.specs.WellFormed.{IsWellFormed}

@@ -1,4 +1,4 @@
--- What rows did, flag by flag.
+-- The flags of rows, one by one.
 use Rattle.std.proofs.Common.{◌≡◌, ◌≢◌, ℕ, zero, suc, ◌+◌, ◌<◌, Bool, true, false, ◌||◌, List, [], ◌∷◌, ◌++◌, length, map, get_or, set, replicate, refl, sym, ap, ◌∙◌, Option, Some, None, arith}
 use Rattle.std.specs.Prelude.{◌==◌}
 use Rattle.std.specs.List.{list_any, range_with_len}
@@ -84,7 +84,7 @@ module _ (test : ℕ → What → Bool) (n : ℕ) where
         by None e = none-more e
         by (Some y) e = some-more y e
 
--- whom a row does something to
+-- the thread or the notification to which a row does something
 whose-ended : (x : ℕ) (what : What) → ends_round x what ≡ is_some_of (ended_by what) x
 whose-ended x (row.Round y number response) = refl
 whose-ended x (row.Stop y cause k until) = refl
@@ -124,7 +124,7 @@ whose-held x (row.Got y note word) = refl
 whose-held x (row.Order context) = refl
 whose-held x (row.Interrupt source at_note badge) = refl
 
--- what is kept, of these lists
+-- the flags, by these lists
 abbrev pub doings : List Bool → List Bool → List Bool → List Bool → Doings
 doings ended told taken held = record { ended = ended; told = told; taken = taken; held = held }
 
@@ -150,7 +150,7 @@ doings-more system rows what a b c e is =
     (ap (λ (doings : Doings). marked (taken_by what) doings.taken) is ∙ flags-more takes_word (length system.notes) taken_by whose-taken rows what)
     (ap (λ (doings : Doings). marked (held_by what) doings.held) is ∙ flags-more holds_word (length system.notes) held_by whose-held rows what)
 
--- no flag is set any more
+-- all flags are cleared
 flags-anew : (test : ℕ → What → Bool) (n : ℕ) (rows : List What) → unmarked (flags_of test n rows) ≡ flags_of test n []
 flags-anew test n rows =
     ap (λ n. replicate n false) (flags-many test n rows)

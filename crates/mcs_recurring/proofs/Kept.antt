@@ -1,4 +1,4 @@
--- What was kept of two moments, as it stands in the run.
+-- Facts of the run, by the watches of two moments.
 use Rattle.std.proofs.Common.{◌≡◌, ℕ, ◌+◌, ◌<◌, ◌⊎◌, inl, inr, Bool, true, false, List, length, get_or, sym, ap, subst, ◌∙◌}
 use Rattle.std.specs.List.{list_any}
 use Rattle.mcs_ticks.specs.declared.row.What.{What}
@@ -20,7 +20,7 @@ module _ (system : System) (by from : ℕ) (before after : Watch) (doings : Doin
   abbrev period : List What
   period = whats kept.between
 
-  -- what no flag says no row did
+  -- a flag that is not set: no row did this
   pub ended-none : (x : ℕ) → x < length system.threads → get_or doings.ended x false ≡ false → list_any (ends_round x) period ≡ false
   ended-none x known none =
       sym (ap (λ (doings : Doings). get_or doings.ended x false) kept.done ∙ flag-at ends_round (length system.threads) period x false known) ∙ none
@@ -37,7 +37,7 @@ module _ (system : System) (by from : ℕ) (before after : Watch) (doings : Doin
   held-none n known none =
       sym (ap (λ (doings : Doings). get_or doings.held n false) kept.done ∙ flag-at holds_word (length system.notes) period n false known) ∙ none
 
-  -- what is later in the watches is so in the run
+  -- an account or a word that is later in the watches is later in the run
   pub thread-later : (x : ℕ) → IsLaterThread by before after x → ThreadIsLater system by from x
   thread-later x is d =
       sym (ap (λ (watch : Watch). without_total (get_or watch.accounts x d)) kept.later) ∙ is.later d

@@ -1,5 +1,5 @@
--- What no row of a group does in a period none does at the moment after it either, since the rows of that moment are those of the period's first
--- moment, later.
+-- If no row of a group does something in a period, none does it at the next moment: the rows of
+-- that moment are those of the period's first moment, later.
 use Rattle.std.proofs.Common.{◌≡◌, ℕ, ◌+◌, ◌<◌, ◌≤◌, Bool, true, false, ◌&&◌, ◌||◌, suc, List, [], ◌∷◌, ◌++◌, refl, sym, ap, subst, ◌∙◌, arith}
 use Rattle.std.specs.Prelude.{◌==◌, nat_le}
 use Rattle.std.specs.List.{AllByRecursion, list_any}
@@ -29,7 +29,7 @@ or-none : (a b : Bool) → (a || b) ≡ false → (a ≡ false) × (b ≡ false)
 or-none true b e = cc
 or-none false b e = (refl, e)
 
--- rows of which none passes a test, from some moment on or not
+-- no row passes a test, so none does from some moment on
 none-each : (from : ℕ) (test : What → Bool) (rows : List Row) → list_any test (whats rows) ≡ false →
     AllByRecursion (λ (row : Row). (nat_le from row.moment && test row.what) ≡ false) rows
 none-each from test [] e = tt
@@ -49,7 +49,7 @@ all-true : (P : What → Type 0) → ((what : What) → P what) → (rows : List
 all-true P f [] = tt
 all-true P f (what ∷ rows) = (f what, all-true P f rows)
 
--- rows do the same later
+-- later rows do the same
 later-ends : (shift : Shift) (x : ℕ) (what : What) → ends_round x (later_what shift what) ≡ ends_round x what
 later-ends shift x (row.Round y number response) = refl
 later-ends shift x (row.Stop y cause k until) = refl
@@ -179,7 +179,7 @@ module _ (system : System) (group : ℕ → Bool) where
   module _ (shifts : Shifts) (from : ℕ) (well : IsWellFormed system) (recurs : Recurs system group shifts from) where
     -- the rows of the period
     module _ (between : List Row) (on : (clock system (from + shifts.by)).rows ≡ (clock system from).rows ++ between) where
-      -- a test that does not ask when, and that no row of another core passes
+      -- a test that does not depend on the time, and that no row of another core passes
       quiet : (test : What → Bool) → ((c : ℕ) (what : What) → test (later_what (shift_of shifts c) what) ≡ test what) →
           ((c : ℕ) (what : What) → group c ≡ false → IsOfOwn system c what → test what ≡ false) → list_any test (whats between) ≡ false →
           AllByRecursion (λ (row : Row). (nat_le from row.moment && test row.what) ≡ false) (schedule system (from + shifts.by))

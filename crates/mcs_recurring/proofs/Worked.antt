@@ -1,4 +1,5 @@
--- What rows did that were read by hand, in the system of mcs_verdict_forever of which each signal but the first is lost: one thread, one notification.
+-- The flags of rows, by hand. In the system of mcs_verdict_forever each signal but the first is
+-- lost. It has one thread and one notification.
 use Rattle.std.specs.Prelude.{◌≡◌, true, false, [], ◌∷◌, Some, refl}
 use Rattle.mcs_ticks.specs.declared.row.What.TheVariants as row
 use Rattle.mcs_ticks.specs.declared.row.Why.TheVariants as why
@@ -10,17 +11,17 @@ chosen : doings_of signals (row.Release 0 ∷ row.Run 0 ∷ row.Stop 0 why.Spent
     ≡ record { ended = false ∷ []; told = true ∷ []; taken = false ∷ []; held = false ∷ [] }
 chosen = refl
 
--- its signal, by itself, is not about it
+-- a row of its signal is not about the thread
 signalled : doings_of signals (row.Signal 0 0 1 ∷ row.Hold 0 1 ∷ [])
     ≡ record { ended = false ∷ []; told = false ∷ []; taken = false ∷ []; held = true ∷ [] }
 signalled = refl
 
--- who takes a word is told of
+-- a row of a taken word is about the thread that takes it
 took : doings_of signals (row.Got 0 0 1 ∷ [])
     ≡ record { ended = false ∷ []; told = true ∷ []; taken = true ∷ []; held = false ∷ [] }
 took = refl
 
--- and so is who ends a round; a row of another number does nothing to these
+-- a row of an ended round is about its thread; a row of another number sets no flag
 ended : doings_of signals (row.Round 0 1 3 ∷ row.Round 1 1 3 ∷ row.Got 1 1 1 ∷ row.Hold 1 1 ∷ [])
     ≡ record { ended = true ∷ []; told = true ∷ []; taken = false ∷ []; held = false ∷ [] }
 ended = refl

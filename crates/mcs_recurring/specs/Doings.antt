@@ -1,4 +1,4 @@
--- What rows did to each thread and to each notification.
+-- Flags of what rows did to each thread and each notification.
 use Rattle.std.specs.Prelude.{ℕ, Bool, List, map, length}
 use Rattle.std.specs.List.{list_any, range_with_len}
 use Rattle.mcs_ticks.specs.declared.row.What.{What}
@@ -7,19 +7,19 @@ use Rattle.mcs_verdict.specs.Account.{is_about}
 use Rattle.mcs_forever.specs.laws.Repeats.{ends_round}
 use Rattle.mcs_verdict_forever.specs.Recurs.{takes_word, holds_word}
 
--- for each number below n whether one of the rows passes the test of that number
+-- for each number below n, whether one of the rows passes the test of that number
 abbrev pub flags_of : (ℕ → What → Bool) → ℕ → List What → List Bool
 flags_of test n rows = map (λ x. list_any (test x) rows) (range_with_len 0 n)
 
--- of each thread whether a round of it ended and whether a row was about it, and of each notification whether its word was taken and whether a
--- signal was held in it
+-- for each thread, whether a round of it ended and whether a row was about it; for each
+-- notification, whether its word was taken and whether a signal was held in it
 pub record Doings : Type 0 where
   pub ended : List Bool
   pub told : List Bool
   pub taken : List Bool
   pub held : List Bool
 
--- what these rows did
+-- the flags of these rows
 abbrev pub doings_of : System → List What → Doings
 doings_of system rows =
     record {

@@ -1,4 +1,4 @@
--- What is kept of a run between two moments.
+-- Facts kept of a run between two moments.
 use Rattle.std.specs.Prelude.{◌≡◌, ℕ, ◌+◌, List, ◌++◌, map}
 use Rattle.mcs_ticks.specs.declared.row.Row.{Row}
 use Rattle.mcs_ticks.specs.declared.row.What.{What}
@@ -8,11 +8,12 @@ use Rattle.mcs_verdict.specs.Watch.{Watch}
 use Rattle.mcs_verdict_forever.specs.Recurs.{watch_before}
 use Rattle.mcs_recurring.specs.Doings.{Doings, doings_of}
 
--- what rows tell, without where and when
+-- the rows without their times and cores
 abbrev pub whats : List Row → List What
 whats rows = map (λ (row : Row). row.what) rows
 
--- kept of the rows before moment `from`, and of those before `from` + `by`; and what the rows did by which these go on after those
+-- the watches of the rows before time `from` and before `from` + `by`, and the flags of the rows
+-- between
 pub record AreKept (system : System) (by from : ℕ) (before after : Watch) (doings : Doings) : Type 0 where
   pub earlier : before ≡ watch_before system from
   pub later : after ≡ watch_before system (from + by)

@@ -8,14 +8,12 @@ use mcs_system::{System, ThreadPart};
 use mcs_ticks::{NoteId, ThreadId};
 use mcs_verdict::first_wait;
 
-/// Whether an item is a wait for the notification.
 fn is_wait(item: &Option<Item>, note: NoteId) -> bool
     ensures { IsTrue result ↔ (item.now ≡ Some (Wait note)) }
 {
     matches!(item, Some(Item::Wait(other)) if *other == note)
 }
 
-/// Whether a script has a wait for it.
 fn has_wait(part: &ThreadPart, note: NoteId) -> bool
     ensures { MatchBool result (HasWait part.now note) (¬ HasWait part.now note) }
 {
@@ -27,7 +25,7 @@ fn has_wait(part: &ThreadPart, note: NoteId) -> bool
     false
 }
 
-/// Whether another thread's has one.
+/// Whether another thread's script has a wait for the notification.
 fn has_other(system: &System, thread: ThreadId, note: NoteId) -> bool
     ensures { MatchBool result (HasOther system.now thread note) (HasNone system.now thread note (length system.now.threads)) }
 {
@@ -43,7 +41,8 @@ fn has_other(system: &System, thread: ThreadId, note: NoteId) -> bool
     false
 }
 
-/// Whether no other thread's script has a wait for the notification for which this one's waits first. Then no other thread takes its word.
+/// Whether no other script has a wait for the notification for which this thread's script waits
+/// first. Then no other thread takes its word.
 pub fn waits_alone(system: &System, thread: ThreadId) -> bool
     requires { thread < length system.now.threads }
     ensures { IsTrue result ↔ WaitsAlone system.now thread }

@@ -10,7 +10,7 @@ use mcs_ticks::{NoMemory, NoteId, ThreadId, What};
 use std::alloc::Global;
 use std::marker::Model;
 
-/// The thread of which the row ends a round.
+/// The thread whose round the row ends.
 fn ended_by(what: &What) -> Option<usize>
     ensures { result ≡ ended_by what.now }
 {
@@ -55,7 +55,7 @@ fn held_by(what: &What) -> Option<usize>
     }
 }
 
-/// Sets the flag of that number, if there is one.
+/// Sets the flag of this number, if there is one.
 fn mark(flags: &mut [bool], number: Option<usize>)
     ensures { flags.new ≡ marked number flags.old }
 {
@@ -66,14 +66,13 @@ fn mark(flags: &mut [bool], number: Option<usize>)
     }
 }
 
-/// No flag is set any more.
 fn unmark(flags: &mut [bool])
     ensures { flags.new ≡ unmarked flags.old }
 {
     flags.fill(false);
 }
 
-/// The flag of that number, and no where there is none.
+/// The flag of this number; `false` past the end.
 fn is_marked(flags: &[bool], number: usize) -> bool
     ensures { result ≡ get_or flags.now number false }
 {
@@ -84,8 +83,9 @@ fn is_marked(flags: &[bool], number: usize) -> bool
     }
 }
 
-/// What rows of a system did: of which threads a round ended, which they were about, which words were taken and in which a signal was held. A row
-/// more takes constant time and no memory.
+/// Flags of what some rows of a system did. A thread has two: a round of it ended, a row was about
+/// it. A notification has two: its word was taken, a signal was held in it. One more row takes
+/// constant time and no memory.
 #[derive(Drop)]
 pub struct Doings {
     ended: Vec<bool>,
@@ -108,7 +108,7 @@ impl Model for Doings {
 }
 
 impl Doings {
-    /// Before the first row: nothing was done. `NoMemory` where a growth was refused.
+    /// Returns the flags before the first row, none set. Fails only if memory runs out.
     pub fn new(alloc: Global, system: &System) -> Result<Self, NoMemory>
         ensures { IfOk result (λ doings. doings ≡ doings_of system.now []) }
     {
@@ -122,7 +122,7 @@ impl Doings {
         })
     }
 
-    /// After one row more of a run of the system.
+    /// Adds one more row of a run of the system.
     pub fn see(&mut self, what: &What)
         ensures { (system : TheSystem) (rows : List TheWhat) → self.old ≡ doings_of system rows →
             self.new ≡ doings_of system (rows ++ what.now ∷ []) }
@@ -133,35 +133,36 @@ impl Doings {
         mark(self.held.as_mut_slice(), held_by(what));
     }
 
-    /// Whether a round of the thread ended, and no where there is no such thread.
+    /// Whether a round of the thread ended; `false` if there is no such thread.
     pub fn ends_round(&self, thread: ThreadId) -> bool
         ensures { result ≡ get_or self.now.ended thread false }
     {
         is_marked(self.ended.as_slice(), thread.0)
     }
 
-    /// Whether a row was about the thread, and no where there is no such thread.
+    /// Whether a row was about the thread; `false` if there is no such thread.
     pub fn is_about(&self, thread: ThreadId) -> bool
         ensures { result ≡ get_or self.now.told thread false }
     {
         is_marked(self.told.as_slice(), thread.0)
     }
 
-    /// Whether a thread took the notification's word, and no where there is no such notification.
+    /// Whether a thread took the notification's word; `false` if there is no such notification.
     pub fn takes_word(&self, note: NoteId) -> bool
         ensures { result ≡ get_or self.now.taken note false }
     {
         is_marked(self.taken.as_slice(), note.0)
     }
 
-    /// Whether a signal was held in the notification's word, and no where there is no such notification.
+    /// Whether a signal was held in the notification's word; `false` if there is no such
+    /// notification.
     pub fn holds_word(&self, note: NoteId) -> bool
         ensures { result ≡ get_or self.now.held note false }
     {
         is_marked(self.held.as_slice(), note.0)
     }
 
-    /// As before the first row: what was done is forgotten.
+    /// Clears all flags, as before the first row.
     pub fn clear(&mut self)
         ensures forgotten { self.new ≡ nothing_done self.old }
         ensures anew { (system : TheSystem) (rows : List TheWhat) → self.old ≡ doings_of system rows → self.new ≡ doings_of system [] }

@@ -11,14 +11,14 @@ use mcs_system::{System, ThreadPart};
 use mcs_ticks::{NoteId, ThreadId};
 use mcs_verdict::{Watch, first_wait};
 
-/// Whether the word is 0, and no signal is held in it.
+/// Whether the word is empty: it is 0, and no signal is held in it.
 fn is_empty(before: &Watch, doings: &Doings, note: NoteId) -> bool
     ensures { IsTrue result ↔ IsEmpty before.now doings.now note }
 {
     !before.word_is_set(note) && !doings.holds_word(note)
 }
 
-/// So is the word for which the script waits first, if it does.
+/// Whether the word for which the script waits first is empty, or the script begins with no wait.
 fn is_first_empty(before: &Watch, doings: &Doings, part: &ThreadPart) -> bool
     ensures { IsTrue result ↔ FirstIsEmpty before.now doings.now part.now }
 {
@@ -28,7 +28,8 @@ fn is_first_empty(before: &Watch, doings: &Doings, part: &ThreadPart) -> bool
     }
 }
 
-/// Whether it was set later, or is empty.
+/// Whether the word for which the script waits first was set `by` ticks later or is empty, or the
+/// script begins with no wait.
 fn first_recurs(by: u64, before: &Watch, after: &Watch, doings: &Doings, part: &ThreadPart) -> bool
     ensures { IsTrue result ↔ FirstRecurs by before.now after.now doings.now part.now }
 {
@@ -38,7 +39,7 @@ fn first_recurs(by: u64, before: &Watch, after: &Watch, doings: &Doings, part: &
     }
 }
 
-/// Whether the thread's account is later, and so is its first word.
+/// Whether the thread's account is later, and its first word recurs.
 fn is_later(
     by: u64,
     before: &Watch,
@@ -52,7 +53,6 @@ fn is_later(
     after.thread_is_later(before, thread, by) && first_recurs(by, before, after, doings, part)
 }
 
-/// Whether no round of the thread can begin.
 fn begins_none(before: &Watch, doings: &Doings, part: &ThreadPart, thread: ThreadId) -> bool
     ensures { IsTrue result ↔ (IsDoneThread before.now thread ⊎ FirstIsEmpty before.now doings.now part.now) }
 {
@@ -68,7 +68,7 @@ fn is_idle(before: &Watch, doings: &Doings, part: &ThreadPart, thread: ThreadId)
         && begins_none(before, doings, part, thread)
 }
 
-/// Whether the thread has no deadline, or is later, or idle.
+/// Whether the thread has no deadline, or is later, or is idle.
 fn thread_ends(
     by: u64,
     before: &Watch,
@@ -84,10 +84,16 @@ fn thread_ends(
         || is_idle(before, doings, part, thread)
 }
 
-/// Whether what horizons tell of a thread recurs, where the group with its core does, `by` ticks later: by what was kept before the one moment and
-/// before the other, and by what the rows between did. That is so where the thread has no deadline, where its account and the word for which it
-/// waits first are later, or where no round of it is under way and none can begin. Then a round of it is overdue a period later where it is
-/// overdue, and nowhere else.
+/// Whether the thread's finding at horizons recurs, if the group with its core does, `by` ticks
+/// later.
+///
+/// The watches are those before the first and the second moment; the doings are those of the rows
+/// between. The test passes in three cases:
+/// - the thread has no deadline;
+/// - its account and the word for which its script waits first are later;
+/// - no round of it is under way, and none can begin.
+///
+/// The thread is then overdue a period later exactly if it is overdue.
 pub fn end_recurs(
     system: &System,
     by: u64,

@@ -12,7 +12,7 @@ use mcs_system::System;
 use mcs_ticks::{NoteId, ThreadId};
 use mcs_verdict::Watch;
 
-/// Whether the thread is later, or no round of it ended.
+/// Whether the thread's account is later, or no round of it ended.
 fn thread_recurs(by: u64, before: &Watch, after: &Watch, doings: &Doings, thread: ThreadId) -> bool
     ensures { IsTrue result ↔ ThreadRecurs by before.now after.now doings.now thread }
 {
@@ -27,7 +27,7 @@ fn word_recurs(by: u64, before: &Watch, after: &Watch, doings: &Doings, note: No
         && (after.word_is_later(before, note, by) || !doings.takes_word(note))
 }
 
-/// So it is of each thread on a core of the group.
+/// Whether this holds for each thread on a core of the group.
 fn threads_recur(
     system: &System,
     group: &CoreSet,
@@ -50,7 +50,7 @@ fn threads_recur(
     true
 }
 
-/// And of each notification there.
+/// Whether this holds for each notification on a core of the group.
 fn words_recur(
     system: &System,
     group: &CoreSet,
@@ -73,9 +73,12 @@ fn words_recur(
     true
 }
 
-/// Whether what is found in a group's rows recurs, where the group itself does, `by` ticks later: by what was kept before the one moment and before
-/// the other, and by what the rows between did. That is so where each of its threads is later, or ended no round, and each of its words is the
-/// same, and was set later, or is not taken. Then each missed deadline and each lost signal comes again, and no other comes.
+/// Whether the findings in a group's rows recur, if the group does, `by` ticks later.
+///
+/// The watches are those before the first and the second moment; the doings are those of the rows
+/// between. The test passes if each thread of the group has a later account or ended no round. Each
+/// word of the group must also be the same, and have been set later or not be taken. Each deadline
+/// miss and each lost signal then recurs, and no others are found.
 pub fn findings_recur(
     system: &System,
     group: &CoreSet,

@@ -6,7 +6,6 @@ use mcs_forever::CoreSet;
 use mcs_system::System;
 use mcs_ticks::{CoreId, Limits, NoteId, ThreadId};
 
-/// Whether a core is one of the group.
 fn is_own(group: &CoreSet, core: CoreId) -> bool
     ensures { result ≡ has group.now core }
 {

@@ -1,4 +1,4 @@
-//! Whether what is found in the rows of a group of cores recurs between two moments.
+//! Tests whether the findings in the rows of a group of cores recur between two moments.
 #![tactic(auto)]
 
 mod alone;

@@ -1,4 +1,4 @@
--- Cores that are later, each by lags of its own, core by core.
+-- Cores that are later, each by its own lags, core by core.
 use Rattle.std.proofs.Common.{◌≡◌, ℕ, ◌+◌, ◌<◌, ◌≤◌, inl, inr, Bool, List, [], ◌∷◌, ◌++◌, length, get_or, Option, None, refl, sym, ap, subst, ◌∙◌, length-append, arith}
 use Rattle.std.proofs.lemmas.Bool.{cases_lt}
 use Rattle.std.proofs.lemmas.List.{get_or_append_left, get_or_past}
@@ -22,7 +22,7 @@ lags-last lags x core many =
 pub length-more : (lags : List (Option Lags)) (x : Option Lags) (n : ℕ) → length lags ≡ n → length (lags ++ x ∷ []) ≡ n + 1
 length-more lags x n many = omega (arith, length-append lags (x ∷ []), many)
 
--- where nothing is told, nothing lags
+-- without lags all is as late as the core
 pub none-shift : (system : System) (by : ℕ) → IsShift system (shift_by by no_lags)
 none-shift system by = record { lags = λ context. at-most by; endless = λ thread. inl refl }
   where

@@ -1,4 +1,4 @@
--- Sources whose dates go on have them later, date by date.
+-- Sources whose dates continue have them later, date by date.
 use Rattle.std.proofs.Common.{◌≡◌, ℕ, zero, suc, ◌+◌, ◌-◌, ◌*◌, ◌/◌, ◌<◌, ◌≤◌, ◌⊎◌, inl, inr, Bool, true, false, cond, List, [], ◌∷◌, ◌++◌, length, get_or, take, map, refl, sym, ap, subst, ◌∙◌, Option, Some, None, arith}
 use Rattle.std.specs.Prelude.{◌==◌, nat_le, filter}
 use Rattle.std.specs.List.{AllByRecursion}
@@ -15,7 +15,7 @@ use Rattle.mcs_forever.specs.Closed.{has}
 use Rattle.mcs_forever.specs.Later.{later_alarm}
 use Rattle.mcs_recurs.specs.Sources.{AreEndless, AreOver, GoOn, OwnGoOn, AlarmsAreLater}
 
--- one alarm, as it is when a moment has passed, and before a moment
+-- one alarm, after a moment has passed, and before a moment
 abbrev one_past : ℕ → Alarm → Alarm
 one_past t alarm = cond (rings t alarm) (rung alarm) alarm
 
@@ -36,7 +36,8 @@ module _ (source note badge period : ℕ) (some : 1 ≤ period) where
   abbrev with_date : Option ℕ → ℕ → Alarm
   with_date date left = record { source = source; note = note; badge = badge; date = date; period = period; left = left }
 
-  -- dates without end: the next one is a multiple of the period behind the first one, and no more than a period away from when the first has come
+  -- dates without end: the next date is the first plus a multiple of the period. It is at most a
+  -- period away once the first has come
   abbrev endless : ℕ → Alarm
   endless date = with_date (Some date) never
 
@@ -105,7 +106,7 @@ module _ (source note badge period : ℕ) (some : 1 ≤ period) where
       (same-multiple first from m a.k b.k a.low (near first a.k from begun a.high) b.low (near first b.k (from + m * period) (omega (arith, begun)) b.high))
       ∙ sym (ap (later_alarm (m * period)) a.is)
 
-  -- so many dates after the first one: when the last has come there is none any more
+  -- n dates after the first one: once the last has come there is no next one
   abbrev over : Alarm
   over = with_date None 0
 
@@ -232,7 +233,7 @@ module _ (system : System) (from by : ℕ) where
           is-later (beat.count - 1) (ap (λ b. cond b never (beat.count - 1)) (counted beat.count d.some))
           (over-later s n b beat.period h.period beat.first (beat.count - 1) from by few d.over)
 
-  -- so of all beats at home on a core of the group
+  -- all beats at home on a core of the group
   module _ (group : List Bool) where
     abbrev pub AllGoOn : List Beat → Type 0
     AllGoOn beats = AllByRecursion (OwnGoOn system group from by) beats

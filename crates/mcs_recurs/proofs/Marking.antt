@@ -1,4 +1,4 @@
--- What is marked of each thread of a group keeps up.
+-- The marked dates of a group's threads keep up.
 use Rattle.std.proofs.Common.{◌≡◌, ℕ, ◌<◌, ◌≤◌, Bool, true, List, length, get_or, Option, None, refl, sym, ap, subst, ◌∙◌}
 use Rattle.std.proofs.lemmas.List.{get_or_past, get_or_default}
 use Rattle.mcs_system.specs.System.{System, core_of, thread_part}
@@ -9,7 +9,7 @@ use Rattle.mcs_image.specs.declared.lags.Lags.{Lags}
 use Rattle.mcs_image.specs.Lags.{shift_by}
 use Rattle.mcs_recurs.specs.Told.{no_lags, lags_or_none, shift_told, ThreadKeepsUp, OwnKeepsUp}
 
--- where nothing is told, nothing lags
+-- without lags all is as late as the core
 none-keeps : (system : System) (by : ℕ) (mark : Mark) (thread : ℕ) → ThreadKeepsUp system (shift_by by no_lags) mark thread
 none-keeps system by mark thread = record { context = λ _. refl; round = λ _. refl }
 

@@ -1,4 +1,4 @@
--- A group that stands again as it stood, but later, and in which nothing lags that is marked, recurs.
+-- A group that is in its earlier state, but later, recurs if the marked dates keep up.
 use Rattle.std.proofs.Common.{◌≡◌, ℕ, ◌+◌, ◌<◌, ◌≤◌, Bool, true, List, length, map, get_or, Option, sym, ap, subst, ◌∙◌, arith}
 use Rattle.std.specs.Prelude.{filter}
 use Rattle.std.specs.List.{AllByRecursion}

@@ -15,16 +15,16 @@ use Rattle.mcs_recurs.specs.Told.{shifts_told}
 use Rattle.mcs_recurs.specs.declared.shifts.Shifts.{Shifts as Told}
 
 module _ (system : System) where
-  -- what the rows of all turns of a moment tell, core by core
+  -- the rows of all turns of a moment, core by core
   abbrev pub told_at : ℕ → List What
   told_at t = flat_map (λ c. (turn_of system c t).rows) (cores system)
 
-  -- and those of the moments from `from` to before `past`
+  -- the rows of the moments from `from` to before `past`
   abbrev pub told_between : ℕ → ℕ → List What
   told_between from past = flat_map told_at (range_with_len from (past - from))
 
--- the states before and after are those of the clock, no core outside the group signals one in it, no order comes between them or later, and
--- marked is what the rows between them show to have been compared with now
+-- the states before and after are those of the clock; no core outside the group signals one in it;
+-- each order comes before the earlier moment; the marks are those of the rows between
 pub record AreOfRun (system : System) (group : List Bool) (before after : Snapshot) (marks : List Mark) : Type 0 where
   pub earlier : IsOfClock system before
   pub later : IsOfClock system after

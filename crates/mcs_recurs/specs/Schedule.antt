@@ -1,4 +1,4 @@
--- The rows of a schedule between two moments tell what the turns of these moments tell.
+-- The rows of a schedule between two moments are those of the turns of these moments.
 use Rattle.std.specs.Prelude.{◌≡◌, ℕ, ◌≤◌, List, ◌++◌, map}
 use Rattle.mcs_ticks.specs.declared.row.Row.{Row}
 use Rattle.mcs_ticks.specs.declared.row.What.{What}
@@ -6,7 +6,7 @@ use Rattle.mcs_system.specs.System.{System}
 use Rattle.mcs_core.specs.Clock.{clock}
 use Rattle.mcs_recurs.specs.Period.{told_between}
 
--- what rows tell, without where and when
+-- the rows without their times and cores
 abbrev pub whats : List Row → List What
 whats rows = map (λ (row : Row). row.what) rows
 

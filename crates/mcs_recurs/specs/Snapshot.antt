@@ -1,4 +1,4 @@
--- A whole system between two moments.
+-- A whole system before one moment.
 use Rattle.std.specs.Prelude.{◌≡◌, ℕ, List, map}
 use Rattle.mcs_mail.specs.declared.mail.Mail.{Mail}
 use Rattle.mcs_system.specs.System.{System}
@@ -12,7 +12,7 @@ pub record Snapshot : Type 0 where
   pub each : List Core
   pub mails : List Mail
 
--- it is how the clock has the system before that moment, each core as its state shows it
+-- the snapshot is the clock's state before that moment, each core as its state shows it
 pub record IsOfClock (system : System) (snapshot : Snapshot) : Type 0 where
   pub each : snapshot.each ≡ map (core_shown system (world system snapshot.moment)) (cores system)
   pub mails : snapshot.mails ≡ (world system snapshot.moment).mails

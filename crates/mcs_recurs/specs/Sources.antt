@@ -1,4 +1,4 @@
--- The dates of sources, so many ticks later.
+-- The dates of sources, some ticks later.
 use Rattle.std.specs.Prelude.{◌≡◌, ℕ, ◌+◌, ◌-◌, ◌*◌, ◌%◌, ◌^◌, ◌≤◌, ◌<◌, ◌⊎◌, Bool, true, List, map}
 use Rattle.mcs_system.specs.declared.part.Beat.{Beat}
 use Rattle.mcs_system.specs.System.{System}
@@ -6,24 +6,24 @@ use Rattle.mcs_core.specs.Alarms.{is_at_home, alarms_at}
 use Rattle.mcs_forever.specs.Closed.{has}
 use Rattle.mcs_forever.specs.Later.{later_alarm}
 
--- dates without end, of which the first is not to come any more, and whose period goes into the time between
+-- dates without end: the first is at most `from`, and their period divides `by`
 pub record AreEndless (from by : ℕ) (beat : Beat) : Type 0 where
   pub endless : beat.count ≡ 0
   pub begun : beat.first ≤ from
   pub multiple : by % beat.period ≡ 0
 
--- dates of which the last one came before
+-- dates whose last one comes before `from`
 pub record AreOver (from : ℕ) (beat : Beat) : Type 0 where
   pub some : 1 ≤ beat.count
   pub few : beat.count < 2 ^ 64
   pub over : beat.first + (beat.count - 1) * beat.period < from
 
--- the dates go on `by` ticks later as they do from that moment on
+-- the dates from `from` + `by` on are those from `from` on, `by` ticks later
 pub record GoOn (from by : ℕ) (beat : Beat) : Type 0 where
   pub period : 1 ≤ beat.period
   pub dates : AreEndless from by beat ⊎ AreOver from beat
 
--- so it is where they are dates of a source that interrupts on a core of the group
+-- this holds for a source that interrupts on a core of the group
 abbrev pub OwnGoOn : System → List Bool → ℕ → ℕ → Beat → Type 0
 OwnGoOn system group from by beat = (core : ℕ) → has group core ≡ true → is_at_home system core beat ≡ true → GoOn from by beat
 

@@ -4,7 +4,7 @@ ghost use Rattle.mcs_forever.specs.Closed.{has};
 use mcs_forever::CoreSet;
 use mcs_ticks::{CoreId, Limits};
 
-/// Whether a core is one of the group.
+/// Whether the core is in the group.
 pub fn is_own(group: &CoreSet, core: CoreId) -> bool
     ensures { result ≡ has group.now core }
 {

@@ -8,7 +8,8 @@ use mcs_system::System;
 use mcs_ticks::{CoreId, NoMemory};
 use std::alloc::Global;
 
-/// By how much one core of a group is later than it was so many ticks before. None where it stands otherwise, or is not shifted.
+/// The lags of one core against its image `by` ticks earlier; `None` if anything else differs, or
+/// if the lags are no shift.
 fn core_lags(
     alloc: Global,
     system: &System,
@@ -27,8 +28,9 @@ fn core_lags(
     Ok(Some(lags))
 }
 
-/// By how much each core of the group is later than it was so many ticks before, and none of the other ones. None where one of the group
-/// stands otherwise.
+/// Returns the lags of each core of the group against its image `by` ticks earlier, and `None` for
+/// the other cores. Returns no list if a core of the group differs in anything else. Fails only if
+/// memory runs out.
 pub(crate) fn group_lags(
     alloc: Global,
     system: &System,

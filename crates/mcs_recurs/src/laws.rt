@@ -4,8 +4,9 @@ ghost use Rattle.mcs_recurs.specs.Schedule.{RowsTellTurns};
 
 use mcs_laws::rows_are_of_turns;
 
-/// A law of the clock: the rows that a schedule has more before a later moment than before an earlier one tell what the turns of the
-/// moments between tell, core by core. So marks of these rows are those that `Shifts::between` asks for.
+/// A law of the clock: the rows that a schedule adds between two moments are those of the turns of
+/// the moments between, core by core. Marks of these rows are therefore those that
+/// `Shifts::between` asks for.
 pub fn rows_tell_turns()
     ensures { (system : System) → IsWellFormed system → RowsTellTurns system }
 {

@@ -1,4 +1,5 @@
-//! Whether a group of cores recurs between two moments: whether it stands before the later one as it stood before the earlier one, but later.
+//! A test whether a group of cores recurs between two moments: whether its state before the later
+//! one is that before the earlier one, but later.
 #![tactic(auto)]
 
 mod group;

@@ -10,21 +10,21 @@ use mcs_image::Lags;
 use mcs_system::System;
 use mcs_ticks::{CoreId, ThreadId};
 
-/// The lag at a place, or `by` past the end.
+/// The lag at a place; `by` past the end.
 fn lag_at(lags: &[u64], place: usize, by: u64) -> u64
     ensures { result ≡ get_or lags.now place by }
 {
     if place < lags.len() { lags[place] } else { by }
 }
 
-/// Whether a lag is the whole period, where it has to be.
+/// Whether the lag is the whole period, if it must be.
 fn is_level(marked: bool, lag: u64, by: u64) -> bool
     ensures { IsTrue result → marked ≡ true → lag ≡ by }
 {
     !marked || lag == by
 }
 
-/// Whether nothing lags that is marked of a thread, by the lags of its core.
+/// Whether the marked dates of the thread are later by the whole period, by the lags of its core.
 fn keeps_up(system: &System, by: u64, lags: &Lags, thread: ThreadId, mark: Mark) -> bool
     requires { thread < length system.now.threads }
     ensures { IsTrue result → ThreadKeepsUp system.now (shift_by by lags.now) mark thread }
@@ -35,7 +35,7 @@ fn keeps_up(system: &System, by: u64, lags: &Lags, thread: ThreadId, mark: Mark)
     is_level(mark.context, lag, by) && is_level(mark.round, began, by)
 }
 
-/// The same where no lags may be told of the core: then nothing lags.
+/// Whether the marked dates of the thread keep up, if its core has lags; without lags they do.
 fn keeps_up_if_told(
     system: &System,
     by: u64,
@@ -52,7 +52,7 @@ fn keeps_up_if_told(
     }
 }
 
-/// Whether nothing lags that is marked of a thread of this core.
+/// Whether the marked dates of a thread of this core keep up.
 fn keeps_up_on(
     system: &System,
     by: u64,
@@ -70,7 +70,7 @@ fn keeps_up_on(
     keeps_up_if_told(system, by, &lags[core.0], thread, mark)
 }
 
-/// Whether nothing lags that is marked of a thread, where its core is one of the group.
+/// Whether the marked dates of the thread keep up, if its core is in the group.
 fn own_keeps_up(
     system: &System,
     group: &CoreSet,
@@ -90,7 +90,7 @@ fn own_keeps_up(
     keeps_up_on(system, by, lags, core, thread, mark)
 }
 
-/// Whether on each core of the group nothing lags that is marked.
+/// Whether the marked dates of all threads of the group keep up.
 pub(crate) fn marked_keep_up(
     system: &System,
     group: &CoreSet,

@@ -12,24 +12,33 @@ use mcs_ticks::NoMemory;
 use mcs_under_way::are_later;
 use std::alloc::Global;
 
-/// By how much the cores of a group are later at one moment than at another.
+/// How much later the cores of a group are at one moment than at another.
 #[derive(Debug, Drop)]
 pub struct Shifts {
-    /// By how many ticks all of it is later, at least 1: the period.
+    /// The ticks by which all of it is later, at least 1: the period.
     pub by: u64,
-    /// For each core of the group the lags of its contexts and threads, and none for the other cores.
+    /// For each core of the group the lags of its contexts and threads; `None` for the other cores.
     pub lags: Vec<Option<Lags>>,
 }
 
 impl Shifts {
-    /// By how much a group of cores is later where it recurs between two moments: where it stands before the later one as it stood before the
-    /// earlier one, but later, with the same signals for it under way, the next dates of the sources that interrupt on its cores later, too, and
-    /// nothing lags that is marked as compared with now in between. Then the group does the same again, without end, and the time between is
-    /// its period.
+    /// Returns how much later a group of cores is, if it recurs between two moments.
     ///
-    /// That holds of states of the clock, where no core outside the group signals one in it, each order of the system comes before the earlier
-    /// moment, and the marks are those of the rows in between. None where the group does not stand so, or the second moment is not the later
-    /// one. `NoMemory` is answered where the room for the numbers is refused.
+    /// The state before the later moment is compared with that before the earlier one. The group
+    /// recurs if:
+    /// - each of its cores and the signals under way to it are the same, but later;
+    /// - so are the next dates of the sources that interrupt on its cores;
+    /// - each date that is marked as compared with the current time in between is later by the
+    ///   whole period.
+    ///
+    /// All that it does then recurs for ever, and the time between is its period. This holds for
+    /// states of the clock on three conditions:
+    /// - no core outside the group signals one in it;
+    /// - each order of the system comes before the earlier moment;
+    /// - the marks are those of the rows in between.
+    ///
+    /// Returns `None` if the group differs, or if the second moment is not later. Fails only if
+    /// memory runs out.
     pub fn between(
         alloc: Global,
         system: &System,

@@ -5,7 +5,7 @@ use mcs_mail::Mail;
 use mcs_ticks::Tick;
 use std::marker::Model;
 
-/// All cores of a system before one moment, in plain lists, and the signals that are under way between them then.
+/// All cores of a system before one moment, in plain lists, and the signals under way between them.
 #[derive(Debug, Drop)]
 pub struct Snapshot {
     moment: Tick,
@@ -22,7 +22,8 @@ impl Model for Snapshot {
 }
 
 impl Snapshot {
-    /// The cores before a moment, in order of their numbers, and the signals that are under way then, in order of making.
+    /// Returns a snapshot of the cores before a moment, by their numbers, and of the signals under
+    /// way, in the order in which they were made.
     pub fn new(moment: Tick, cores: Vec<CoreImage>, mails: Vec<Mail>) -> Self
         ensures { result ≡ record { moment = moment; each = cores.items; mails = mails.items } }
     {
@@ -33,21 +34,21 @@ impl Snapshot {
         }
     }
 
-    /// The moment before which the cores stood so.
+    /// The moment of the snapshot.
     pub fn moment(&self) -> Tick
         ensures { result ≡ self.now.moment }
     {
         self.moment
     }
 
-    /// The cores, in order of their numbers.
+    /// The cores, by their numbers.
     pub fn cores(&self) -> &[CoreImage]
         ensures { result.now ≡ self.now.each }
     {
         self.cores.as_slice()
     }
 
-    /// The signals under way, in order of making.
+    /// The signals under way, in the order in which they were made.
     pub(crate) fn mails(&self) -> &[Mail]
         ensures { result.now ≡ self.now.mails }
     {

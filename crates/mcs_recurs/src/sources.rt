@@ -18,8 +18,9 @@ fn home_of(system: &System, beat: &Beat) -> CoreId
     system.home_of(note)
 }
 
-/// Whether the dates of a source go on so many ticks later as they do from a moment on: they are without end, the first of them is not to come
-/// any more, and their period goes into the time between; or the last of them came before.
+/// Whether the dates of a source from `from` + `by` on are those from `from` on, `by` ticks later.
+/// Either they have no end, the first is at most `from`, and `by` is a multiple of their period; or
+/// the last one comes before `from`.
 fn go_on(beat: &Beat, from: u64, by: u64) -> bool
     ensures { IsTrue result → GoOn from by beat.now }
 {
@@ -38,7 +39,7 @@ fn go_on(beat: &Beat, from: u64, by: u64) -> bool
     count - 1 <= (from - first - 1) / period
 }
 
-/// The same, where the source interrupts on a core of the group.
+/// Whether this holds, if the source interrupts on a core of the group.
 fn own_go_on(system: &System, group: &CoreSet, from: u64, by: u64, beat: &Beat) -> bool
     ensures { IsTrue result → OwnGoOn system.now group.now from by beat.now }
 {
@@ -48,8 +49,8 @@ fn own_go_on(system: &System, group: &CoreSet, from: u64, by: u64, beat: &Beat) 
     go_on(beat, from, by)
 }
 
-/// Whether each source that interrupts on a core of the group has its next date later by so many ticks before the later moment, and as many
-/// dates left. It takes no memory.
+/// Whether each source that interrupts on a core of the group has its next date `by` ticks later,
+/// and as many dates left. Allocates no memory.
 pub(crate) fn sources_are_later(system: &System, group: &CoreSet, from: u64, by: u64) -> bool
     ensures { IsTrue result → AlarmsAreLater system.now group.now from by }
 {

@@ -1,4 +1,4 @@
--- A search goes on over rows of the schedule.
+-- The state of a search after more rows of the schedule.
 use Rattle.std.proofs.Common.{◌≡◌, ℕ, zero, suc, ◌+◌, ◌-◌, ◌≤◌, List, [], ◌∷◌, ◌++◌, refl, sym, ap, subst, ◌∙◌, append-nil, arith}
 use Rattle.std.specs.Prelude.{flat_map}
 use Rattle.std.specs.List.{AllByRecursion, range_with_len}
@@ -54,7 +54,7 @@ module _ (system : System) where
   pub told-none : (t : ℕ) → told_between system t t ≡ []
   told-none t = let e : t - t ≡ 0 = omega arith in ap (λ (n : ℕ). flat_map (told_at system) (range_with_len t n)) e
 
-  -- what was seen of rows that the schedule has more before a later moment
+  -- the state of the rows, after the rows of the schedule up to a later moment
   pub has-seen : RowsTellTurns system → (kept t later : ℕ) (rows : List Row) (seen : Seen) → kept ≤ t → t ≤ later →
       rows_before system later ≡ rows_before system t ++ rows →
       IsOfRows system (rows_before system t ++ rows) (told_between system kept t ++ whats rows) later seen → HasSeen system kept later seen
@@ -65,7 +65,7 @@ module _ (system : System) where
       let Q : List What → Type 0 = λ told. IsOfRows system (rows_before system t ++ rows) told later seen in
       subst P (sym e) (subst Q told is)
 
-  -- no row came meanwhile
+  -- no row comes meanwhile
   pub has-seen-none : RowsTellTurns system → (kept t later : ℕ) (seen : Seen) → kept ≤ t → t ≤ later →
       rows_before system later ≡ rows_before system t →
       IsOfRows system (rows_before system t) (told_between system kept t) later seen → HasSeen system kept later seen

@@ -1,4 +1,4 @@
--- What a search keeps, from one call to the next.
+-- The invariant of a search, from one call to the next.
 use Rattle.std.proofs.Common.{◌≡◌, ℕ, ◌+◌, ◌≤◌, ◌^◌, Bool, true, false, List, [], ◌++◌, Option, Some, None, Result, Ok, Err, OnErr, sym, ap, subst, ◌∙◌, arith}
 use Rattle.std.specs.Prelude.{IfSome}
 use Rattle.std.specs.Arc.{arc_value}
@@ -39,7 +39,7 @@ pub some-maps : (P Q : Shifts → Type 0) → ((shifts : Shifts) → P shifts �
 some-maps P Q f (Some shifts) h = f shifts h
 some-maps P Q f None h = tt
 
--- memory was refused: what the cores and the rows left is not asked any more
+-- after memory ran out, the invariant claims nothing of the cores and the rows
 pub failed-kept : (a : Inside) → IsKept a → (cores : Together) (seen : Seen) → IsKept (record a { lockstep = cores; seen = seen; failed = true })
 failed-kept a kept cores seen =
     record {
@@ -180,7 +180,7 @@ module _ (a : Inside) (kept : IsKept a) (going : a.failed ≡ false) where
             };
       }
 
-  -- what is compared is of the run
+  -- a search compares moments of the run
   pub of-run : (group : List Bool) (present : Snapshot) → IsOfClock (arc_value a.system) present → present.moment ≡ a.lockstep.clock →
       a.orders_end ≤ a.kept.snapshot.moment → IsClosed (arc_value a.system) (has group) →
       AreOfRun (arc_value a.system) group a.kept.snapshot present a.seen.marks

@@ -1,4 +1,4 @@
--- A core of which no mail arrives and no turn does more than count.
+-- A core to which no signal comes and whose turns only count ticks.
 use Rattle.std.proofs.Common.{◌≡◌, ℕ, List, [], Option, None, subst}
 use Rattle.mcs_mail.specs.declared.mail.Mail.{Mail}
 use Rattle.mcs_system.specs.System.{System}

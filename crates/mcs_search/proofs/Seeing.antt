@@ -1,4 +1,4 @@
--- What is kept of rows, and of one more.
+-- The state that is kept of rows, after one row more.
 use Rattle.std.proofs.Common.{◌≡◌, ℕ, zero, suc, ◌<◌, ◌≤◌, List, [], ◌∷◌, ◌++◌, length, get_or, refl, sym, ap, subst, ◌∙◌, append_assoc, append-nil, arith}
 use Rattle.std.specs.List.{AllByRecursion}
 use Rattle.std.proofs.lemmas.List.{map-append}
@@ -20,7 +20,7 @@ all-at P [] i d l all = absurd (omega (arith, l))
 all-at P (x ∷ xs) zero d l all = all.0
 all-at P (x ∷ xs) (suc i) d l all = all-at P xs i d (omega (arith, l)) all.1
 
--- so many rows of moment t were seen behind the others
+-- after rows of time t were added to the others
 pub record Sees (system : System) (before : List Row) (since : List What) (t : ℕ) (rows : List Row) (seen : Seen) : Type 0 where
   pub so_far : IsOfRows system (before ++ rows) (since ++ whats rows) t seen
   pub up_to : UpTo t (past_of [] (before ++ rows))

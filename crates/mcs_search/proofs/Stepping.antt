@@ -24,13 +24,13 @@ stands-skipped compared after (Err e) later at rows refused =
     let P : Compared → Type 0 = λ after. StandsOn compared after in
     subst P (sym refused.1) (stands-here compared)
 
--- what is kept leaves the moment in time
+-- a kept moment leaves the clock in time
 pub in-time : (before kept : Compared) → (kept ≡ before) ⊎ (kept ≡ with_kept before) → before.clock ≤ before.horizon → kept.clock ≤ kept.horizon
 in-time before kept which l =
     let P : Compared → Type 0 = λ compared. compared.clock ≤ compared.horizon in
     elim which [ inl e ↦ subst P (sym e) l | inr e ↦ subst P (sym e) l ]
 
--- what is kept does not change which rows there are
+-- a kept moment does not change which rows there are
 module _ (before kept turned after : Compared) (old new : List Row) where
   goes : (k : ℕ) → kept ≡ record before { kept = k } → (k ≡ before.kept) ⊎ (k ≡ before.clock) → kept.failed ≡ false → turned ≡ at_moment kept (kept.clock + 1) →
       new ≡ old ++ rows_at kept.system kept.clock →

@@ -1,4 +1,5 @@
--- A small system, worked by hand: a thread runs for a tick, from moment 0 on, and an order comes at 5.
+-- A small system, worked by hand: a thread runs for a tick, from time 0 on, and an order comes at
+-- 5.
 use Rattle.std.specs.Prelude.{[], ◌∷◌, ◌++◌, List, None, refl}
 use Rattle.std.proofs.Common.{inl, inr, arith}
 use Rattle.mcs_ticks.specs.declared.row.Row.{Row}
@@ -50,7 +51,8 @@ goes_to_1 : GoesOn (opening one 9) (at_moment (opening one 9) 1) [] first_rows
 goes_to_1 =
     record { system = refl; horizon = refl; going = refl; later = omega arith; kept = inl refl; rows = refl; schedule = refl }
 
--- .. and ends a tick later. The search may keep that moment before, and passes the idle time up to the order
+-- .. and ends a tick later. The search may keep the moment before that, and skips idle time up to
+-- the order
 goes_to_5 : GoesOn (at_moment (opening one 9) 1) (at_moment (with_kept (at_moment (opening one 9) 1)) 5) first_rows (first_rows ++ last_rows)
 goes_to_5 =
     record { system = refl; horizon = refl; going = refl; later = omega arith; kept = inr refl; rows = refl; schedule = refl }

@@ -1,4 +1,4 @@
--- All cores of a system before one moment, to be compared with how they stood before an earlier one.
+-- All cores of a system before one moment, to be compared with their state before an earlier one.
 use Rattle.std.specs.Prelude.{◌≡◌, ℕ, ◌+◌, ◌<◌, Bool, true, false, List}
 use Rattle.std.specs.List.{AllByRecursion}
 use Rattle.mcs_control.specs.declared.config.Order.{Order}
@@ -10,8 +10,8 @@ use Rattle.mcs_forever.specs.Closed.{has}
 use Rattle.mcs_recurs.specs.Told.{shifts_told}
 use Rattle.mcs_recurs.specs.declared.shifts.Shifts.{Shifts}
 
--- the last moment of the run, the moment before which the cores stand, the one with which it is compared, and whether there was no memory for a
--- turn
+-- the last moment of the run, the time of the cores' next turn, the kept moment, and whether a turn
+-- ran out of memory
 pub record Compared : Type 0 where
   pub system : System
   pub horizon : ℕ
@@ -22,15 +22,15 @@ pub record Compared : Type 0 where
 abbrev pub opening : System → ℕ → Compared
 opening system horizon = record { system = system; horizon = horizon; clock = 0; kept = 0; failed = false }
 
--- the cores come to another moment
+-- the cores move to another moment
 abbrev pub at_moment : Compared → ℕ → Compared
 at_moment compared moment = record compared { clock = moment }
 
--- what follows is compared with this moment
+-- later moments are compared with this one
 abbrev pub with_kept : Compared → Compared
 with_kept compared = record compared { kept = compared.clock }
 
--- there was no memory for a turn
+-- a turn ran out of memory
 abbrev pub with_failed : Compared → Compared
 with_failed compared = record compared { failed = true }
 
@@ -43,7 +43,7 @@ pub record RecursSince (compared : Compared) (group : List Bool) (shifts : Shift
   pub recurs : Recurs compared.system (has group) (shifts_told shifts.by shifts.lags.items) compared.kept
   pub period : compared.kept + shifts.by ≡ compared.clock
 
--- each core of the group is one of the kept moment, later by some shift
+-- each core of the group is that of the kept moment, later by some shift
 abbrev pub CoresAreLater : System → ℕ → ℕ → List Bool → (ℕ → Shift) → Type 0
 CoresAreLater system kept clock group shifts =
     (core : ℕ) → core < system.cores → has group core ≡ true →

@@ -1,4 +1,4 @@
--- A search goes on from moment to moment.
+-- The steps of a search from moment to moment.
 use Rattle.std.specs.Prelude.{◌≡◌, ℕ, ◌<◌, ◌≤◌, ◌⊎◌, false, List, [], ◌++◌, None}
 use Rattle.mcs_ticks.specs.declared.row.Row.{Row}
 use Rattle.mcs_system.specs.System.{System}
@@ -12,14 +12,14 @@ pub record IsAtRest (system : System) (clock : ℕ) : Type 0 where
   pub mails : (world system clock).mails ≡ []
   pub cores : (core : ℕ) → core < system.cores → IsNextBusy system core clock [] (core_at system (world system clock) core) None
 
--- the cores stand at the same moment or at a later one, up to which the schedule has no row more
+-- the cores are at the same moment or a later one, and the schedule has no row meanwhile
 pub record StandsOn (before after : Compared) : Type 0 where
   pub same : after ≡ at_moment before after.clock
   pub later : before.clock ≤ after.clock
   pub rows : rows_before before.system after.clock ≡ rows_before before.system before.clock
 
--- the cores have taken their turns of the moment and stand at a later one, up to which the schedule has no row but those of the turns; it is
--- compared with the moment that was kept, or with the one whose turns they took
+-- the cores have taken their turns of the moment and are at a later one; the schedule has no row
+-- meanwhile but those of the turns. The kept moment is the earlier one, or that of the turns
 pub record GoesOn (before after : Compared) (old new : List Row) : Type 0 where
   pub system : after.system ≡ before.system
   pub horizon : after.horizon ≡ before.horizon

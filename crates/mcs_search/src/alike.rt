@@ -11,8 +11,9 @@ use mcs_recurs::is_own;
 use mcs_system::System;
 use mcs_ticks::CoreId;
 
-/// Whether each core of a group may stand again as it stood before some moment, but later: the same thread runs, and each thread stands at
-/// the same item. It takes no memory. Where it answers no, some core of the group is not what it was, later by whatever shift.
+/// Whether each core of a group may be its earlier self, but later: the same thread runs, and each
+/// thread is at the same item. If not, no shift makes an earlier core of the group the present one.
+/// Allocates no memory.
 pub(crate) fn may_stand_again(
     system: &System,
     lockstep: &Lockstep,

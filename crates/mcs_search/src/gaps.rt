@@ -8,7 +8,8 @@ use mcs_system::System;
 use mcs_ticks::{CoreId, NoMemory};
 use std::alloc::Global;
 
-/// In how many ticks the core does more than count a tick, where nothing arrives. None where it never does.
+/// The ticks until the core next does more than count a tick, if no signal arrives. `None` if it
+/// never does.
 fn gap(no_mail: &Mailbox, system: &System, lockstep: &Lockstep, core: CoreId) -> Option<u64>
     requires known { core < system.now.cores }
     requires same { lockstep.now.system ≡ system.now }
@@ -19,15 +20,16 @@ fn gap(no_mail: &Mailbox, system: &System, lockstep: &Lockstep, core: CoreId) ->
     Some(next.get().saturating_sub(lockstep.clock().get()))
 }
 
-/// In how many ticks each core does more than count a tick, where nothing arrives. A group that stands again as it stood does so in as many, and most
-/// others do not: so a moment is mostly told from the kept one without an image of its cores.
+/// For each core the ticks until it next does more than count a tick, if no signal arrives. A group
+/// that recurs has the same numbers; most others do not. Most moments are thus ruled out without an
+/// image of the cores.
 #[derive(Drop)]
 pub(crate) struct Gaps {
     of_cores: Vec<Option<u64>>,
 }
 
 impl Gaps {
-    /// Those of the present moment.
+    /// Returns the numbers at the present moment.
     pub(crate) fn new(alloc: Global, system: &System, lockstep: &Lockstep) -> Result<Self, NoMemory>
         requires same { lockstep.now.system ≡ system.now }
         requires going { lockstep.now.failed ≡ false }
@@ -41,7 +43,6 @@ impl Gaps {
         Ok(Gaps { of_cores })
     }
 
-    /// That of a core.
     fn of(&self, core: usize) -> Option<u64> {
         if core < self.of_cores.len() {
             self.of_cores[core]
@@ -50,7 +51,8 @@ impl Gaps {
         }
     }
 
-    /// Whether those of a group's cores are the same at the present moment. It takes no memory.
+    /// Whether the cores of a group have the same numbers at the present moment. Allocates no
+    /// memory.
     pub(crate) fn are_same(
         &self,
         alloc: Global,

@@ -15,7 +15,8 @@ use mcs_ticks::NoMemory;
 use mcs_verdict::Watch;
 use std::alloc::Global;
 
-/// What there was before the moment with which later ones are compared.
+/// A kept moment, with which later ones are compared: the cores, the watch and the counts before
+/// it.
 #[derive(Drop)]
 pub(crate) struct Kept {
     pub(crate) snapshot: Snapshot,
@@ -25,7 +26,7 @@ pub(crate) struct Kept {
 }
 
 impl Kept {
-    /// The present moment.
+    /// Returns the present moment, to be kept.
     pub(crate) fn new(
         alloc: Global,
         system: &System,

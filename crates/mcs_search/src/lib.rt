@@ -1,4 +1,5 @@
-//! A search for repetitions: a system is run moment by moment, and groups of its cores are compared with how they stood before a kept moment.
+//! A search for recurrences: a system is run moment by moment, and groups of its cores are compared
+//! with their state before a kept moment.
 #![tactic(auto)]
 
 mod alike;

@@ -9,7 +9,7 @@ fn greater(a: u64, b: u64) -> u64
     if a < b { b } else { a }
 }
 
-/// The first moment before which all orders of a system come.
+/// The first moment that is later than all orders of the system.
 pub(crate) fn orders_end(parts: &SystemParts) -> u64
     ensures all { OrdersComeBefore parts.now result }
     ensures first { (moment : ℕ) → OrdersComeBefore parts.now moment → result ≤ moment }

@@ -10,16 +10,16 @@ use mcs_ticks::{NoMemory, Tick};
 use std::alloc::Global;
 use std::sync::Arc;
 
-/// Where the doings of a group of cores repeat.
+/// How a group of cores recurs.
 #[derive(Debug, Drop)]
 pub struct Repeats {
-    /// From which moment on.
+    /// The time from which on it recurs.
     pub from: Tick,
-    /// By how much the group is later a period later; `by` is the period.
+    /// The lags of each core after a period. `by` is the period.
     pub shifts: Shifts,
 }
 
-/// Nothing is told of so many groups. `NoMemory` where a growth was refused.
+/// Returns a list of `groups` missing recurrences. Fails only if memory runs out.
 pub fn nothing_told(alloc: Global, groups: usize) -> Result<Vec<Option<Repeats>>, NoMemory>
     ensures { IfOk result (λ told. told.items ≡ replicate groups None) }
 {
@@ -30,7 +30,7 @@ pub fn nothing_told(alloc: Global, groups: usize) -> Result<Vec<Option<Repeats>>
     Ok(told)
 }
 
-/// What the present moment tells of a group.
+/// The recurrence of a group that the present moment shows, if there is one.
 fn told_now(alloc: Global, compared: &Search, group: &CoreSet) -> Result<Option<Repeats>, NoMemory>
     ensures told { IfOk result (IsToldOf compared.now.system compared.now.horizon group.now) }
     ensures from { IfOk result (λ told. IfSome told (λ repeats. repeats.from ≡ compared.now.kept)) }
@@ -51,8 +51,8 @@ fn is_told(told: &Option<Repeats>) -> bool
     told.is_some()
 }
 
-/// Each group of which nothing is told yet is compared with how it stood before the kept moment. What is told of others stays. `NoMemory` where
-/// a growth was refused, now or to a turn before.
+/// Compares each group without a recurrence with its state before the kept moment. Recurrences that
+/// are in the list already are kept. Fails only if memory runs out, or ran out in a turn before.
 pub fn compare(
     alloc: Global,
     compared: &Search,
@@ -76,7 +76,7 @@ pub fn compare(
     Ok(())
 }
 
-/// Whether there is a group of which nothing is told yet.
+/// Whether some group has no recurrence yet.
 fn is_any_left(told: &[Option<Repeats>]) -> bool {
     for repeats in told {
         if !is_told(repeats) {
@@ -86,8 +86,9 @@ fn is_any_left(told: &[Option<Repeats>]) -> bool {
     false
 }
 
-/// Where the doings of groups of cores repeat: of each group that no core outside it signals from which moment on, and with which period, or
-/// nothing where the horizon is met before that is found. `NoMemory` where a growth was refused.
+/// Returns for each group a recurrence, or `None` if the search found none by the horizon, at most
+/// 2^40. The recurrence is true of a group that no core outside it signals. Fails only if memory
+/// runs out.
 pub fn find_repeats(
     alloc: Global,
     system: Arc<System>,

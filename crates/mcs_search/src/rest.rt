@@ -8,7 +8,8 @@ use mcs_system::System;
 use mcs_ticks::CoreId;
 use std::alloc::Global;
 
-/// Whether no core does more than count a tick any more, unless a signal arrives. It takes no memory.
+/// Whether no core ever does more than count a tick from now on, unless a signal arrives. Allocates
+/// no memory.
 pub(crate) fn are_idle(alloc: Global, system: &System, lockstep: &Lockstep) -> bool
     requires same { lockstep.now.system ≡ system.now }
     requires going { lockstep.now.failed ≡ false }
@@ -24,7 +25,7 @@ pub(crate) fn are_idle(alloc: Global, system: &System, lockstep: &Lockstep) -> b
     true
 }
 
-/// Whether the core does more at some moment, where nothing arrives.
+/// Whether the core ever does more than count a tick, if no signal arrives.
 fn is_busy(system: &System, lockstep: &Lockstep, no_mail: &Mailbox, core: CoreId) -> bool
     requires known { core < system.now.cores }
     requires same { lockstep.now.system ≡ system.now }

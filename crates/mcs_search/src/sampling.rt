@@ -7,19 +7,23 @@ use crate::Search;
 use mcs_ticks::{NoMemory, Row};
 use std::alloc::Global;
 
-/// What is known of a system's rest.
+/// Whether a system is at rest.
 #[derive(Clone, Copy, Debug, PartialEq, Eq)]
 enum Rest {
-    /// It is not at rest.
+    /// It is not.
     NotYet,
-    /// It came to rest at the present moment.
+    /// It is, from the present moment on.
     Now,
-    /// It came to rest before, and was compared with that.
+    /// It was already, and a later moment was compared with that one.
     Past,
 }
 
-/// When a search keeps a moment: after 1, 2, 4, 8 and so on busy moments from where all orders came before, so that however long a period is, some
-/// kept moment is followed by all of it. And when the system comes to rest: then there is no busy moment any more.
+/// The choice of the moments that a search keeps.
+///
+/// Once all orders are over, it keeps a moment after 1, 2, 4, 8 and so on busy moments, at which
+/// some core does more than count a tick. However long a period is, some kept moment is followed by
+/// a whole period. It also keeps the moment from which on the system rests, since no busy moment
+/// follows.
 #[derive(Clone, Copy, Debug)]
 pub struct Sampling {
     stretch: u64,
@@ -28,7 +32,7 @@ pub struct Sampling {
 }
 
 impl Sampling {
-    /// From the first moment on.
+    /// Returns the choice before the first moment.
     pub fn new() -> Self
         ensures { (result.stretch ≡ 1) × (result.left ≡ 1) × (result.rest ≡ NotYet) }
     {
@@ -39,10 +43,13 @@ impl Sampling {
         }
     }
 
-    /// The search goes on: all cores take their turns of this moment, whose rows are put behind those that there are, and go on to the next
-    /// moment at which some core does more than count a tick, or to the one after the horizon. Where the system comes to rest, they stay for two
-    /// moments, so that these are compared. Before the turns the search keeps the moment, where it is time to do so. On `NoMemory` no row is put
-    /// there, and the search has failed, or is as it was.
+    /// Takes the turns of this moment and moves on to the next busy one, at most one past the
+    /// horizon.
+    ///
+    /// Appends the rows of the turns. Before them it keeps the moment, if that is due. When the
+    /// system rests, the search twice moves on by one tick only, so that a later moment is compared
+    /// with the kept one. If memory runs out, no row is appended, and the search has failed or is
+    /// unchanged.
     pub fn go_on(
         &mut self,
         alloc: Global,
@@ -60,7 +67,7 @@ impl Sampling {
         Ok(())
     }
 
-    /// Before the turns the search keeps the moment, where it is time to do so.
+    /// Keeps the moment before its turns, if that is due.
     fn keep_where_due(&mut self, alloc: Global, compared: &mut Search) -> Result<(), NoMemory>
         ensures kept { OnOk result ((compared.new ≡ compared.old) ⊎ (compared.new ≡ with_kept compared.old)) }
         ensures err { OnErr result (compared.new ≡ compared.old) }
@@ -71,7 +78,7 @@ impl Sampling {
         Ok(())
     }
 
-    /// After the turns idle time passes, unless the search stays at the moment.
+    /// Skips idle time after the turns, unless the search stays at the moment.
     fn go_to_next(&mut self, alloc: Global, compared: &mut Search)
         requires { compared.old.failed ≡ false }
         ensures { StandsOn compared.old compared.new }
@@ -79,7 +86,7 @@ impl Sampling {
         if self.stays(alloc, compared) {
             return;
         }
-        // where no memory was refused before, none is now
+        // memory has not run out before, and this call allocates none
         let _moment = compared.skip();
     }
 
@@ -92,7 +99,7 @@ impl Sampling {
         }
     }
 
-    /// Whether as many busy moments have passed as were to pass. Then twice as many are to.
+    /// Whether the busy moments of this stretch are over; if so, a stretch of twice as many begins.
     fn is_due(&mut self) -> bool
         ensures { result ≡ (self.old.left == 0) }
     {
@@ -105,7 +112,8 @@ impl Sampling {
         true
     }
 
-    /// Whether the search stays at the present moment, although it may be none at which a core does more than count a tick.
+    /// Whether the search stays at the present moment, even if no core does more than count a tick
+    /// at it.
     fn stays(&mut self, alloc: Global, compared: &Search) -> bool
         requires { compared.now.failed ≡ false }
     {

@@ -31,7 +31,7 @@ use std::alloc::Global;
 use std::marker::Model;
 use std::sync::Arc;
 
-/// All cores of a system before one moment, with what tells whether a group of them stands as it stood before one kept moment.
+/// All cores of a system before one moment, compared with their state before one kept moment.
 #[derive(Drop)]
 pub struct Search {
     system: Arc<System>,
@@ -63,7 +63,8 @@ impl Model for Search {
 }
 
 impl Search {
-    /// All cores before moment 0, for a run up to this horizon. What follows is compared with moment 0. `NoMemory` where a growth was refused.
+    /// Returns the search before time 0, which is the kept moment, for a run up to this horizon, at
+    /// most 2^40. Fails only if memory runs out.
     pub fn new(alloc: Global, system: Arc<System>, horizon: Tick) -> Result<Search, NoMemory>
         requires { horizon ≤ 2 ^ 40 }
         ensures { IfOk result (λ made. made ≡ opening (arc_value system) horizon) }
@@ -85,7 +86,7 @@ impl Search {
         })
     }
 
-    /// The moment before which all cores stand: the next one whose turns they take.
+    /// The time of the next turn of all cores.
     pub fn clock(&self) -> Tick
         ensures value { result ≡ self.now.clock }
         ensures in_time { result ≤ self.now.horizon + 1 }
@@ -101,21 +102,22 @@ impl Search {
         self.kept.snapshot.moment()
     }
 
-    /// Whether memory was refused to a turn before, so that each later call which may answer `NoMemory` does so.
+    /// Whether a turn ran out of memory; then each later call that may return `NoMemory` does.
     pub fn failed(&self) -> bool
         ensures { result ≡ self.now.failed }
     {
         self.failed
     }
 
-    /// Whether all orders of the system come before the moment.
+    /// Whether all orders of the system come before this moment.
     pub fn orders_are_over(&self) -> bool
         ensures { IsTrue result ↔ OrdersComeBefore self.now.system self.now.clock }
     {
         is_at_most(self.orders_end, self.clock.get())
     }
 
-    /// Whether no core does more than count a tick from this moment on, and no signal is under way. It takes no memory.
+    /// Whether no core does more than count a tick from this moment on, and no signal is under way.
+    /// Allocates no memory.
     pub fn is_at_rest(&self, alloc: Global) -> bool
         requires { self.now.failed ≡ false }
         ensures { IsTrue result → IsAtRest self.now.system self.now.clock }
@@ -127,7 +129,7 @@ impl Search {
         are_idle(alloc, &self.system, &self.lockstep)
     }
 
-    /// What is kept of all rows before the moment.
+    /// The watch of all rows before this moment.
     pub fn watch(&self) -> &Watch
         requires { self.now.failed ≡ false }
         ensures { result.now ≡ watch_before self.now.system self.now.clock }
@@ -135,14 +137,14 @@ impl Search {
         &self.seen.watch
     }
 
-    /// What was kept of all rows before the kept moment.
+    /// The watch of all rows before the kept moment.
     pub fn kept_watch(&self) -> &Watch
         ensures { result.now ≡ watch_before self.now.system self.now.kept }
     {
         &self.kept.watch
     }
 
-    /// What the rows from the kept moment on did that come before this one.
+    /// The doings of the rows from the kept moment on, up to this one.
     pub fn doings(&self) -> &Doings
         requires { self.now.failed ≡ false }
         ensures { result.now ≡ doings_of self.now.system (told_between self.now.system self.now.kept self.now.clock) }
@@ -150,7 +152,7 @@ impl Search {
         &self.seen.doings
     }
 
-    /// What all rows before the moment came to.
+    /// The counts of all rows before this moment.
     pub fn course(&self) -> &Course
         requires { self.now.failed ≡ false }
         ensures { result.now ≡ course_of self.now.system (past_before self.now.system self.now.clock) }
@@ -158,16 +160,17 @@ impl Search {
         &self.seen.course
     }
 
-    /// What all rows before the kept moment came to.
+    /// The counts of all rows before the kept moment.
     pub fn kept_course(&self) -> &Course
         ensures { result.now ≡ course_of self.now.system (past_before self.now.system self.now.kept) }
     {
         &self.kept.course
     }
 
-    /// Idle time: all cores go at once to the first moment, from theirs on, at which some core does more than count a tick, or to the
-    /// moment after the horizon where that comes first. The schedule has no row meanwhile. Answers that moment. It takes no memory; after
-    /// a turn's `NoMemory` it answers it too, and nothing changes.
+    /// Moves all cores to the end of idle time and returns it: the first moment from now on at
+    /// which some core does more than count a tick, at most one past the horizon. The schedule has
+    /// no row meanwhile. Allocates no memory. Fails only if a turn ran out of memory before;
+    /// nothing changes then.
     pub fn skip(&mut self) -> Result<Tick, NoMemory>
         ensures going { OnOk result (self.old.failed ≡ false) }
         ensures moment { IfOk result
@@ -188,9 +191,9 @@ impl Search {
         Ok(moment)
     }
 
-    /// All cores take their turns of this moment, in rising order, and stand before the next one. The rows of these turns, which are those
-    /// that the schedule has at this moment, are put behind those that there are. On `NoMemory` no row is put there, and each later call
-    /// answers it, too.
+    /// Takes the turns of all cores at this moment, in rising order, and moves on to the next one.
+    /// Appends the rows of these turns, which are those of the schedule at this moment. If memory
+    /// runs out, no row is appended, and each later call fails, too.
     pub fn turn(&mut self, rows: &mut Vec<Row>) -> Result<(), NoMemory>
         requires { self.old.clock ≤ self.old.horizon }
         ensures going { OnOk result (self.old.failed ≡ false) }
@@ -216,8 +219,8 @@ impl Search {
         Ok(())
     }
 
-    /// From now on this moment is the one to compare with. `NoMemory` where a growth was refused, now or to a turn before, and then it is the
-    /// one that it was.
+    /// Keeps this moment: later ones are compared with it. Fails only if memory runs out, or ran
+    /// out in a turn before; the kept moment is then unchanged.
     pub fn keep(&mut self, alloc: Global) -> Result<(), NoMemory>
         ensures going { OnOk result (self.old.failed ≡ false) }
         ensures kept { OnOk result (self.new ≡ with_kept self.old) }
@@ -233,10 +236,16 @@ impl Search {
         Ok(())
     }
 
-    /// By how much a group of cores is later than before the kept moment, where it stands as it stood then, but later, with the same signals
-    /// for it under way, nothing lags that was compared with now meanwhile, and all orders came before. So, where no core outside the group
-    /// signals one in it, the group does the same again, without end. None where it does not stand so. `NoMemory` where a growth was refused,
-    /// now or to a turn before; where the group's threads do not stand as they stood, it takes no memory.
+    /// Returns by how much a group of cores is later than before the kept moment, if this holds:
+    /// - the kept moment is later than all orders;
+    /// - the group's cores, the signals under way to them and their sources' next dates are those
+    ///   before the kept moment, but later;
+    /// - each date that was compared with the current time meanwhile is later by the whole period.
+    ///
+    /// If no core outside the group signals one in it, it then recurs, for ever. `None` says
+    /// nothing: the group may recur by other moments. Allocates no memory if another thread runs,
+    /// or if a thread is at another item. Fails only if memory runs out, or ran out in a turn
+    /// before.
     pub fn recurs(&self, alloc: Global, group: &CoreSet) -> Result<Option<Shifts>, NoMemory>
         ensures going { OnOk result (self.now.failed ≡ false) }
         ensures recurs { IsClosed self.now.system (has group.now) →

@@ -16,8 +16,8 @@ use mcs_under_way::UnderWay;
 use mcs_verdict::Watch;
 use std::alloc::Global;
 
-/// What is kept of the rows that go by: a watch of all of them, what they came to, the signals under way, and what those of late did and show to
-/// have been compared with now.
+/// All that a search keeps of rows: the watch, the counts and the signals under way of all rows,
+/// and the doings and marks of recent rows, those since the kept moment.
 #[derive(Drop)]
 pub(crate) struct Seen {
     pub(crate) watch: Watch,
@@ -28,7 +28,7 @@ pub(crate) struct Seen {
 }
 
 impl Seen {
-    /// Before the first row.
+    /// Returns the state before the first row.
     pub(crate) fn new(alloc: Global, system: &System) -> Result<Self, NoMemory>
         ensures { IfOk result (IsOfRows system.now [] [] 0) }
     {
@@ -41,7 +41,7 @@ impl Seen {
         })
     }
 
-    /// After one row more.
+    /// Adds one row.
     fn see(&mut self, system: &System, row: &Row) -> Result<(), NoMemory>
         ensures { (before : List TheRow) (since : List TheWhat) → IsOfRows system.now before since row.now.moment self.old →
             UpTo row.now.moment (past_of [] before) → row.now.moment ≤ 2 ^ 40 →
@@ -56,7 +56,7 @@ impl Seen {
         Ok(())
     }
 
-    /// After all rows of a moment.
+    /// Adds all rows of a moment.
     pub(crate) fn see_all(&mut self, system: &System, rows: &[Row]) -> Result<(), NoMemory>
         ensures { (before : List TheRow) (since : List TheWhat) (t : ℕ) → IsOfRows system.now before since t self.old →
             UpTo t (past_of [] before) → t ≤ 2 ^ 40 → AllByRecursion (λ (row : TheRow). row.moment ≡ t) rows.now →
@@ -68,7 +68,8 @@ impl Seen {
         Ok(())
     }
 
-    /// After the rows of a moment, which stand from `start` on. Where memory is refused, they are taken away.
+    /// Adds the rows of a moment, from the place `start` on. If memory runs out, they are removed
+    /// from the list.
     pub(crate) fn see_from(
         &mut self,
         system: &System,
@@ -92,7 +93,7 @@ impl Seen {
         }
     }
 
-    /// Before a later moment, where there was no row meanwhile.
+    /// Moves on to a later moment, without a row meanwhile.
     pub(crate) fn go_to(&mut self, moment: Tick)
         ensures { (system : TheSystem) (before : List TheRow) (since : List TheWhat) (t : ℕ) → IsOfRows system before since t self.old →
             t ≤ moment → IsOfRows system before since moment self.new }
@@ -100,7 +101,7 @@ impl Seen {
         self.under_way.forget_before(moment);
     }
 
-    /// The rows so far are not of late any more.
+    /// Forgets the recent rows.
     pub(crate) fn clear(&mut self)
         ensures { (system : TheSystem) (before : List TheRow) (since : List TheWhat) (t : ℕ) → IsOfRows system before since t self.old →
             IsOfRows system before [] t self.new }

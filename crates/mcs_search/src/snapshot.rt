@@ -12,7 +12,6 @@ use mcs_ticks::{CoreId, NoMemory};
 use mcs_under_way::UnderWay;
 use std::alloc::Global;
 
-/// The image of one core before the moment.
 fn image(
     alloc: Global,
     system: &System,
@@ -28,7 +27,7 @@ fn image(
     Ok(image)
 }
 
-/// The images of all cores, in order of their numbers.
+/// Returns the images of all cores, by their numbers.
 fn images(alloc: Global, system: &System, lockstep: &Lockstep) -> Result<Vec<CoreImage>, NoMemory>
     requires same { lockstep.now.system ≡ system.now }
     requires going { lockstep.now.failed ≡ false }
@@ -43,14 +42,13 @@ fn images(alloc: Global, system: &System, lockstep: &Lockstep) -> Result<Vec<Cor
     Ok(images)
 }
 
-/// The same signals once more.
 fn copied(alloc: Global, mails: &[Mail]) -> Result<Vec<Mail>, NoMemory>
     ensures { IfOk result (λ copy. copy.items ≡ mails.now) }
 {
     Ok(mails.iter().copied().collect(alloc)?)
 }
 
-/// All cores as they stand, and the signals under way.
+/// Returns the images of all cores and the signals under way.
 pub(crate) fn snapshot(
     alloc: Global,
     system: &System,

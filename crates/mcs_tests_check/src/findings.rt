@@ -16,8 +16,8 @@ const WHAT_IS_LOST: &str = "\
 missed 0 overdue 0 lost 2 never 0 merged 0 allowed 0 hints 0
 ";
 
-/// The one job of `LATE`. `SIGNAL_JOBS` has the two of `SIGNALS` up to 5; the second begins when the
-/// first ends.
+/// The one job of `LATE`. `SIGNAL_JOBS` has the two of `SIGNALS` up to 5; the second begins when
+/// the first ends.
 const LATE_JOBS: &str = "\
 11 0 job A 1 activated 0 begun 0 response 11 queued 0 preemptions 0 ready 0 running 5 throttled 6 blocked 0 woken 0
 missed 1 overdue 0 lost 0 never 0 merged 0 allowed 0 hints 0

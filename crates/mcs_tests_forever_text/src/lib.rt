@@ -1,4 +1,4 @@
-//! Tests of `mcs_forever_text`, over its public items.
+//! Tests of the public items of `mcs_forever_text`.
 #![tactic(auto)]
 
 #[cfg(test)]

@@ -1,4 +1,4 @@
-//! Tests of `mcs_outlook`, over its public items.
+//! Tests of the public items of `mcs_outlook`.
 #![tactic(auto)]
 
 #[cfg(test)]

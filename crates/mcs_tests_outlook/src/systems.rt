@@ -9,7 +9,7 @@ use std::alloc::Global;
 use std::sync::Arc;
 use std::test::Fail;
 
-/// A moment of a run.
+/// A time of a run.
 fn moment(ticks: u64) -> Result<Tick, Fail>
     ensures { IfOk result (λ moment. moment ≤ 2 ^ 40) }
 {
@@ -35,7 +35,8 @@ fn written(alloc: Global, system: &System, told: &[Told]) -> Result<Vec<u8>, Fai
     Ok(text)
 }
 
-/// What is told of the system of this file for all time, by a run up to this horizon. No signal may be lost.
+/// The results of a check for all time of the system in this file, up to this horizon. No signal
+/// may be lost.
 pub(crate) fn told(alloc: Global, text: &str, horizon: u64) -> Result<Vec<Told>, Fail> {
     let horizon = moment(horizon)?;
     let system = load(alloc, text.as_bytes())?;
@@ -43,14 +44,14 @@ pub(crate) fn told(alloc: Global, text: &str, horizon: u64) -> Result<Vec<Told>,
     Ok(tell_all(alloc, shared, &[], horizon)?)
 }
 
-/// The same as lines of words.
+/// The results as lines of words.
 pub(crate) fn lines(alloc: Global, text: &str, horizon: u64) -> Result<Vec<u8>, Fail> {
     let all = told(alloc, text, horizon)?;
     let system = load(alloc, text.as_bytes())?;
     written(alloc, &system, all.as_slice())
 }
 
-/// The period of a set of cores, or 0 where no repetition was found.
+/// The period of a set of cores; 0 if no recurrence was found.
 pub(crate) fn period(told: &Told) -> u64 {
     match told.period {
         Some(period) => period.ticks,

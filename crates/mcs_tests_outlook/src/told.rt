@@ -23,7 +23,7 @@ thread = [
 ]
 "#;
 
-/// A thread that computes for a tick, and no more.
+/// A thread that computes for one tick in all.
 const RESTS: &str = r#"
 version = 1
 cores = 1
@@ -32,7 +32,7 @@ context = [{ name = "a", core = 0, budget = 3, period = 10 }]
 thread = [{ name = "Once", context = "a", priority = 9, rounds = 1, script = ["compute 1"] }]
 "#;
 
-/// A thread that never waits, and one below it that never runs.
+/// A thread that never waits, and one of a lower priority that never runs.
 const STARVES: &str = r#"
 version = 1
 cores = 1
@@ -44,7 +44,8 @@ thread = [
 ]
 "#;
 
-/// The loop is activated at each release, computes for two ticks, and yields in a third one: each round takes 3 ticks. At 10, before its release, it stands as 10 ticks later.
+/// The loop is activated at each release, computes for two ticks, and yields in a third one: each
+/// round takes 3 ticks. Its state at 20, before its release, is that at 10, but 10 ticks later.
 #[test]
 fn a_loop_is_told_for_ever(rt: HostRuntime) -> Result<(), Fail> {
     let text = lines(rt.alloc(), YIELDS, 1000)?;
@@ -55,7 +56,7 @@ fn a_loop_is_told_for_ever(rt: HostRuntime) -> Result<(), Fail> {
     Ok(())
 }
 
-/// The second release is the first moment that shows it: up to 18 no repetition is seen.
+/// The second release is the first moment that shows the recurrence: a horizon of 18 shows none.
 #[test]
 fn a_loop_is_told_so_far(rt: HostRuntime) -> Result<(), Fail> {
     let text = lines(rt.alloc(), YIELDS, 18)?;
@@ -76,7 +77,8 @@ fn a_system_at_rest(rt: HostRuntime) -> Result<(), Fail> {
     Ok(())
 }
 
-/// What core 0 does rests on core 1, which no other core signals: two sets, and each repeats with the period of the clock.
+/// Core 0 depends on core 1, which no other core signals. There are two sets, and each recurs with
+/// the period of the clock.
 #[test]
 fn a_clock_is_told_apart_from_its_loop(rt: HostRuntime) -> Result<(), Fail> {
     let all = told(rt.alloc(), CLOCK, 1000)?;
@@ -90,7 +92,8 @@ fn a_clock_is_told_apart_from_its_loop(rt: HostRuntime) -> Result<(), Fail> {
     Ok(())
 }
 
-/// The thread above never stops for long, so the one below never runs: a round of it is overdue from moment 20 on.
+/// The upper thread never stops for long, so the lower one never runs: a round of it is overdue
+/// from time 20 on.
 #[test]
 fn a_starved_thread_is_found(rt: HostRuntime) -> Result<(), Fail> {
     let all = told(rt.alloc(), STARVES, 1000)?;

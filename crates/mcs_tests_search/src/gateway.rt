@@ -1,7 +1,7 @@
 use crate::systems::{repeats_up_to, told};
 use std::test::Fail;
 
-/// A gateway of a car: four cores of the system on chip, and four that play devices.
+/// A gateway in a car: four cores of a system on chip, and four cores for its devices.
 const GATEWAY: &str = r#"
 version = 2
 cores = 8
@@ -57,7 +57,8 @@ thread = [
 ]
 "#;
 
-/// Each device signals once in its period, and no core signals it. The cores of the system on chip wait for all of them, and do not repeat so soon.
+/// Each device signals once in its period, and no core signals it. The cores of the system on chip
+/// wait for all devices, and do not recur by this horizon.
 #[test]
 fn devices_repeat_with_their_periods(rt: HostRuntime) -> Result<(), Fail> {
     let found = repeats_up_to(rt.alloc(), GATEWAY, 20000)?;

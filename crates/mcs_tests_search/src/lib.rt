@@ -1,4 +1,4 @@
-//! Tests of `mcs_search`, over its public items.
+//! Tests of the public items of `mcs_search`.
 #![tactic(auto)]
 
 #[cfg(test)]

@@ -8,7 +8,7 @@ use std::alloc::Global;
 use std::sync::Arc;
 use std::test::Fail;
 
-/// A moment of a run.
+/// A time of a run.
 fn moment(ticks: u64) -> Result<Tick, Fail>
     ensures { IfOk result (λ moment. moment ≤ 2 ^ 40) }
 {
@@ -19,7 +19,7 @@ fn moment(ticks: u64) -> Result<Tick, Fail>
     Ok(moment)
 }
 
-/// Where the least set of each core that no core outside it signals repeats, by the file with this text.
+/// Returns the recurrence of each core's smallest closed set, by the file with this text.
 pub(crate) fn repeats_up_to(
     alloc: Global,
     text: &str,
@@ -32,7 +32,8 @@ pub(crate) fn repeats_up_to(
     Ok(find_repeats(alloc, shared, groups.as_slice(), horizon)?)
 }
 
-/// From where on the least group with a core repeats, and with which period, or 0 and 0 where that is not told.
+/// The time from which on the smallest set with a core recurs, and its period; 0 and 0 if no
+/// recurrence was found.
 pub(crate) fn told(found: &[Option<Repeats>], core: usize) -> (u64, u64) {
     if core >= found.len() {
         return (0, 0);

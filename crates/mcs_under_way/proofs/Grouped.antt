@@ -1,4 +1,4 @@
--- Two lists of signals are compared from a place in each on.
+-- Two lists of signals, compared from a place in each.
 use Rattle.std.proofs.Common.{ℕ, Bool, List, drop}
 use Rattle.std.specs.Prelude.{◌↔◌}
 use Rattle.mcs_mail.specs.declared.mail.Mail.{Mail}
@@ -10,7 +10,7 @@ module _ (system : System) (group : List Bool) where
   abbrev pub rest : List Mail → ℕ → List Mail
   rest mails place = for_group system group (drop place mails)
 
-  -- from these places on the signals are later exactly where all are
+  -- the signals are later exactly if they are from these places on
   abbrev pub IsSo : ℕ → List Mail → List Mail → ℕ → ℕ → Type 0
   IsSo by before after i k =
       AreLater system group by (drop i before) (drop k after) ↔ AreLater system group by before after

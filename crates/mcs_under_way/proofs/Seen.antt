@@ -16,7 +16,7 @@ use Rattle.mcs_core.proofs.Systems.{delay-short}
 use Rattle.mcs_under_way.specs.Told.{mail_of, mail_told, told_mails, arrives_from, can_arrive, under_way}
 use Rattle.mcs_under_way.proofs.Clock.{under_way-told}
 
--- of the signals that arrive at an earlier moment or later
+-- the signals that arrive at a moment or later, of those that arrive at an earlier one or later
 pub from-later : (before t : ℕ) → before ≤ t → (mails : List Mail) → filter (arrives_from t) (filter (arrives_from before) mails) ≡ filter (arrives_from t) mails
 from-later before t l [] = refl
 from-later before t l (mail ∷ mails) = by (arrives_from before mail) (arrives_from t mail) refl refl (from-later before t l mails)
@@ -31,7 +31,7 @@ from-later before t l (mail ∷ mails) = by (arrives_from before mail) (arrives_
     by false true e f i = absurd (never mail.arrives before t l e f)
     by false false e f i = i
 
--- the signal of a row of a run arrives at its moment or later, and at a moment that can be told
+-- the signal of a row of a run arrives at the row's time or later, and at most at 2^42
 on-time : (system : System) → IsWellFormed system → (c moment t : ℕ) → t ≤ moment → moment ≤ 2 ^ 40 → (what : What) →
     filter can_arrive (cons_option (mail_told system c moment what) []) ≡ filter (arrives_from t) (cons_option (mail_told system c moment what) [])
 on-time system well c moment t l m (row.Signal thread note badge) =

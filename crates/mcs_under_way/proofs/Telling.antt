@@ -1,4 +1,5 @@
--- The rows of a turn tell its signals, part by part; so the rows before a moment tell what is under way then.
+-- The signals of a turn are those of its rows, part by part. The rows before a moment therefore
+-- show the signals under way then.
 use Rattle.std.proofs.Common.{◌≡◌, ℕ, ◌+◌, Bool, true, false, cond, List, [], ◌∷◌, ◌++◌, Option, Some, None, refl, sym, ap, ◌∙◌, arith}
 use Rattle.std.specs.Prelude.{◌==◌, nat_lt, filter, filter_map}
 use Rattle.std.specs.List.{cons_option, slice_get}
@@ -77,7 +78,7 @@ module _ (queue : Discipline) (system : System) (c t : ℕ) where
   posts-tells : (note badge : ℕ) (core : Core) → Tells (turns.posts queue system t note badge core)
   posts-tells note badge core = posts_as-tells note (posted badge (note_of core note)) core
 
-  -- a server is at home: that it is left is a post
+  -- leaving a server at home is a post on this core
   let_in-tells : (y : ℕ) (core : Core) → Tells (turns.let_in queue system t y core)
   let_in-tells y core =
       tells-then (turns.moves_on system t y (turns.with_woken_context system t y core))
@@ -98,7 +99,8 @@ module _ (queue : Discipline) (system : System) (c t : ℕ) where
       same : (a b : ℕ) → a ≡ b → (a == b) ≡ true
       same a b e = grind (arith, nat_tests)
 
-  -- the one row that tells a signal for another core: one for the core's own is a post
+  -- the part whose row makes a signal for another core; a signal for the core's own notification is
+  -- a post
   signals-tells : (y note badge : ℕ) (core : Core) → Tells (turns.signals queue system c t y note badge core)
   signals-tells y note badge core = by ((note_part system note).core == c) (turns.posts queue system t note badge core) (posts-tells note badge core)
     where
@@ -242,7 +244,7 @@ module _ (queue : Discipline) (system : System) (c t : ℕ) where
       preempted : Turn
       preempted = released followed_by turns.preempts queue system t
 
-  -- rows tell as what they say does
+  -- rows make the signals of their contents
   pub told-stamped : (whats : List What) → told_mails system (stamped c t whats) ≡ told whats
   told-stamped [] = refl
   told-stamped (what ∷ whats) = ap (cons_option (mail_told system c t what)) (told-stamped whats)

@@ -1,4 +1,4 @@
--- Values that were worked by hand.
+-- Values worked by hand.
 use Rattle.std.specs.Prelude.{◌≡◌, ℕ, ◌+◌, true, false, [], ◌∷◌, Some, None, refl}
 use Rattle.mcs_ticks.specs.declared.row.Row.{Row}
 use Rattle.mcs_ticks.specs.declared.row.What.{What}
@@ -11,7 +11,8 @@ use Rattle.mcs_core.specs.Clock.{clock, world}
 use Rattle.mcs_under_way.specs.Told.{mail_of, under_way}
 use Rattle.mcs_under_way.specs.Group.{for_group, AreLater}
 
--- core 0 signals notification 0, at home on core 1, after two ticks, and notification 1, its own, a tick later; three ticks lie between the cores
+-- core 0 signals notification 0, at home on core 1, after two ticks, and its own notification 1 a
+-- tick later. The delay between the cores is three ticks
 abbrev two_cores : System
 two_cores =
     record {
@@ -40,21 +41,21 @@ signal_at t = record { arrives = t + 3; made = t; maker = 0; note = 0; badge = 4
 to_another_core : mail_of two_cores (at_5 (row.Signal 0 0 4)) ≡ Some (signal_at 5)
 to_another_core = refl
 
--- one for its own core is not under way, and no other row tells a signal
+-- a signal for its own core is not under way, and no other row makes a signal
 to_its_own_core : mail_of two_cores (at_5 (row.Signal 0 1 2)) ≡ None
 to_its_own_core = refl
 
 an_arrival_is_none : mail_of two_cores (at_5 (row.Arrive 0 4 1)) ≡ None
 an_arrival_is_none = refl
 
--- it is under way before moment 8, at which it arrives, and not after it
+-- it is under way before time 8, at which it arrives, and not after it
 until_it_arrives : under_way two_cores 8 (at_5 (row.Signal 0 0 4) ∷ at_5 (row.Signal 0 1 2) ∷ []) ≡ signal_at 5 ∷ []
 until_it_arrives = refl
 
 and_no_longer : under_way two_cores 9 (at_5 (row.Signal 0 0 4) ∷ []) ≡ []
 and_no_longer = refl
 
--- in the schedule the signal is made at moment 2
+-- in the schedule the signal is made at time 2
 not_yet_made : (world two_cores 2).mails ≡ []
 not_yet_made = refl
 
@@ -70,7 +71,8 @@ taken = refl
 told_to_be_taken : under_way two_cores 6 (clock two_cores 6).rows ≡ []
 told_to_be_taken = refl
 
--- for a group with core 1 the signal of moment 5 is that of moment 2, later by 3; what is for core 0 plays no part
+-- for a group with core 1 the signal made at 5 is that made at 2, later by 3; signals for core 0
+-- play no part
 abbrev to_core_0 : Mail
 to_core_0 = record { arrives = 9; made = 6; maker = 1; note = 1; badge = 1 }
 
@@ -80,6 +82,6 @@ later = refl
 only_for_core_0 : for_group two_cores (true ∷ false ∷ []) (to_core_0 ∷ signal_at 5 ∷ []) ≡ to_core_0 ∷ []
 only_for_core_0 = refl
 
--- no core past those of the group is in it
+-- no core past the end of the group is in it
 none_past : for_group two_cores [] (to_core_0 ∷ signal_at 5 ∷ []) ≡ []
 none_past = refl

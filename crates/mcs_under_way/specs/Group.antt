@@ -1,4 +1,4 @@
--- The signals for a group of cores, which is told by a yes or a no for each core.
+-- The signals for a group of cores, which has a yes or a no for each core.
 use Rattle.std.specs.Prelude.{◌≡◌, ℕ, Bool, false, List, map, filter, get_or}
 use Rattle.mcs_mail.specs.declared.mail.Mail.{Mail}
 use Rattle.mcs_system.specs.System.{System}
@@ -12,6 +12,6 @@ module _ (system : System) (group : List Bool) where
   abbrev pub for_group : List Mail → List Mail
   for_group mails = filter is_for_group mails
 
-  -- the signals for the group are the same as before, but later by so many ticks
+  -- the signals for the group are the earlier ones, `by` ticks later
   abbrev pub AreLater : ℕ → List Mail → List Mail → Type 0
   AreLater by before after = for_group after ≡ map (later_mail by) (for_group before)

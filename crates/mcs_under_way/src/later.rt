@@ -7,7 +7,8 @@ use mcs_mail::Mail;
 use mcs_system::System;
 use mcs_ticks::{Limits, Tick};
 
-/// Whether the signals for a group of cores are the same in both lists, but in the latter later by so many ticks.
+/// Whether the signals for a group of cores are the same in both lists, `by` ticks later in the
+/// second.
 pub fn are_later(
     system: &System,
     group: &[bool; Limits::CORES],
@@ -31,7 +32,7 @@ pub fn are_later(
     next_for(system, group, before, compared).is_none()
 }
 
-/// The first signal for the group from this place on, and the place behind it.
+/// The first signal for the group from this place on, and the place after it.
 fn next_for(
     system: &System,
     group: &[bool; Limits::CORES],
@@ -51,14 +52,13 @@ fn next_for(
     None
 }
 
-/// Whether a signal is for one of the group's cores.
 fn is_for(system: &System, group: &[bool; Limits::CORES], mail: &Mail) -> bool
     ensures { result ≡ is_for_group system.now group.now mail.now }
 {
     group[home_of(system, mail.note).0]
 }
 
-/// Whether a signal is the same as before, but later by so many ticks.
+/// Whether a signal is the earlier one, `by` ticks later.
 fn is_later(before: &Mail, by: u64, after: &Mail) -> bool
     ensures { IsTrue result ↔ after.now ≡ later_mail by before.now }
 {
@@ -69,7 +69,6 @@ fn is_later(before: &Mail, by: u64, after: &Mail) -> bool
         && before.badge == after.badge
 }
 
-/// Whether a moment is so many ticks later.
 fn is_tick_later(before: Tick, by: u64, after: Tick) -> bool
     ensures { IsTrue result ↔ after ≡ before + by }
 {

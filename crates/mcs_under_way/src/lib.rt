@@ -1,4 +1,4 @@
-//! The signals under way between cores, as the rows of a schedule tell them.
+//! The signals under way between cores, read off the rows of a schedule.
 #![tactic(auto)]
 
 mod later;

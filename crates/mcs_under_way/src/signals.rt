@@ -14,7 +14,8 @@ use mcs_ticks::{Limits, NoMemory, Row, Tick};
 use std::alloc::Global;
 use std::marker::Model;
 
-/// The signals under way between the cores of a system, in order of making. Contracts see the list.
+/// The signals under way between the cores of a system, in the order in which they were made.
+/// Contracts see the list.
 #[derive(Debug, Drop)]
 pub struct UnderWay {
     mails: Vec<Mail>,
@@ -30,7 +31,7 @@ impl Model for UnderWay {
 }
 
 impl UnderWay {
-    /// No signal, as before the first row. It takes no memory.
+    /// Returns the list before the first row, without a signal. Allocates no memory.
     pub fn new(alloc: Global) -> Self
         ensures { result ≡ [] }
     {
@@ -39,16 +40,16 @@ impl UnderWay {
         }
     }
 
-    /// After one row more of a run of the system: a signal for a notification of another core is under way from then on. One that would arrive
-    /// at a moment above 2^42 is left out, which is none of a run up to the greatest horizon. `NoMemory` where a growth was refused, and then
-    /// nothing changed.
+    /// Adds a row of a run of the system. A signal for a notification of another core is under way
+    /// from then on. A signal that would arrive after 2^42 is left out; a run up to the maximum
+    /// horizon has none. Fails only if memory runs out; nothing changes then.
     pub fn see(&mut self, system: &System, row: &Row) -> Result<(), NoMemory>
         ensures joined { OnOk result (self.new ≡ self.old ++ filter can_arrive (told_mails system.now (row.now ∷ []))) }
         ensures unchanged { OnErr result (self.new ≡ self.old) }
         ensures told { OnOk result ((t : ℕ) (past : List TheRow) → self.old ≡ under_way system.now t past → t ≤ row.now.moment →
             row.now.moment ≤ 2 ^ 40 → self.new ≡ under_way system.now t (past ++ row.now ∷ [])) }
     {
-        // well formed, so that no signal of a run is under way for too long
+        // the system is well formed, so no signal of a run is under way for too long
         let _parts = system.parts();
         if let Some(mail) = mail_of(system, row) {
             self.mails.push(mail)?;
@@ -56,7 +57,8 @@ impl UnderWay {
         Ok(())
     }
 
-    /// Forgets the signals that arrive before the moment: a turn took them. The others stay in their order. It takes no memory.
+    /// Removes the signals that arrive before the moment, since a turn took them. The others keep
+    /// their order. Allocates no memory.
     pub fn forget_before(&mut self, t: Tick)
         ensures left { self.new ≡ filter (arrives_from t) self.old }
         ensures told { (system : TheSystem) (before : ℕ) (past : List TheRow) → before ≤ t → self.old ≡ under_way system before past →
@@ -67,15 +69,16 @@ impl UnderWay {
         self.mails.retain(|mail| mail.arrives >= t);
     }
 
-    /// The signals, in order of making.
+    /// The signals, in the order in which they were made.
     pub fn as_slice(&self) -> &[Mail]
         ensures { result.now ≡ self.now }
     {
         self.mails.as_slice()
     }
 
-    /// Whether the signals for a group of cores, which has a yes or a no for each core, are those that there were before, but later by so many
-    /// ticks: each in its place, with the same maker, notification and badge.
+    /// Whether the signals for a group of cores are the earlier ones, `by` ticks later: each at its
+    /// place, with the same maker, notification and badge. The group has a yes or a no for each
+    /// core.
     pub fn is_later(
         &self,
         system: &System,

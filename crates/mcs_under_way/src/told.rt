@@ -7,17 +7,17 @@ use mcs_mail::Mail;
 use mcs_system::System;
 use mcs_ticks::{CoreId, NoteId, Row, Tick, What};
 
-/// The core at which a notification is at home, which has a place in each list of all cores.
+/// The home core of a notification, always below 64.
 pub(crate) fn home_of(system: &System, note: NoteId) -> CoreId
     ensures home { result ≡ (note_part system.now note).core }
     ensures few { result < 64 }
 {
-    // well formed, so that there are at most 64 cores
+    // the system is well formed, so it has at most 64 cores
     let _parts = system.parts();
     system.home_of(note)
 }
 
-/// The signal that a row tells, where it is for another core and arrives at a moment that can be told.
+/// The signal that a row makes, if it is for another core and arrives at most at 2^42.
 pub(crate) fn mail_of(system: &System, row: &Row) -> Option<Mail>
     ensures { option_to_list result ≡ filter can_arrive (told_mails system.now (row.now ∷ [])) }
 {
@@ -30,7 +30,7 @@ pub(crate) fn mail_of(system: &System, row: &Row) -> Option<Mail>
     mail_to(system, row.core, row.moment, note, badge)
 }
 
-/// The mail that a signal of a core at a moment is, where it arrives at a moment that can be told.
+/// The signal of a core at a moment, if it arrives at most at 2^42.
 fn mail_to(system: &System, maker: CoreId, made: Tick, note: NoteId, badge: u32) -> Option<Mail>
     ensures { option_to_list result ≡ filter can_arrive (mail_to system.now maker made note badge ∷ []) }
 {

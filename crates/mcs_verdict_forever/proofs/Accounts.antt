@@ -1,4 +1,5 @@
--- A row that comes later makes of a later account what the row makes of the account, but later, and tells the same of it.
+-- A later row changes a later account as the row changes the account, and has the same finding,
+-- later.
 use Rattle.std.proofs.Common.{◌≡◌, ℕ, ◌+◌, ◌-◌, max, Bool, true, false, cond, ◌&&◌, refl, sym, ap, ◌∙◌, Option, Some, None, option_map, arith}
 use Rattle.std.specs.Prelude.{nat_lt}
 use Rattle.std.proofs.lemmas.Bool.Decides.{nat_tests}
@@ -59,7 +60,7 @@ module _ (shift : Shift) where
       by true = refl
       by false = refl
 
-  -- what is kept of a round that began then
+  -- the account of a round that began then
   active-later : (begun : Option ℕ) (m : ℕ) (s : Standing) (a : Account) →
       active_since (later_moment d begun) (m + d) s (later a) ≡ later_moment d (active_since begun m s a)
   active-later None m s a = refl
@@ -69,7 +70,7 @@ module _ (shift : Shift) where
   stood-later None m s a = refl
   stood-later (Some from) m s a = ap (λ n. counted s n a.stood) (past-later m from a.since d)
 
-  -- neither asks for the ticks from moment 0 on
+  -- neither depends on the ticks from time 0 on
   active-bare : (begun : Option ℕ) (m : ℕ) (s : Standing) (a : Account) → active_since begun m s (bare a) ≡ active_since begun m s a
   active-bare None m s a = refl
   active-bare (Some from) m s a = refl
@@ -78,7 +79,7 @@ module _ (shift : Shift) where
   stood-bare None m s a = refl
   stood-bare (Some from) m s a = refl
 
-  -- a row says the same of the standing
+  -- a later row gives the same standing
   after-later : (what : What) → standing_after (later_what shift what) ≡ standing_after what
   after-later (row.Stop x cause k until) = by cause until
     where
@@ -127,7 +128,7 @@ module _ (shift : Shift) where
   settled-later Blocked what = refl
   settled-later Done what = refl
 
-  -- a telling row, after which it stands so
+  -- a row that decides the standing, after which the thread stands so
   abbrev stood_so : Account → Option ℕ → Stood → Standing → ℕ → Account
   stood_so account active stood standing since =
       record account { active = active; stood = stood; standing = standing; since = since; total = no_ticks }
@@ -182,7 +183,7 @@ module _ (shift : Shift) where
       by None = refl
       by (Some from) = refl
 
-  -- a row more: what it makes does not depend on the ticks from moment 0 on
+  -- one row more: its effect does not depend on the ticks from time 0 on
   seen-bare : (set m : ℕ) (what : What) (a : Account) → bare (seen_own set m what (bare a)) ≡ bare (seen_own set m what a)
   seen-bare set m (row.Got x note word) a = bare-given m set word a
   seen-bare set m (row.Round x number response) a = refl
@@ -205,7 +206,7 @@ module _ (shift : Shift) where
   seen-bare set m (row.Order context) a = bare-told m (row.Order context) a
   seen-bare set m (row.Interrupt source at_note badge) a = bare-told m (row.Interrupt source at_note badge) a
 
-  -- when the word was set that a row says is taken, later
+  -- the time at which the word was set that a row takes, later
   abbrev pub later_set : What → ℕ → ℕ
   later_set (row.Got x note word) set = set + d
   later_set _ set = set
@@ -293,7 +294,7 @@ module _ (shift : Shift) where
       ∙ job-later m x number (bare a)
       ∙ ap (later_job shift) (job-bare m x number a)
 
-  -- the same round, later, missed its deadline or did not
+  -- the later round missed its deadline exactly if the round did
   pub missed-later : (deadline : ℕ) (job : Job) → missed deadline (later_job shift job) ≡ option_map (later_finding shift) (missed deadline job)
   missed-later deadline job = by (is_above deadline job.response)
     where
@@ -304,7 +305,7 @@ module _ (shift : Shift) where
       by true = refl
       by false = refl
 
-  -- what is overdue
+  -- an overdue round
   overdue_at-later : (h x deadline begun : ℕ) (stood : Stood) (activated : Option ℕ) →
       overdue_at (h + d) x deadline (begun + d) stood (later_moment d activated) ≡ option_map (later_finding shift) (overdue_at h x deadline begun stood activated)
   overdue_at-later h x deadline begun stood None = refl

@@ -1,4 +1,5 @@
--- What two horizons tell is told of each between them, and so of all from the first on.
+-- The findings at two horizons settle each horizon between them, and therefore all from the first
+-- on.
 use Rattle.std.proofs.Common.{◌≡◌, ℕ, suc, ◌+◌, ◌<◌, ◌≤◌, Bool, true, false, [], refl, arith}
 use Rattle.std.specs.Prelude.{nat_le}
 use Rattle.std.proofs.lemmas.Bool.Decides.{nat_tests}

@@ -1,4 +1,5 @@
--- Rows of a group of cores that come again: what is kept of the group's threads and words stays later, and what is found is found later.
+-- Rows of a group of cores that recur: the accounts of the group's threads and its words stay
+-- later, and each finding is found later.
 use Rattle.std.proofs.Common.{◌≡◌, ℕ, ◌+◌, ◌<◌, Bool, true, false, cond, List, [], ◌∷◌, ◌++◌, length, map, refl, sym, ap, subst, ◌∙◌, Option, Some, None, option_map, arith}
 use Rattle.std.specs.Prelude.{filter, ◌==◌, nat_lt, IfSome, option_to_list}
 use Rattle.std.specs.List.{AllByRecursion}
@@ -39,7 +40,7 @@ equal a b e = grind (arith, nat_tests)
 abbrev pub at : ℕ → ℕ → What → Row
 at t core what = record { moment = t; core = core; what = what }
 
--- the word of a notification that there is
+-- the word of a notification of the system
 less : (a b : ℕ) → a < b → nat_lt a b ≡ true
 less a b l = grind (arith, nat_tests)
 
@@ -48,7 +49,7 @@ held-known system n past l =
     let e = length-firsts 0 system.threads system.notes in
     ap (λ b. cond b (held_in system n past) no_word) (less n (length (firsts_of system)) (omega (arith, l, e)))
 
--- the bits of which its word must have one are kept
+-- the bits that call a thread are kept; the word must have one of them
 bits-same : (system : System) (n : ℕ) (past past' : List Row) → (held_in system n past').bits ≡ (held_in system n past).bits
 bits-same system n past past' = bits-kept (first_held system n) n past' ∙ sym (bits-kept (first_held system n) n past)
 
@@ -59,8 +60,8 @@ module _ (system : System) (group : ℕ → Bool) (shifts : Shifts) where
   abbrev home : ℕ → ℕ
   home x = core_of system (thread_part system x)
 
-  -- of each thread of the group that is later, and each word, the first rows leave what the others do, but later. `Later` has the threads that
-  -- are, and `Set` the words that were set later
+  -- the first rows leave each later thread of the group, and each word, as the other rows do, but
+  -- later. `Later` has the threads that are later, and `Set` the words that were set later
   pub record Alike (Later Set : ℕ → Type 0) (t : ℕ) (past past' : List Row) : Type 0 where
     pub threads : (x : ℕ) → x < length system.threads → group (home x) ≡ true → Later x →
         IsLaterAccount shifts.by (account_at system x past) (account_at system x past')
@@ -137,7 +138,7 @@ module _ (system : System) (group : ℕ → Bool) (shifts : Shifts) where
   up_to-turn c t [] past up = up
   up_to-turn c t (what ∷ whats) past up = up_to-turn c t whats (at t c what ∷ past) (omega arith, up)
 
-  -- nothing of it is found of the group
+  -- no finding of the group is in them
   abbrev of_group : Found → Bool
   of_group found = group found.core
 
@@ -163,7 +164,7 @@ module _ (system : System) (group : ℕ → Bool) (shifts : Shifts) where
           ap (λ b. cond b (record { moment = t; core = c; finding = found } ∷ filter of_group (found_in system (at t c what ∷ past) (stamped c t whats)))
           (filter of_group (found_in system (at t c what ∷ past) (stamped c t whats)))) own ∙ ap (λ others. record { moment = t; core = c; finding = found } ∷ others) i
 
-  -- the round of a thread that there is
+  -- the round of a thread of the system
   job-known : (x number t : ℕ) (past : List Row) → x < length system.threads → job_of system past t (row.Round x number 0) ≡ Some (job system past t x number)
   job-known x number t past l =
       let b : nat_lt x (length system.threads) ≡ true = grind (arith, nat_tests) in
@@ -265,7 +266,7 @@ module _ (system : System) (group : ℕ → Bool) (shifts : Shifts) where
       own-note : (n : ℕ) → (note_part system n).core ≡ c → group (note_part system n).core ≡ true
       own-note n e = ap group e ∙ own_core
 
-      -- when a word was set that is taken
+      -- the time at which a taken word was set
       set-later : (what : What) (past past' : List Row) → IsOfOwn system c what → Counts what → Like t past past' →
           later_set shift what (set_for (firsts_of system) past what) ≡ set_for (firsts_of system) past' (later_what shift what)
       set-later (row.Got x n word) past past' o k l =
@@ -283,7 +284,7 @@ module _ (system : System) (group : ℕ → Bool) (shifts : Shifts) where
       set-later (row.Order context) past past' o k l = refl
       set-later (row.Interrupt source at_note badge) past past' o k l = refl
 
-      -- what is kept of a thread
+      -- the account of a thread
       account-row : (what : What) (past past' : List Row) → IsOfOwn system c what → Counts what → Like t past past' →
           (x : ℕ) → x < length system.threads → group (home x) ≡ true → Later x →
           IsLaterAccount d (account_at system x (at t c what ∷ past)) (account_at system x (at (t + d) c (later_what shift what) ∷ past'))
@@ -393,7 +394,7 @@ module _ (system : System) (group : ℕ → Bool) (shifts : Shifts) where
       job-later (row.Order context) past past' o k l = refl
       job-later (row.Interrupt source at_note badge) past past' o k l = refl
 
-      -- what the row tells
+      -- the finding of the row
       finding-later : (what : What) (past past' : List Row) → IsOfOwn system c what → Counts what → Like t past past' →
           finding system past' (t + d) (later_what shift what) ≡ option_map (later_finding shift) (finding system past t what)
       finding-later (row.Round x number response) past past' o k l =

@@ -1,5 +1,6 @@
--- What each row from some moment on keeps is so before each moment from then on: a word that is not set stays so, and what is kept of a thread of
--- which no row tells. And a thread was ready or running for no fewer ticks later.
+-- A fact that each row keeps from some moment on holds before each moment from then on: a word that
+-- is not set, and the account of a thread without a row. And the ticks in which a thread was ready
+-- or running never decrease.
 use Rattle.std.proofs.Common.{◌≡◌, ℕ, zero, suc, ◌+◌, ◌-◌, ◌<◌, ◌≤◌, Bool, true, false, cond, ◌&&◌, List, [], ◌∷◌, length, refl, sym, ap, subst, ◌∙◌, Option, Some, None, arith}
 use Rattle.std.specs.Prelude.{flat_map, ◌==◌, nat_le}
 use Rattle.std.specs.List.{range_with_len, AllByRecursion}
@@ -81,7 +82,7 @@ settled-counted what Blocked n stood = omega arith
 settled-counted what Done n stood = omega arith
 settled-counted what Woken n stood = more-counted (woken_before (Some what)) n stood
 
--- by what is kept
+-- by the account
 abbrev pub active_at : ℕ → Account → ℕ
 active_at m account = active_ticks (total_at m account.standing account)
 
@@ -191,7 +192,7 @@ module _ (system : System) (group : ℕ → Bool) (shifts : Shifts) (from : ℕ)
   abbrev whats : ℕ → ℕ → List What
   whats t c = (turn_of system c t).rows
 
-  -- what each row keeps
+  -- a fact that each row keeps
   module _ (Fact : What → Type 0) (Q : List Row → Type 0) (keeps : (c t : ℕ) (what : What) (past : List Row) → Fact what → Q past → Q (at t c what ∷ past))
       (facts : (t c : ℕ) → from ≤ t → c < system.cores → AllByRecursion Fact (whats t c)) where
     carried-turn : (c t : ℕ) (whats : List What) (past : List Row) → AllByRecursion Fact whats → Q past → Q (past_of past (stamped c t whats))
@@ -216,7 +217,7 @@ module _ (system : System) (group : ℕ → Bool) (shifts : Shifts) (from : ℕ)
     carried : (t : ℕ) → from ≤ t → Q (past_before system from) → Q (past_before system t)
     carried t l q = let e : from + (t - from) ≡ t = omega (arith, l) in let P : ℕ → Type 0 = λ t. Q (past_before system t) in subst P e (carried-from (t - from) q)
 
-  -- a test that no row of the first period passes, and none of another core
+  -- a test that no row of the first period passes, and no row of another core
   module _ (test : What → Bool) (timeless : (c : ℕ) (what : What) → test what ≡ false → test (later_what (shift_of shifts c) what) ≡ false)
       (away : (c : ℕ) (what : What) → group c ≡ false → IsOfOwn system c what → test what ≡ false)
       (first : AllByRecursion (λ (row : Row). (nat_le from row.moment && test row.what) ≡ false) (schedule system (from + shifts.by))) where
@@ -285,7 +286,7 @@ module _ (system : System) (group : ℕ → Bool) (shifts : Shifts) (from : ℕ)
     pub not-set : (held_in system n (past_before system from)).word ≡ 0 → (t : ℕ) → from ≤ t → (held_in system n (past_before system t)).word ≡ 0
     not-set q t l = carried (λ what. holds_word n what ≡ false) (λ past. (held_in system n past).word ≡ 0) keeps-none (none-again (holds_word n) holds-later holds-away none) t l q
 
-  -- what is kept of a thread of which no row tells stays
+  -- the account of a thread without a row is kept
   module _ (x : ℕ) (mine : group (core_of system (thread_part system x)) ≡ true) (none : IsNotTold system x from (from + shifts.by)) where
     about-later : (c : ℕ) (what : What) → is_about x what ≡ false → is_about x (later_what (shift_of shifts c) what) ≡ false
     about-later c (row.Hold y word) e = e

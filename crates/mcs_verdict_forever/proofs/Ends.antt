@@ -1,4 +1,5 @@
--- What horizons tell: where the ends of all the group's threads recur, and nothing is found in the first period, nothing is found ever.
+-- Findings at horizons: if those of all the group's threads recur, and there is no finding in the
+-- first period, there is none for ever.
 use Rattle.std.proofs.Common.{◌≡◌, ℕ, zero, suc, ◌+◌, ◌-◌, ◌<◌, ◌≤◌, ◌⊎◌, inl, inr, Bool, true, false, cond, not, ◌&&◌, ◌||◌, List, [], ◌∷◌, ◌++◌, length, get_or, refl, sym, ap, subst, ◌∙◌, Option, Some, None, option_map, arith}
 use Rattle.std.specs.Prelude.{filter, nat_lt, ◌==◌, is_some}
 use Rattle.std.proofs.lemmas.Bool.Decides.{nat_tests}
@@ -95,7 +96,7 @@ module _ (system : System) (group : ℕ → Bool) (shifts : Shifts) (from : ℕ)
             ∙ (like h l).words note there.0 (ap group there.1 ∙ own)
             ∙ sym (ap (λ (held : Held). held.word) (held-known system note (past h) there.0))
 
-    -- what was activated once is
+    -- a round that was activated once stays so
     never-again : (h : ℕ) → from ≤ h → is_some (account (h + d)).called ≡ is_some (account h).called → never system (past h) h x ≡ None → never system (past (h + d)) (h + d) x ≡ None
     never-again h l e none =
         sym (never-kept system x (h + d) (past (h + d)) (up (h + d)))
@@ -175,7 +176,7 @@ module _ (system : System) (group : ℕ → Bool) (shifts : Shifts) (from : ℕ)
     end-again (inr (inl later)) h l none = later-again later.0 later.1 h l none
     end-again (inr (inr idle)) h l none = idle-again idle h l none
 
--- what is found of the group's threads at a horizon
+-- the findings of the group's threads at a horizon
 module _ (system : System) (group : ℕ → Bool) where
   abbrev of_group : Found → Bool
   of_group found = group found.core

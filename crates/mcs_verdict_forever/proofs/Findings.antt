@@ -1,4 +1,4 @@
--- What is found comes again, and where nothing is found in the first period nothing is found ever.
+-- Findings recur, and without a finding in the first period there is none for ever.
 use Rattle.std.proofs.Common.{◌≡◌, ℕ, zero, suc, ◌+◌, ◌-◌, ◌<◌, ◌≤◌, ◌⊎◌, inl, inr, Bool, true, false, cond, List, [], ◌∷◌, ◌++◌, length, map, refl, sym, ap, subst, ◌∙◌, Option, Some, None, option_map, arith}
 use Rattle.std.specs.Prelude.{filter, nat_lt, ◌==◌, All}
 use Rattle.std.specs.List.{AllByRecursion, slice_get}
@@ -205,7 +205,7 @@ yet-later d s bits held more e f = by s
     by Blocked = set
     by Woken = set
 
--- at word 0 none is
+-- at word 0 no round is
 pub yet-none : (s : Standing) (bits : Option ℕ) (held : Held) → held.word ≡ 0 → yet_to_begin s bits held ≡ None
 yet-none s bits held e = by s
   where

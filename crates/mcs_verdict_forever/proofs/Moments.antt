@@ -1,4 +1,5 @@
--- The watch of a group that recurs: before each moment from then on what is kept of its threads and words is what it was a period earlier, but later.
+-- The watch of a group that recurs: before each moment from then on the accounts of its threads and
+-- its words are those a period earlier, but later.
 use Rattle.std.proofs.Common.{◌≡◌, ℕ, zero, suc, ◌+◌, ◌-◌, ◌<◌, ◌≤◌, ◌⊎◌, inl, inr, Bool, true, false, ◌&&◌, List, [], ◌∷◌, ◌++◌, length, get_or, map, refl, sym, ap, subst, ◌∙◌, append_assoc, arith}
 use Rattle.std.specs.Prelude.{filter, flat_map, ◌==◌, nat_le, option_to_list}
 use Rattle.std.specs.List.{range_with_len, AllByRecursion}
@@ -65,7 +66,7 @@ module _ (system : System) (well : IsWellFormed system) where
   up_to zero = tt
   up_to (suc t) = up_to-later t (suc t) (past_before system (suc t)) (omega arith) (in_order system well t).1
 
-  -- what is kept of a thread and of a word
+  -- the account of a thread, and a word
   pub account-kept : (t x : ℕ) (d : Account) → x < length system.threads → get_or (accounts_of (firsts_of system) 0 system.threads (past_before system t)) x d ≡ account_at system x (past_before system t)
   account-kept t x d l = account_kept (firsts_of system) x system.threads (past_before system t) d l
 
@@ -198,7 +199,7 @@ module _ (system : System) (group : ℕ → Bool) (shifts : Shifts) (from : ℕ)
         past-append rows' (rows_of system a (t + d)) (flat_map (λ c. rows_of system c (t + d)) (range_with_len (a + 1) n)),
       ) (alike-cores n (a + 1) t (past_of rows (rows_of system a t)) (past_of rows' (rows_of system a (t + d))) l (omega (arith, few)) (alike-core a t rows rows' l (omega (arith, few)) h))
 
-  -- what is told of rows, by those before them
+  -- the findings of rows, by those before them
   module _ {A : Type 0} (tells : List Row → List Row → List A) (later : A → A) (nothing : (rows : List Row) → tells rows [] ≡ [])
       (append : (rows xs ys : List Row) → tells rows (xs ++ ys) ≡ tells rows xs ++ tells (past_of rows xs) ys)
       (turn : (c t : ℕ) (rows rows' : List Row) → from ≤ t → c < system.cores → Like t rows rows' → tells rows' (rows_of system c (t + shifts.by)) ≡ map later (tells rows (rows_of system c t))) where

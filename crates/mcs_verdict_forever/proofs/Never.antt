@@ -1,4 +1,4 @@
--- What is not found by the end of the first period never is, of a thread and of a notification.
+-- A thread or a notification without a finding by the end of the first period never has one.
 use Rattle.std.proofs.Common.{◌≡◌, ◌≢◌, ℕ, zero, suc, ◌+◌, ◌-◌, ◌<◌, ◌≤◌, Bool, true, false, cond, ◌||◌, List, [], ◌∷◌, ◌++◌, length, map, refl, sym, ap, subst, ◌∙◌, Option, Some, None, arith}
 use Rattle.std.specs.Prelude.{filter, nat_lt, nat_le, ◌==◌}
 use Rattle.std.specs.List.{AllByRecursion, list_any}
@@ -41,7 +41,7 @@ or-second : (a b : Bool) → (a || b) ≡ false → b ≡ false
 or-second false b e = e
 or-second true b e = absurd (contrary true e refl)
 
--- a test of what is found, of which all that passes it is found on a core of the group
+-- a test of findings that pass only on a core of the group
 module _ (system : System) (group : ℕ → Bool) (test : Finding → Bool) where
   abbrev any : List Found → Bool
   any found = list_any (λ (f : Found). test f.finding) found
@@ -85,7 +85,7 @@ module _ (system : System) (group : ℕ → Bool) (test : Finding → Bool) wher
       ∙ ap (λ b. any here || b) (any-mine (r ∷ past) rows own.1)
       ∙ sym (list_any-append p here rest)
 
--- a test that does not ask when
+-- a test that does not depend on the time
 module _ (system : System) (group : ℕ → Bool) (shifts : Shifts) (from : ℕ) (well : IsWellFormed system) (recur : FindingsRecur system group shifts from)
     (test : Finding → Bool) (timeless : (core : ℕ) (f : Finding) → test (later_finding (shift_of shifts core) f) ≡ test f) where
   abbrev at : ℕ → Bool
@@ -144,7 +144,7 @@ module _ (system : System) (group : ℕ → Bool) (shifts : Shifts) (from : ℕ)
           (ap (list_any (λ (f : Found). test f.finding)) (findings-repeat system group shifts from well recur (t - shifts.by) (omega (arith, m)))
           ∙ later-any (found_at_moment system group (t - shifts.by)) ∙ i (omega (arith, l, m, some)))
 
-  -- what passes it is found nowhere else
+  -- no finding elsewhere passes it
   module _ (own : (n : ℕ) → AllPass system group test [] (clock system n).rows) where
     none-ever : (last : ℕ) → from + shifts.by ≤ suc last
         → list_any (λ (f : Found). test f.finding) (found_in system [] (schedule system last)) ≡ false

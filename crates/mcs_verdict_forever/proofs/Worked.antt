@@ -1,5 +1,6 @@
--- Worked systems that recur in what is kept of their rows, with what is found in them. In the first one H has 2 ticks of 4, and L has what is left: its
--- rounds of 3 ticks end at 7, 12, 19 and 24, 12 ticks later at 31 and 36, and so on, each after 7 or 5 ticks.
+-- Worked systems that recur in their findings. In the first one H has 2 ticks of 4, and L has the
+-- rest. L's rounds of 3 ticks end at 7, 12, 19 and 24, 12 ticks later at 31 and 36, and so on, each
+-- after 7 or 5 ticks.
 use Rattle.std.proofs.Common.{◌≡◌, ℕ, zero, suc, ◌+◌, ◌<◌, ◌≤◌, ◌⊎◌, inl, inr, Bool, true, false, [], ◌∷◌, get_or, map, refl, sym, ap, subst, ◌∙◌, Some, None, arith}
 use Rattle.std.specs.Prelude.{◌==◌, filter, ◌||◌, not, nat_le}
 use Rattle.std.specs.List.{AllByRecursion}
@@ -36,7 +37,8 @@ use Rattle.mcs_verdict_forever.proofs.After.{nothing-is-found-after}
 abbrev parts : ℕ → ℕ → ℕ → Stood
 parts ready running throttled = record { pending = 0; ready = ready; running = running; throttled = throttled; blocked = 0; woken = 0; done = 0 }
 
--- what is kept of a thread whose round began then, and whose latest row came then, but for the ticks since moment 0
+-- the account of a thread whose round began then, and whose latest row came then, but for the ticks
+-- since time 0
 abbrev account : ℕ → Standing → ℕ → ℕ → ℕ → Stood → Account
 account deadline standing since began preemptions stood =
     record {
@@ -56,7 +58,8 @@ account deadline standing since began preemptions stood =
 abbrev kept : System → ℕ → ℕ → Account → Account
 kept system t x d = without_total (get_or (watch_before system t).accounts x d)
 
--- H has just been chosen, after it had waited 2 ticks for its budget; the head of L's was spent when its round began, and the next had come
+-- H has just been chosen, after it had waited 2 ticks for its budget; the head of L's refills was
+-- exhausted when its round began, and the next had come
 H-13 : (deadline : ℕ) (d : Account) → kept (worked deadline) 13 0 d ≡ account 4 Running 12 10 0 (parts 0 0 2)
 H-13 deadline d = refl
 
@@ -69,7 +72,7 @@ L-13 deadline d = refl
 L-25 : (deadline : ℕ) (d : Account) → kept (worked deadline) 25 1 d ≡ account deadline Ready 24 24 0 (parts 0 0 0)
 L-25 deadline d = refl
 
--- what is kept of them before 25 is what was kept before 13, but later
+-- their accounts before 25 are those before 13, but later
 later : (deadline x : ℕ) → x < 2 → ThreadIsLater (worked deadline) 12 13 x
 later deadline zero l d = H-25 deadline d ∙ ap (later_account 12) (sym (H-13 deadline d))
 later deadline (suc zero) l d = L-25 deadline d ∙ ap (later_account 12) (sym (L-13 deadline d))
@@ -84,7 +87,7 @@ findings-recur deadline =
       taken = λ n known own. absurd (omega (arith, known));
     }
 
--- with a deadline of 6 each other round of L misses it
+-- every other round of L misses a deadline of 6
 third : found_at_moment (worked 6) all 19 ≡ record { moment = 19; core = 0; finding = Miss 1 3 7 6 12 0 (parts 4 3 0) } ∷ []
 third = refl
 
@@ -94,11 +97,12 @@ fourth = refl
 fifth : found_at_moment (worked 6) all 31 ≡ record { moment = 31; core = 0; finding = Miss 1 5 7 6 24 0 (parts 4 3 0) } ∷ []
 fifth = refl
 
--- with one of 7 nothing is found before 25, and so nothing ever
+-- with a deadline of 7 there is no finding before 25, and therefore none for ever
 pub nothing : IsWellFormed (worked 7) → (horizon : ℕ) → found_up_to (worked 7) all horizon ≡ []
 nothing well horizon = nothing-is-found (worked 7) all shifts 13 well (findings-recur 7) refl horizon
 
--- from 13 on it is found of no horizon, either: neither H nor L is overdue at one of the first period
+-- there is no finding at any horizon from 13 on: neither H nor L is overdue at one of the first
+-- period
 at-each : AllIn (λ h. all_found (worked 7) all h ≡ []) 13 12
 at-each = (refl, (refl, (refl, (refl, (refl, (refl, (refl, (refl, (refl, (refl, (refl, (refl, tt))))))))))))
 
@@ -112,7 +116,7 @@ nothing-at-all well =
     nothing-is-ever-found (worked 7) all shifts 13 well (findings-recur 7) (λ x known own. inr (inl (ends x known)))
     (λ h l m. between (λ h. all_found (worked 7) all h ≡ []) 12 13 h at-each l (omega (arith, m)))
 
--- which two horizons tell, too: no script begins with a wait
+-- two horizons suffice, too: no script begins with a wait
 waits-none : (x note : ℕ) → x < 2 → first_wait (thread_part (worked 7) x) ≡ Some note → ⊥
 waits-none zero note l e = cc
 waits-none (suc zero) note l e = cc
@@ -123,7 +127,7 @@ nothing-after well =
     nothing-is-found-after (worked 7) all shifts 13 well (findings-recur 7) (λ x known own. inr (inl (ends x known))) 12 24 (omega arith) (omega arith)
     (λ x known own deadline. takes-alone (worked 7) well x (λ note e other place item. absurd (waits-none x note known e)) 12 24) refl refl
 
--- a thread that is done is idle: it is no more overdue than it was
+-- a thread that is done is idle: it is no more overdue than before
 idle : ThreadIsIdle ended 1 2 0
 idle = record { told = (refl, (refl, (refl, (refl, tt)))); begun = λ d. refl; waits = inl (λ d. refl) }
 
@@ -140,7 +144,7 @@ at-rest well = nothing-is-ever-found ended all at_rest 2 well done (λ x known o
           taken = λ n known own. absurd (omega (arith, known));
         }
 
--- the round of L that ends at 19 comes again at 31, with the same parts
+-- the round of L that ends at 19 recurs at 31, with the same parts
 third-job : jobs_at_moment (worked 7) all 19
     ≡ record { thread = 1; number = 3; activated = 12; begun = 12; ended = 19; response = 7; queued = 0; preemptions = 1; stood = parts 4 3 0 } ∷ []
 third-job = refl
@@ -158,7 +162,8 @@ never-above well =
     job-tests-are-forever (worked 7) all shifts 13 well (findings-recur 7) within (λ job h. h)
     (refl, (refl, (refl, (refl, (refl, (refl, (refl, (refl, (refl, (refl, tt))))))))))
 
--- S signals in each of its periods a notification on which nobody waits: each signal but the first is lost
+-- in each of its periods S signals a notification for which nobody waits: each signal but the first
+-- is lost
 abbrev pub signals : System
 signals =
     record {
@@ -180,8 +185,8 @@ signals =
 abbrev period : Shifts
 period = record { by = 4; contexts = λ c k. 4; threads = λ c x. 4; rounds = λ c x. 1 }
 
--- before 3 and before 7 S waits for its budget, and the word is 1; as nobody waits for it, it is no word that calls somebody, and so it is
--- told to be set by the latest signal
+-- before 3 and before 7 S waits for its budget, and the word is 1. Nobody waits for it, so the word
+-- calls nobody, and its time is that of the latest signal
 abbrev core_as : ℕ → ℕ → ℕ → Core
 core_as round since date =
     record {

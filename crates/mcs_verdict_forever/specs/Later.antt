@@ -1,4 +1,4 @@
--- What is found, and each round that ended, later: with each moment later by as many ticks.
+-- Findings and rounds that ended, later: each time is later by as many ticks.
 use Rattle.std.specs.Prelude.{◌+◌}
 use Rattle.mcs_verdict.specs.declared.finding.Finding.{Finding}
 use Rattle.mcs_verdict.specs.declared.finding.Finding.TheVariants.{Miss, Overdue, Lost, Never}
@@ -7,7 +7,7 @@ use Rattle.mcs_verdict.specs.declared.job.Job.{Job}
 use Rattle.mcs_forever.specs.Later.{Shift, more_rounds}
 use Rattle.mcs_forever.specs.Recurs.{Shifts, shift_of}
 
--- a round that ended: as many rounds before it more, and its response and its parts are the same
+-- a round that ended: its number is higher, and its response and its parts are the same
 abbrev pub later_job : Shift → Job → Job
 later_job shift job =
     record job {
@@ -17,7 +17,7 @@ later_job shift job =
       ended = job.ended + shift.by;
     }
 
--- a finding: the round that missed its deadline has so many rounds before it more
+-- a finding: the number of a round that missed its deadline is higher
 abbrev pub later_finding : Shift → Finding → Finding
 later_finding shift (Miss thread number response deadline activated queued stood) =
     Miss thread (more_rounds (shift.rounds thread) number) response deadline (activated + shift.by) queued stood

@@ -1,64 +1,73 @@
 ghost use Rattle.mcs_verdict_forever.specs.laws.Repeats.{FindingsRepeat, NothingIsFound, OverdueRepeats, NothingIsEverFound, NothingIsFoundAfter, JobsRepeat, JobTestsAreForever};
 ghost use Rattle.mcs_verdict_forever.specs.laws.Never.{NoDeadlineIsMissed, NoSignalIsLost, ThreadIsNeverFound};
 
-/// A law of schedules: where a group of cores recurs in what is kept of its rows, each missed deadline and each lost signal comes again a
-/// period later, without end, and no other comes.
+/// A law of schedules, for a group of cores that recurs in its findings. Each deadline miss and
+/// each lost signal recurs a period later, for ever, and no others are found.
 pub fn findings_repeat()
     ensures { FindingsRepeat }
 {}
 
-/// A law of schedules: where a group of cores recurs in what is kept of its rows, and before the end of the first period no round of its threads
-/// missed its deadline and no signal was lost, none is up to any horizon.
+/// A law of schedules, for a group of cores that recurs in its findings. If no round of it missed
+/// its deadline before the end of the first period, and no signal of it was lost, there is neither
+/// up to any horizon.
 pub fn nothing_is_found()
     ensures { NothingIsFound }
 {}
 
-/// A law of schedules: where a group of cores recurs in what is kept of its rows, a thread that is overdue at a horizon is so a period later,
-/// and no other is.
+/// A law of schedules, for a group of cores that recurs in its findings, and a thread of it whose
+/// account and first word recur. At a horizon from the first period on the thread is overdue
+/// exactly if it is overdue a period later.
 pub fn overdue_repeats()
     ensures { OverdueRepeats }
 {}
 
-/// A law of schedules: where a group of cores recurs in what is kept of its rows, and what horizons tell of its threads does so, too: where nothing
-/// at all is found of them at each horizon of the first period, nothing is found at any horizon from then on.
+/// A law of schedules, for a group of cores that recurs in its findings, if the findings of all its
+/// threads at horizons recur, too. If the group has no finding at each horizon of the first period,
+/// it has none at any horizon from then on.
 pub fn nothing_is_ever_found()
     ensures { NothingIsEverFound }
 {}
 
-/// A law of schedules: the same by two horizons alone, one that is not after the first period's first and one that is not before its last, where no
-/// other thread takes between them the word for which one of the group waits first. Then nothing is found at any horizon from the one of the two on.
+/// A law of schedules, as `nothing_is_ever_found`, but with two horizons. One is at most the first
+/// of the first period, the other at least its last. Between them no other thread may take the word
+/// for which a thread of the group with a deadline waits first. If the group has no finding at
+/// both, it has none at any horizon from the earlier one on.
 pub fn nothing_is_found_after()
     ensures { NothingIsFoundAfter }
 {}
 
-/// A law of schedules: where a group of cores recurs in what is kept of its rows, each round that ends comes again a period later, without end, with
-/// the same response and the same parts, and no other comes.
+/// A law of schedules, for a group of cores that recurs in its findings. Each round that ends
+/// recurs a period later, for ever, with the same response and the same parts, and no others end.
 pub fn jobs_repeat()
     ensures { JobsRepeat }
 {}
 
-/// A law of schedules: where a group of cores recurs in what is kept of its rows, a test of rounds that does not ask when, and that all rounds of the
-/// group pass before the end of the first period, is passed by all of them up to any horizon.
+/// A law of schedules, for a group of cores that recurs in its findings. Take a test of rounds that
+/// depends neither on the time nor on the number of earlier rounds. If all rounds of the group
+/// before the end of the first period pass it, all do up to any horizon.
 pub fn job_tests_are_forever()
     ensures { JobTestsAreForever }
 {}
 
-/// A law of schedules: where a group of cores recurs in what is kept of its rows, a thread of it of which no round missed its deadline before the end of
-/// the first period misses none up to any horizon.
+/// A law of schedules, for a group of cores that recurs in its findings. If no round of a thread of
+/// it missed its deadline before the end of the first period, none does up to any horizon.
 pub fn no_deadline_is_missed()
     ensures { NoDeadlineIsMissed }
 {}
 
-/// A law of schedules: where a group of cores recurs in what is kept of its rows, a notification of it that lost no signal before the end of the first
-/// period loses none up to any horizon.
+/// A law of schedules, for a group of cores that recurs in its findings. If a notification of it
+/// lost no signal before the end of the first period, it loses none up to any horizon.
 pub fn no_signal_is_lost()
     ensures { NoSignalIsLost }
 {}
 
-/// A law of schedules: where a group of cores recurs in what is kept of its rows, and what horizons tell of a thread of it does so, too: where nothing is
-/// found of the thread at a horizon not after the first one of the first period and at one not before its last, nothing is found of it at any horizon
-/// from the former on. So it is of each thread alone, whatever is found of others. No other thread may take meanwhile the word for which it waits
-/// first, if it has a deadline.
+/// A law of schedules, for a group of cores that recurs in its findings, and a thread of it whose
+/// finding at horizons recurs, too.
+///
+/// Take two horizons, one at most the first of the first period, the other at least its last. If
+/// the thread has no finding at both, it has none at any horizon from the earlier one on. If it has
+/// a deadline, no other thread may take the word for which it waits first between them. The
+/// findings of other threads do not matter.
 pub fn thread_is_never_found()
     ensures { ThreadIsNeverFound }
 {}

@@ -1,5 +1,5 @@
-//! Laws of what is found in schedules that repeat. Each is the contract of a function whose body is empty: the function may be called for what
-//! its contract says.
+//! Laws about the findings in schedules that recur. Each is the contract of a function with an
+//! empty body; a proof calls the function to use the law.
 #![tactic(auto)]
 
 mod laws;

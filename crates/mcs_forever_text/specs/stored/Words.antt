@@ -1,4 +1,4 @@
--- The words of a line, as the code has them.
+-- The words of a line, as the code keeps them.
 use Rattle.std.specs.Prelude.{List, ℕ, ◌++◌, codes, decimal}
 use Rattle.mcs_forever_text.specs.declared.word.Word.{Word}
 use Rattle.mcs_forever_text.specs.declared.word.Word.TheVariants.{Number, Plain, Named}

@@ -1,10 +1,10 @@
--- What an image shows of a budget.
+-- The budget of an image.
 use Rattle.mcs_control.specs.Context.{Budget}
 use Rattle.mcs_control.specs.Context.Budget.{Dates, Slice}
 use Rattle.mcs_image.specs.declared.budget.BudgetImage.{BudgetImage}
 use Rattle.mcs_image.specs.declared.budget.BudgetImage.TheVariants.{Sporadic, RoundRobin}
 
--- the dates of the refills, or what is left of the slice
+-- the dates of the refills, or the rest of the slice
 abbrev pub budget_of : BudgetImage → Budget
 budget_of (Sporadic dates) = Dates dates
 budget_of (RoundRobin left) = Slice left

@@ -1,4 +1,4 @@
--- The sets of cores that are told, each with the cores that are told with it.
+-- The closed sets, each with the cores that are reported with it.
 use Rattle.std.specs.Prelude.{ℕ, Bool, List, [], get_or, map}
 use Rattle.mcs_outlook.specs.Sets.{own_of, firsts}
 use Rattle.mcs_outlook.specs.declared.sets.Group.{Group}

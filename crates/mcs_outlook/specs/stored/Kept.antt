@@ -1,4 +1,4 @@
--- What `Outlook` keeps between its calls.
+-- The state that `Outlook` keeps between its calls.
 use Rattle.std.specs.Prelude.{◌≡◌, false, length}
 use Rattle.std.specs.Arc.{arc_value}
 use Rattle.mcs_forever.specs.Closed.{AreLeastClosed}
@@ -18,7 +18,7 @@ progress_of a =
       left = is_any_left a.told.items;
     }
 
--- the search is of the run
+-- the search is one of this system, up to this horizon
 pub record IsGoing (a : Inside) : Type 0 where
   pub look : IsLook (arc_value a.system) a.search
   pub horizon : a.search.horizon ≡ a.horizon

@@ -1,4 +1,4 @@
--- Sets of which nothing is told yet.
+-- Sets without a result.
 use Rattle.std.specs.Prelude.{Bool, true, false, List, Option, Some, None}
 use Rattle.std.specs.List.{list_any}
 use Rattle.mcs_outlook.specs.declared.told.Told.{Told}

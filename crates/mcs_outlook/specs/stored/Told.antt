@@ -1,4 +1,4 @@
--- A line that may be told.
+-- A list of at most one item.
 use Rattle.std.specs.Prelude.{List, [], ◌∷◌, Option, Some, None}
 
 abbrev pub if_some : {T : Type 0} → Option T → List T

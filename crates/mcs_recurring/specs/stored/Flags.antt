@@ -1,10 +1,10 @@
--- The numbers of what a row does something to.
+-- The flag that a row sets.
 use Rattle.std.specs.Prelude.{ℕ, Bool, true, false, List, length, replicate, set, Option, Some, None}
 use Rattle.mcs_ticks.specs.declared.row.What.{What}
 use Rattle.mcs_ticks.specs.declared.row.What.TheVariants as row
 use Rattle.mcs_recurring.specs.Doings.{Doings}
 
--- the thread of which a round ends
+-- the thread whose round ends
 abbrev pub ended_by : What → Option ℕ
 ended_by (row.Round thread number response) = Some thread
 ended_by _ = None
@@ -14,17 +14,17 @@ abbrev pub taken_by : What → Option ℕ
 taken_by (row.Got thread note word) = Some note
 taken_by _ = None
 
--- the one in whose word a signal is held
+-- the notification in whose word a signal is held
 abbrev pub held_by : What → Option ℕ
 held_by (row.Hold note word) = Some note
 held_by _ = None
 
--- a flag is set, if there is one of that number
+-- the flag of that number is set, if there is one
 abbrev pub marked : Option ℕ → List Bool → List Bool
 marked None flags = flags
 marked (Some x) flags = set flags x true
 
--- no flag is
+-- all flags are cleared
 abbrev pub unmarked : List Bool → List Bool
 unmarked flags = replicate (length flags) false
 

@@ -1,4 +1,5 @@
--- What `Search` keeps between its calls: all cores before one moment, and what they were before the kept one.
+-- The state that `Search` keeps between its calls: all cores before one moment and before the kept
+-- one.
 use Rattle.std.specs.Prelude.{◌≡◌, ℕ, ◌+◌, ◌≤◌, ◌^◌, false}
 use Rattle.std.specs.Arc.{arc_value}
 use Rattle.mcs_system.specs.System.{System}
@@ -21,13 +22,13 @@ compared_of a =
       failed = a.failed;
     }
 
--- the snapshot, the watch and what the rows came to are those of the clock before the kept moment
+-- the snapshot, the watch and the counts are those of the clock before the kept moment
 pub record IsKeptOf (system : System) (kept : Kept) : Type 0 where
   pub snapshot : IsOfClock system kept.snapshot
   pub watch : kept.watch ≡ watch_before system kept.snapshot.moment
   pub course : kept.course ≡ course_of system (past_before system kept.snapshot.moment)
 
--- the cores stand before the moment, and all rows before it were seen
+-- the cores are before this moment, and all rows before it were added
 pub record IsGoing (a : Inside) : Type 0 where
   pub lockstep : a.lockstep
       ≡ record { system = arc_value a.system; horizon = a.horizon; clock = a.clock; failed = false }

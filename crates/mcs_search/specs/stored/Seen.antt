@@ -1,4 +1,4 @@
--- What was seen of rows.
+-- The state that a search keeps of rows.
 use Rattle.std.specs.Prelude.{◌≡◌, ℕ, List, []}
 use Rattle.mcs_ticks.specs.declared.row.Row.{Row}
 use Rattle.mcs_ticks.specs.declared.row.What.{What}
@@ -13,8 +13,8 @@ use Rattle.mcs_course.specs.Course.{course_of}
 use Rattle.mcs_lockstep.specs.Together.{rows_before}
 use Rattle.mcs_search.specs.declared.seen.Seen.{Seen}
 
--- the watch, the signals under way before moment t and what the rows came to are those of these rows, and what rows of late tell is marked, as is
--- what they did
+-- the watch, the signals under way before time t and the counts are those of all rows; the marks
+-- and the doings are those of the recent rows
 pub record IsOfRows (system : System) (before : List Row) (since : List What) (t : ℕ) (seen : Seen) : Type 0 where
   pub watch : seen.watch ≡ watch_of system (past_of [] before)
   pub under_way : seen.under_way ≡ under_way system t before
@@ -22,6 +22,6 @@ pub record IsOfRows (system : System) (before : List Row) (since : List What) (t
   pub doings : seen.doings ≡ doings_of system since
   pub course : seen.course ≡ course_of system (past_of [] before)
 
--- of all rows before a moment, and what is marked of those since the kept one
+-- all rows before a moment were added, and those since the kept one are the recent ones
 abbrev pub HasSeen : System → ℕ → ℕ → Seen → Type 0
 HasSeen system kept clock seen = IsOfRows system (rows_before system clock) (told_between system kept clock) clock seen

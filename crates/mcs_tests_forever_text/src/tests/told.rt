@@ -42,7 +42,7 @@ const AS_OBJECTS: &str = r#"{"kind":"repeats","cores":"0 2","from":13,"period":1
 {"kind":"sets","sets":3,"repeating":2,"findings":0}
 "#;
 
-/// Cores 0 and 2, and one that the system does not have.
+/// Cores 0 and 2, and a core that the system does not have.
 fn cores() -> CoreSet {
     let mut cores = [false; Limits::CORES];
     cores[0] = true;

@@ -1,4 +1,5 @@
--- A thread of which nothing is found by the end of the first period is never found, and a notification that loses no signal by then never does.
+-- A thread without a finding by the end of the first period never has one, and a notification that
+-- loses no signal by then never loses one.
 use Rattle.std.specs.Prelude.{◌≡◌, ◌≢◌, ℕ, suc, ◌+◌, ◌<◌, ◌≤◌, Bool, true, false, ◌==◌, List, [], length, None}
 use Rattle.std.specs.List.{list_any}
 use Rattle.mcs_system.specs.System.{System, thread_part, note_part, core_of}
@@ -22,16 +23,18 @@ abbrev pub has_lost_of : ℕ → List Found → Bool
 has_lost_of note found = list_any (λ (f : Found). is_lost_of note f.finding) found
 
 module _ (system : System) (horizon : ℕ) where
-  -- what all rows up to the horizon tell
+  -- the findings in all rows up to the horizon
   abbrev pub told_up_to : List Found
   told_up_to = found_in system [] (schedule system horizon)
 
-  -- no round of the thread missed its deadline up to the horizon, and at it none is overdue, nor was none activated
+  -- no round of the thread missed its deadline up to the horizon, and at the horizon the thread is
+  -- neither overdue nor never activated
   pub record NothingIsFoundOf (thread : ℕ) : Type 0 where
     pub missed : has_miss_of thread told_up_to ≡ false
     pub unended : unended system (past_of [] (schedule system horizon)) horizon thread ≡ None
 
--- where no round of a thread of the group missed its deadline before the end of the first period, none does up to any horizon
+-- if no round of a thread of the group missed its deadline before the end of the first period, none
+-- does up to any horizon
 abbrev pub NoDeadlineIsMissed : Type 0
 NoDeadlineIsMissed =
     (system : System) (group : ℕ → Bool) (shifts : Shifts) (from : ℕ) → IsWellFormed system → FindingsRecur system group shifts from →
@@ -39,7 +42,8 @@ NoDeadlineIsMissed =
     (last : ℕ) → from + shifts.by ≤ suc last → has_miss_of thread (told_up_to system last) ≡ false →
     (horizon : ℕ) → has_miss_of thread (told_up_to system horizon) ≡ false
 
--- and so of signals that a notification of the group lost
+-- if a notification of the group lost no signal before the end of the first period, it loses none
+-- up to any horizon
 abbrev pub NoSignalIsLost : Type 0
 NoSignalIsLost =
     (system : System) (group : ℕ → Bool) (shifts : Shifts) (from : ℕ) → IsWellFormed system → FindingsRecur system group shifts from →
@@ -47,9 +51,10 @@ NoSignalIsLost =
     (last : ℕ) → from + shifts.by ≤ suc last → has_lost_of note (told_up_to system last) ≡ false →
     (horizon : ℕ) → has_lost_of note (told_up_to system horizon) ≡ false
 
--- where the end of a thread recurs, and nothing is found of it at two horizons, one that is not after the first period's first and one that is not
--- before its last, nothing is found of it at any horizon from the one of the two on; if it has a deadline, no other thread may take between them the
--- word for which it waits first
+-- the thread's finding at horizons recurs, and it has none at two horizons: one at most the first
+-- of the first period, the other at least its last. It then has none at any horizon from the
+-- earlier one on. If it has a deadline, no other thread may take the word for which it waits first
+-- between them
 abbrev pub ThreadIsNeverFound : Type 0
 ThreadIsNeverFound =
     (system : System) (group : ℕ → Bool) (shifts : Shifts) (from : ℕ) → IsWellFormed system → FindingsRecur system group shifts from →

@@ -1,4 +1,4 @@
--- Where a group of cores recurs in what is kept of its rows, what is found in them comes again, without end.
+-- If a group of cores recurs in its findings, each of them recurs, for ever.
 use Rattle.std.specs.Prelude.{◌≡◌, ◌≢◌, ℕ, suc, ◌+◌, ◌<◌, ◌≤◌, Bool, true, List, [], filter, map, flat_map, length, option_map}
 use Rattle.std.specs.List.{AllByRecursion}
 use Rattle.mcs_ticks.specs.declared.row.Row.{Row}
@@ -17,28 +17,31 @@ use Rattle.mcs_verdict_forever.specs.Later.{later_job, later_finding, later_foun
 use Rattle.mcs_verdict_forever.specs.Recurs.{past_before, ThreadIsLater, FirstWordRecurs, EndRecurs, FindingsRecur}
 
 module _ (system : System) where
-  -- the rows of moment t
+  -- the rows of time t
   abbrev pub rows_at : ℕ → List Row
   rows_at t = flat_map (λ c. rows_of system c t) (cores system)
 
   module _ (group : ℕ → Bool) where
-    -- what is found in the group's rows of moment t, by all rows before each: rounds that missed their deadline, and lost signals
+    -- the findings in the group's rows of time t, by all rows before each: missed deadlines and
+    -- lost signals
     abbrev pub found_at_moment : ℕ → List Found
     found_at_moment t = filter (λ (found : Found). group found.core) (found_in system (past_before system t) (rows_at t))
 
-    -- in its rows before moment t
+    -- the findings in its rows before time t
     abbrev pub found_before : ℕ → List Found
     found_before t = filter (λ (found : Found). group found.core) (found_in system [] (clock system t).rows)
 
-    -- and in its rows up to the horizon
+    -- the findings in its rows up to the horizon
     abbrev pub found_up_to : ℕ → List Found
     found_up_to horizon = filter (λ (found : Found). group found.core) (found_in system [] (schedule system horizon))
 
-    -- and all that is found of the group in a run to the horizon, what is overdue or was never activated among it
+    -- all findings of the group in a run to the horizon, also overdue rounds and threads that were
+    -- never activated
     abbrev pub all_found : ℕ → List Found
     all_found horizon = filter (λ (found : Found). group found.core) (findings system horizon (schedule system horizon))
 
-    -- the rounds of the group's threads that the rows of moment t end, that its rows before moment t do, and that those up to the horizon do
+    -- the rounds of the group's threads that end in the rows of time t, in those before time t, and
+    -- in those up to the horizon
     abbrev pub is_of_group : Job → Bool
     is_of_group job = group (core_of system (thread_part system job.thread))
 
@@ -51,19 +54,21 @@ module _ (system : System) where
     abbrev pub jobs_up_to : ℕ → List Job
     jobs_up_to horizon = filter is_of_group (jobs_in system [] (schedule system horizon))
 
--- from then on each finding comes again, a period later, and no other comes
+-- from then on each finding recurs, a period later, and no others are found
 abbrev pub FindingsRepeat : Type 0
 FindingsRepeat =
     (system : System) (group : ℕ → Bool) (shifts : Shifts) (from : ℕ) → IsWellFormed system → FindingsRecur system group shifts from →
     (t : ℕ) → from ≤ t → found_at_moment system group (t + shifts.by) ≡ map (later_found shifts) (found_at_moment system group t)
 
--- where nothing is found before the end of the first period, nothing is found up to any horizon: no round misses its deadline, and no signal is lost
+-- if there is no missed deadline and no lost signal before the end of the first period, there is
+-- none up to any horizon
 abbrev pub NothingIsFound : Type 0
 NothingIsFound =
     (system : System) (group : ℕ → Bool) (shifts : Shifts) (from : ℕ) → IsWellFormed system → FindingsRecur system group shifts from →
     found_before system group (from + shifts.by) ≡ [] → (horizon : ℕ) → found_up_to system group horizon ≡ []
 
--- a thread of the group that is later is overdue a period later where it is overdue
+-- a thread of the group whose account and first word are later: it is overdue exactly if it is
+-- overdue a period later
 abbrev pub OverdueRepeats : Type 0
 OverdueRepeats =
     (system : System) (group : ℕ → Bool) (shifts : Shifts) (from : ℕ) → IsWellFormed system → FindingsRecur system group shifts from →
@@ -74,8 +79,8 @@ OverdueRepeats =
     ≡ option_map (later_finding (shift_of shifts (core_of system (thread_part system thread))))
     (overdue system (past_of [] (schedule system horizon)) horizon thread)
 
--- where the ends of all the group's threads recur, and nothing at all is found of them at each horizon of the first period, nothing is found at
--- any horizon from then on
+-- the findings of all the group's threads at horizons recur, and the group has no finding at each
+-- horizon of the first period: it has none at any horizon from then on
 abbrev pub NothingIsEverFound : Type 0
 NothingIsEverFound =
     (system : System) (group : ℕ → Bool) (shifts : Shifts) (from : ℕ) → IsWellFormed system → FindingsRecur system group shifts from →
@@ -84,8 +89,10 @@ NothingIsEverFound =
     ((horizon : ℕ) → from ≤ horizon → horizon < from + shifts.by → all_found system group horizon ≡ []) →
     (horizon : ℕ) → from ≤ horizon → all_found system group horizon ≡ []
 
--- and where no other thread takes the word for which one of them waits first, this is told by two horizons alone: one that is not after the first
--- period's first, and one that is not before its last. So it is at each horizon from the one of the two on
+-- the same by two horizons, one at most the first of the first period, the other at least its last:
+-- if the group has no finding at both, it has none at any horizon from the earlier one on. Between
+-- them no other thread may take the word for which a thread of the group with a deadline waits
+-- first
 abbrev pub NothingIsFoundAfter : Type 0
 NothingIsFoundAfter =
     (system : System) (group : ℕ → Bool) (shifts : Shifts) (from : ℕ) → IsWellFormed system → FindingsRecur system group shifts from →
@@ -97,18 +104,20 @@ NothingIsFoundAfter =
     all_found system group earlier ≡ [] → all_found system group last ≡ [] →
     (horizon : ℕ) → earlier ≤ horizon → all_found system group horizon ≡ []
 
--- a round that ended, later as its thread's core is
+-- a round that ended, later by the shift of its thread's core
 abbrev pub later_job_of : System → Shifts → Job → Job
 later_job_of system shifts job = later_job (shift_of shifts (core_of system (thread_part system job.thread))) job
 
--- from then on each round that ends comes again, a period later, with the same response and the same parts, and no other does
+-- from then on each round that ends recurs, a period later, with the same response and the same
+-- parts, and no others end
 abbrev pub JobsRepeat : Type 0
 JobsRepeat =
     (system : System) (group : ℕ → Bool) (shifts : Shifts) (from : ℕ) → IsWellFormed system → FindingsRecur system group shifts from →
     (t : ℕ) → from ≤ t → jobs_at_moment system group (t + shifts.by) ≡ map (later_job_of system shifts) (jobs_at_moment system group t)
 
--- a test of rounds that does not ask when, nor how many there were before, and that all pass before the end of the first period: all pass it up to
--- any horizon. So the greatest response of each thread before then is the greatest ever
+-- a test of rounds that depends neither on the time nor on the number of earlier rounds: if all
+-- rounds pass it before the end of the first period, all do up to any horizon. The maximum response
+-- of each thread before then is therefore its maximum for ever
 abbrev pub JobTestsAreForever : Type 0
 JobTestsAreForever =
     (system : System) (group : ℕ → Bool) (shifts : Shifts) (from : ℕ) → IsWellFormed system → FindingsRecur system group shifts from →
