@@ -7,7 +7,7 @@ from __future__ import annotations
 # by file, from crates/ on, and name
 SAYS = {
     'mcs_control/specs/Context.antt': {
-        'budget_charged': 'a charge of k: the first k dates return a period later, or the slice loses k',
+        'budget_charged': 'a charge of k ticks, by kind',
         'budget_unblocked': 'unblocking at t moves dates; a slice does not change',
         'woken_by': 'a wake at t unblocks only in mode sporadic',
         'chosen_by': 'a choice at t unblocks only in mode bandwidth',
