@@ -1,4 +1,4 @@
-"""The script that writes the page of what must be believed, in a folder with two made-up crates: it has to see each way in which page and contracts differ."""
+"""The script that writes docs/BELIEVE.md, in a folder with two made-up crates: it has to see each way in which page and contracts differ."""
 import ast
 import contextlib
 import io
@@ -9,7 +9,10 @@ import unittest
 from unittest import mock
 
 from checks import common
-from checks.proofs import believe, believe_lines
+from checks.proofs import (
+    believe, believe_calls, believe_definitions, believe_lines, believe_names, believe_order, believe_types,
+)
+from checks.proofs.believe_calls import Clause, Root
 
 RULES = """-- Rules.
 use Rattle.std.specs.Prelude.{ℕ, ◌+◌}
@@ -62,8 +65,12 @@ pub trait Ask {
 }
 """
 PAGE = 'Before.\n<!-- part: begins -->\n<!-- part: ends -->\nAfter.\n'
-WORDS = {'std': {'ℕ': 'a number', '◌+◌': 'sum', '◌≡◌': 'equal'}}
-ROOTS = (believe.Root('part', (believe.Clause('mcs_high/src/lib.rt', 'double', 'value', ('IsAnswer',)),)),)
+WORDS = {'std.Prelude': {'ℕ': 'a number', '◌+◌': 'sum', '◌≡◌': 'equal'}}
+ROOTS = (Root('part', (Clause('mcs_high/src/lib.rt', 'double', 'value', ('IsAnswer',)),)),)
+CACHED = (
+    believe_definitions.definitions_of, believe_definitions.types_in, believe_names.handed_on_by,
+    believe_names.constructors_in, believe_order.floors,
+)
 
 
 class Lines(unittest.TestCase):
@@ -87,8 +94,12 @@ class Believe(unittest.TestCase):
         self.put('crates/mcs_low/src/kind.rt', KIND)
         self.put('crates/mcs_high/src/lib.rt', CALL)
         self.claim('twice n')
-        for name, value in {'TOP': self.top, 'CRATES': self.top / 'crates', 'PAGE': self.page, 'ROOTS': ROOTS, 'WORDS': WORDS, 'SAYS': {}}.items():
-            patched = mock.patch.object(believe, name, value)
+        for module, name, value in (
+            (believe, 'PAGE', self.page), (believe, 'ROOTS', ROOTS),
+            (believe_names, 'CRATES', self.top / 'crates'), (believe_order, 'TOP', self.top),
+            (believe_lines, 'WORDS', WORDS), (believe_lines, 'SAYS', {}), (believe_lines, 'PLAIN', {}),
+        ):
+            patched = mock.patch.object(module, name, value)
             patched.start()
             self.addCleanup(patched.stop)
 
@@ -101,7 +112,7 @@ class Believe(unittest.TestCase):
 
     def run_it(self, *words: str) -> str:
         """What the script says."""
-        for cached in (believe.definitions_of, believe.handed_on_by, believe.types_in, believe.constructors_in, believe.floors):
+        for cached in CACHED:
             getattr(cached, 'cache_clear')()
         said = io.StringIO()
         with mock.patch.object(sys, 'argv', ['believe.py', *words]), contextlib.redirect_stdout(said), contextlib.suppress(SystemExit):
@@ -123,7 +134,8 @@ class Believe(unittest.TestCase):
         self.assertTrue(page.startswith('Before.\n') and page.endswith('After.\n'))
         self.assertLess(page.index('-- twice a number\nabbrev pub twice'), page.index('abbrev pub IsAnswer'))
         self.assertNotIn('thrice', page)
-        self.assertIn('requires { n ≤ 9 }\nensures value { IsAnswer n result }', page)
+        call = 'pub fn double(n: u64) -> u64\n    requires { n ≤ 9 }\n    // about this call: result\n    ensures value { IsAnswer n result }'
+        self.assertIn(call, page)
         self.assert_passes()
 
     def test_what_is_cited_is_missed(self) -> None:
@@ -147,27 +159,27 @@ class Believe(unittest.TestCase):
         self.assert_fails('nothing says what twice of crates/mcs_low/specs/Rules.antt is')
 
     def test_a_line_of_the_table_stands_for_the_comment(self) -> None:
-        with mock.patch.object(believe, 'SAYS', {'mcs_low/specs/Rules.antt': {'twice': 'the double'}}):
+        with mock.patch.object(believe_lines, 'SAYS', {'mcs_low/specs/Rules.antt': {'twice': 'the double'}}):
             self.assert_passes('--write')
         self.assertIn('-- the double\nabbrev pub twice', self.page.read_text())
 
     def test_a_line_of_no_use_is_seen(self) -> None:
         self.run_it('--write')
-        with mock.patch.object(believe, 'SAYS', {'mcs_low/specs/Rules.antt': {'thrice': 'the triple'}}):
+        with mock.patch.object(believe_lines, 'SAYS', {'mcs_low/specs/Rules.antt': {'thrice': 'the triple'}}):
             self.assert_fails('lines for definitions that nothing cites: thrice of crates/mcs_low/specs/Rules.antt')
 
     def test_a_word_without_a_line_is_seen(self) -> None:
         self.run_it('--write')
-        with mock.patch.object(believe, 'WORDS', {'std': {'ℕ': 'a number', '◌≡◌': 'equal'}}):
-            self.assert_fails('WORDS of checks/proofs/believe_lines.py does not say what ◌+◌ of std is')
+        with mock.patch.object(believe_lines, 'WORDS', {'std.Prelude': {'ℕ': 'a number', '◌≡◌': 'equal'}}):
+            self.assert_fails('WORDS of checks/proofs/believe_lines.py does not say what ◌+◌ of std.Prelude is')
 
-    def test_two_crates_have_words_of_one_name(self) -> None:
+    def test_two_modules_have_words_of_one_name(self) -> None:
         self.put('crates/mcs_low/specs/Rules.antt', RULES.replace('use Rattle.std', 'use Rattle.toml.specs.Data.{member}\nuse Rattle.std').replace('twice n = n', 'twice n = member n'))
         self.put('crates/mcs_high/specs/Claim.antt', CLAIM.replace('BODY', 'member (twice n)').replace('use Rattle.std', 'use Rattle.serde_json.specs.Data.{member}\nuse Rattle.std'))
-        with mock.patch.object(believe, 'WORDS', {**WORDS, 'serde_json': {'member': 'of JSON'}, 'toml': {'member': 'of TOML'}}):
+        with mock.patch.object(believe_lines, 'WORDS', {**WORDS, 'serde_json.Data': {'member': 'of JSON'}, 'toml.Data': {'member': 'of TOML'}}):
             self.assert_passes('--write')
         rows = [line for line in self.page.read_text().splitlines() if 'member' in line and line.startswith('|')]
-        self.assertEqual(rows, ['| `member` of `serde_json` | of JSON |', '| `member` of `toml` | of TOML |'])
+        self.assertEqual(rows, ['| `member` of `serde_json.Data` | of JSON |', '| `member` of `toml.Data` | of TOML |'])
 
     def test_a_contract_that_cites_something_else_is_seen(self) -> None:
         self.run_it('--write')
@@ -194,9 +206,9 @@ class Believe(unittest.TestCase):
         self.claim('twice kind.Small')
         self.assert_passes('--write')
         page = self.page.read_text()
-        self.assertIn('pub enum Kind', page)
+        self.assertIn('| [`Kind`](../crates/mcs_low/src/kind.rt) | What is asked for. |\n| `Kind.Small` |', page)
         self.assertNotIn('derive', page)
-        self.assertIn('`kind.` is before a form of `Kind`', page)
+        self.assertIn('`kind.` precedes a variant of `Kind`', page)
 
     def test_a_field_of_a_record_is_not_cited(self) -> None:
         for body in ('(record { thrice = twice n }).thrice', 'record { first = n; thrice = twice n }'):
@@ -235,10 +247,11 @@ impl Model for Kind {
         self.put('crates/mcs_low/src/ask.rt', TRAIT)
         self.put('crates/mcs_high/src/lib.rt', CALL.replace('/// D', 'use mcs_low::Ask;\n\n/// D').replace('double(', 'double<A: Ask>('))
         self.claim('n')
-        with mock.patch.object(believe, 'WORDS', {'std': {'ℕ': 'a number', '◌≡◌': 'equal'}}):
+        with mock.patch.object(believe_lines, 'WORDS', {'std.Prelude': {'ℕ': 'a number', '◌≡◌': 'equal'}}):
             self.assert_passes('--write')
         page = self.page.read_text()
-        self.assertIn('pub trait Ask', page)
+        self.assertIn('| [`Ask`](../crates/mcs_low/src/ask.rt) | Asks for a number. |', page)
+        self.assertIn('`Ask: fn ask(&self, thrice: u64) -> u64 ensures { result ≡ twice self.now }`', page)
         self.assertNotIn('twice a number', page)
         self.assertNotIn('three times a number', page)
 
@@ -255,7 +268,7 @@ impl Model for Kind {
                 self.put('crates/mcs_low/src/kind.rt', 'use crate::other::Other;\n\n' + KIND.replace('Small,', forms))
                 self.claim('twice kind.Small')
                 self.assert_passes('--write')
-                self.assertIs('pub struct Other' in self.page.read_text(), is_there)
+                self.assertIs('| [`Other`]' in self.page.read_text(), is_there)
 
     def test_a_type_is_cited_if_its_file_brings_it_in(self) -> None:
         self.put('crates.txt', 'mcs_base: thiserror\nmcs_low: mcs_base\nmcs_high: mcs_low\n')
@@ -276,8 +289,8 @@ impl Model for Kind {
                 self.claim('twice kind.Small')
                 self.assert_passes('--write')
                 page = self.page.read_text()
-                self.assertIs('pub struct Other' in page, is_there)
-                self.assertIs('pub struct Near' in page, is_near)
+                self.assertIs('| [`Other`]' in page, is_there)
+                self.assertIs('| [`Near`]' in page, is_near)
 
     def test_a_bracket_at_the_edge_ends_a_definition(self) -> None:
         self.put('crates/mcs_high/specs/Claim.antt', CLAIM.replace('answer ≡ BODY', 'answer ≡ record {\n  first = twice n;\n} thrice n'))
@@ -285,6 +298,88 @@ impl Model for Kind {
         page = self.page.read_text()
         self.assertIn('  first = twice n;\n} thrice n\n```', page)
         self.assertIn('three times a number', page)
+
+    def test_a_plain_name_needs_no_line_and_has_none(self) -> None:
+        with mock.patch.object(believe_lines, 'PLAIN', {'mcs_low/specs/Rules.antt': ['twice']}):
+            self.assert_passes('--write')
+        self.assertIn('```\nabbrev pub twice', self.page.read_text())
+
+    def test_a_plain_name_of_no_use_is_seen(self) -> None:
+        self.run_it('--write')
+        with mock.patch.object(believe_lines, 'PLAIN', {'mcs_low/specs/Rules.antt': ['thrice']}):
+            self.assert_fails('lines for definitions that nothing cites: thrice of crates/mcs_low/specs/Rules.antt')
+
+    def test_an_invariant_may_be_left_to_the_next_part(self) -> None:
+        self.put('crates/mcs_low/src/kind.rt', """ghost use Rattle.mcs_low.specs.Rules.{thrice};
+
+/// What is asked for.
+pub struct Kind {
+    number: u64,
+}
+
+impl Model for Kind {
+    ghost view = { λ a. a.number };
+    ghost invariant = { λ a. thrice a.number };
+}
+""")
+        self.claim('twice kind.Small')
+        self.page.write_text(PAGE + PAGE.replace('part:', 'next:'))
+        clauses = ROOTS[0].clauses
+        with mock.patch.object(believe, 'ROOTS', (Root('part', clauses, has_invariants=False), Root('next', clauses))):
+            self.assert_passes('--write')
+        first, _, second = self.page.read_text().partition('<!-- part: ends -->')
+        self.assertIn('Each value meets `thrice a.number`.', first)
+        self.assertNotIn('three times a number', first)
+        self.assertIn('three times a number', second)
+        self.assertNotIn('twice a number', second)
+
+
+class Clauses(unittest.TestCase):
+    def test_what_a_clause_speaks_of(self) -> None:
+        for part, wanted in (
+            ('ensures rows { IfOk result (λ whole. whole.rows ≡ schedule horizon) }', ['whole.rows']),
+            ('ensures given { OnOk result (Given S.takes sink.old (schedule horizon) sink.new) }', ['sink.new']),
+            ('ensures fault { IfErr result (IsFlowFault sink.old sink.new) }', ['sink.new', 'the fault']),
+            ('ensures law { OnOk result (Headline horizon (schedule horizon)) }', []),
+            ('ensures law { (system : System) → IsWellFormed system → Holds system }', []),
+            ('ensures { result ≡ n }', ['result']),
+        ):
+            with self.subTest(part):
+                self.assertEqual(believe_calls.values_in(part), wanted)
+
+    def test_the_head_of_a_call_breaks_between_parameters(self) -> None:
+        head = '<R: Threads + Wait + Sync, G: Gate + Sync>(\n    rt: &R,\n    system: Arc<System>,\n    some_longer_name: usize,\n    gate: &mut G,\n) -> Result<(), Fault>\n'
+        self.assertEqual(believe_calls.head_text('run', head).splitlines(), [
+            'pub fn run<R: Threads + Wait + Sync, G: Gate + Sync>(rt: &R, system: Arc<System>,',
+            '    some_longer_name: usize, gate: &mut G) -> Result<(), Fault>',
+        ])
+
+
+class Types(unittest.TestCase):
+    def rows(self, *lines: str) -> list[str]:
+        place = believe_names.Place('mcs_low/src/kind.rt', 'Kind')
+        return [*believe_types.rows_of(believe_definitions.Definition(place, (), lines, (), frozenset(), frozenset()), 'A kind.')]
+
+    def test_fields_stand_in_the_row_of_their_type(self) -> None:
+        row = self.rows('pub struct Kind {', '    /// The first of', '    /// two.', '    pub one: u64,', '    pub two: Vec<A | B>,', '}')
+        self.assertEqual(row, ['| [`Kind`](../crates/mcs_low/src/kind.rt) `{ one: u64, two: Vec<A \\| B> }` | A kind. `one`: the first of two. |'])
+
+    def test_each_variant_has_a_row(self) -> None:
+        rows = self.rows('pub enum Kind {', '    /// None of them.', '    Nothing,', '    Some(u64, u8),', '    Named {', '        /// its name', '        name: Name,', '    },', '}')
+        self.assertEqual(rows[1:], [
+            '| `Kind.Nothing` | None of them. |', '| `Kind.Some(u64, u8)` |  |', '| `Kind.Named { name: Name }` | its name. |',
+        ])
+
+    def test_a_view_is_a_sentence(self) -> None:
+        rows = self.rows('pub struct Kind(u64);', 'impl Model for Kind {', '    ghost Value = { ℕ };', '    ghost view = { λ a. a.0 };', '    ghost invariant = {', '        λ a. a.0 ≤ 9 };', '}')
+        self.assertEqual(rows, ['| [`Kind`](../crates/mcs_low/src/kind.rt) `(u64)` | A kind. Contracts see `ℕ`: `a.0`. Each value meets `a.0 ≤ 9`. |'])
+
+    def test_a_trait_has_rows_for_what_it_promises(self) -> None:
+        rows = self.rows('pub trait Kind {', '    ghost takes: { Self → Type 0 };', '    /// Says nothing.', '    fn quiet(&self);', '    /// Takes one.', '    fn one(&self) -> u64', '        ensures { result ≡ 1 };', '}')
+        self.assertEqual(rows[1:], [
+            '| `Kind: takes: { Self → Type 0 }` | A value for contracts: each type with this trait defines it. |',
+            '| `Kind: fn one(&self) -> u64 ensures { result ≡ 1 }` | Takes one. |',
+        ])
 
 
 if __name__ == '__main__':
