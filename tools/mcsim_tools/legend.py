@@ -44,6 +44,10 @@ def line(x: int, y: int) -> str:
     return f'<path class="join" d="M{x + 2} {y + 1}C{x + 2} {y - 8} {x + 16} {y - 1} {x + 16} {y - 11}"/>'
 
 
+def way(begin: int, end: int, more: str = '') -> Draw:
+    return lambda x, y: f'<path class="way{more}" d="M{x + begin} {y - 4}H{x + end}"/>'
+
+
 def hatched(x: int, y: int) -> str:
     return f'<rect style="fill:url(#hatch0)" x="{x}" y="{y - 8}" width="18" height="8"/>'
 
@@ -64,6 +68,7 @@ def items(drawn: Mapping[str, int], column_width: Optional[int]) -> list[Item]:
         (drawn.get('late') and is_single, Item('deadline missed, or overdue', both(box('late', 4), at_end('endlate', 'bad')))),
         (drawn.get('late') and not is_single, Item('below a lane: rounds missed; above it: signals lost', box('late', 4))),
         (drawn.get('join'), Item('signal, joined to where it takes effect', both(line, dot))),
+        (drawn.get('way'), Item("a chain's way, where it is pointed at; thin while it is pending", both(way(0, 10), way(11, 18, ' waits')))),
         (drawn.get('made') and not drawn.get('join'), Item('signal made', dot)),
         (drawn.get('interrupt'), Item('interrupt', sign('irq', 'ink', BAR))),
         (drawn.get('hold'), Item('pending: no thread waits yet', sign('hold', 'soft', BAR + 2))),
@@ -88,7 +93,7 @@ def of_page(packed: Packed, has_others: bool) -> dict[str, int]:
         'call': any(packed.queued.values()), 'up': rounds, 'down': has_deadlines, 'left out': True, 'resp': rounds, 'queued': outcomes.count(OUTCOMES.index(HELD)),
         'late': is_late, 'join': any(packed.posts[2::9]), 'interrupt': any(packed.posts[7::9]), 'hold': any(outcome in HELD_BACK and note not in locks for outcome, note in zip(outcomes, packed.posts[4::9])),
         'free': any(outcome in HELD_BACK and note in locks for outcome, note in zip(outcomes, packed.posts[4::9])),
-        'lost': outcomes.count(OUTCOMES.index(LOST)), 'order': len(packed.orders), 'plot': any(packed.held), 'inside': any(packed.served.values()),
+        'lost': outcomes.count(OUTCOMES.index(LOST)), 'order': len(packed.orders), 'plot': any(packed.held), 'way': any(packed.ways), 'inside': any(packed.served.values()),
     }
 
 

@@ -12,6 +12,7 @@ import zlib
 from collections.abc import Collection, Iterable
 from typing import Optional
 
+from .chains import Answer
 from .locks import locks_of
 from .reading import BLOCKED, HELD, LOST, MERGED, READY, RUNNING, THROTTLED, WOKE, Holding, Post, Reading, Round, Stood, UnderWay
 from .scene import LOSSES, MISSED, ROUNDS, Columns
@@ -20,8 +21,8 @@ from .tally import Finding, Tally
 
 # things that a page holds at most, which take some 4 bytes each, so that it has less than 10 MB; and states of budgets
 MOST, MOST_HELD = 1_600_000, 40_000
-# findings that a page lists
-LISTED = 20_000
+# findings that a page lists, and answers of chains that came too late
+LISTED, LISTED_SLOW = 20_000, 2_000
 ORDERS = 2000
 WHYS = ('', 'spent', 'yield', 'wait', 'call', 'done', 'preempt', 'order', 'wake')
 OUTCOMES = (WOKE, HELD, MERGED, LOST)
@@ -31,6 +32,8 @@ COUNTED = {'Run': RUNNING, 'Ready': READY, 'Throttled': THROTTLED, 'Blocked': BL
 
 class Packed(Tally):
     """Listens to a whole schedule: counts all of it, and keeps what a page shows of a window."""
+
+    hears_chains = True
 
     def __init__(self, system: System, begin: int, end: Optional[int], most: int = MOST, budgets: Collection[str] = ()) -> None:
         super().__init__(system)
@@ -47,6 +50,12 @@ class Packed(Tally):
         self.served: dict[str, list[int]] = {name: [] for name in self.servers}
         self.queued: dict[str, list[int]] = {name: [] for name in self.servers}
         self.open_rounds: list[Round] = []
+        self.chains = list(system.chains.values())
+        self.chain_place = places(system.chains)
+        # of each chain its answers in order, with how many pieces each has, and the pieces
+        self.ways: list[list[int]] = [[] for _ in self.chains]
+        self.legs: list[list[int]] = [[] for _ in self.chains]
+        self.slow: list[Answer] = []
         self.sent: list[tuple[str, UnderWay]] = []
         self.orders: list[tuple[Context, int]] = []
         self.count = self.held_count = 0
@@ -125,6 +134,18 @@ class Packed(Tally):
         if signal.maker and self.is_seen(signal.made, signal.made):
             self.sent.append((note, signal))
 
+    def answered(self, answer: Answer) -> None:
+        if answer.is_first and answer.is_slow and len(self.slow) < LISTED_SLOW:
+            self.slow.append(answer)
+        if self.columns or not self.is_seen(answer.origin, answer.moment):
+            return
+        place = self.chain_place[answer.chain.name]
+        self.ways[place] += (answer.moment, answer.latency, len(answer.way))
+        for hop in answer.way:
+            made, arrived = hop.brought.made, hop.brought.arrived
+            self.legs[place] += (made - answer.origin, arrived - made, hop.taken - arrived, self.place[hop.thread.name], self.note_place[hop.note])
+        self.count += 1 + len(answer.way)
+
     def ordered(self, context: Context, moment: int) -> None:
         if self.is_seen(moment, moment) and len(self.orders) < ORDERS:
             self.orders.append((context, moment))
@@ -198,6 +219,10 @@ class Packed(Tally):
         for what, of_servers in (('served', self.served), ('queued', self.queued)):
             yield f'{what}Count', [len(own) // 3 for own in of_servers.values()]
             yield from columns_of(what, ('Begin', 'End', 'Thread'), flat(of_servers.values()))
+        yield 'wayCount', [len(own) // 3 for own in self.ways]
+        yield 'wayEnd', flat(steps(own[::3]) for own in self.ways)
+        yield from zip(('wayLatency', 'wayLegs'), (flat(own[place::3] for own in self.ways) for place in (1, 2)))
+        yield from columns_of('leg', ('Made', 'Arrived', 'Taken', 'Thread', 'Note'), flat(self.legs))
         if self.columns:
             cells = self.columns.cells
             for what, counts in COUNTED.items():

@@ -183,6 +183,7 @@ class Schedule {
   }
   countLost(thread, a, b) { return countIn(this.posts.lost[thread], a, b); }
   missedOn(core, a, b) { return this.onCore[core].reduce((sum, thread) => sum + this.countOf(thread, "Missed", a, b), 0); }
+  get ways() { return this.allWays ??= new Ways(this); }
   get posts() { return this.allPosts ??= new Posts(this); }
   get held() { return this.allHeld ??= new Held(this); }
   server(what, place) { return (this[what + "Of"] ??= this.servers.map((_, k) => new Stays(this, what, k)))[place]; }

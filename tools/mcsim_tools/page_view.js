@@ -18,6 +18,9 @@ class View {
     this.lanes = new Lanes(schedule, chosen);
     this.drawer = new Drawer(schedule, this.lanes);
     this.words = new Words(schedule, this.unit, this);
+    this.wayWords = new WayWords(schedule, this.unit);
+    // the ways that are pointed at, and the one that was chosen from a list
+    this.pointedWays = []; this.chosenWay = null;
     this.lo = schedule.a; this.hi = Math.max(schedule.b, schedule.a + 1);
     this.cursor = null; this.light = -1; this.isPrinting = false; this.frames = 0;
     this.arrange();
@@ -41,7 +44,7 @@ class View {
     Object.assign(this, this.lanes.layout());
     const clip = `<clipPath id="clip"><rect x="${this.left - 6}" y="-50" width="${this.wide + 12}" height="${this.rows.bottom + 500}"/></clipPath>`;
     const pinned = `<g transform="translate(0 ${AXIS})"><g id="pinned" clip-path="url(#clip)"></g>${this.heads(this.pins)}</g>`;
-    const plot = '<g id="grid"></g><g clip-path="url(#clip)"><g id="plot"></g><g id="joins"></g><g id="cursor"></g></g>';
+    const plot = '<g id="grid"></g><g clip-path="url(#clip)"><g id="plot"></g><g id="joins"></g><g id="ways"></g><g id="cursor"></g></g>';
     this.fill($("top"), AXIS + (this.pins.list.length ? this.pins.bottom : 0), `<defs>${clip}</defs><g id="axis"></g>${pinned}`);
     this.fill($("main"), this.rows.bottom + 4, `${plot}${this.heads(this.rows)}<g id="margin">${this.margin()}</g>`);
     this.show();
@@ -109,6 +112,7 @@ class View {
     $("joins").innerHTML = this.joins();
     $("pinned").innerHTML = this.drawer.draw(this.pins.list, this);
     this.showAxis();
+    this.showWays();
     this.showCursor();
     this.showLight();
     $("margin").style.display = this.hi >= b - 1e-6 ? "" : "none";
@@ -124,6 +128,16 @@ class View {
     const lines = this.drawer.joins(base);
     this.hidesSignals = lines === null;
     return lines ?? "";
+  }
+  // the ways that are pointed at, or else the one that was chosen
+  showWays() {
+    const ways = this.pointedWays.length ? this.pointedWays : this.chosenWay ? [this.chosenWay] : [], line = new WayLine(this);
+    $("ways").innerHTML = ways.map(way => line.draw(way)).join("");
+  }
+  point(ways) {
+    if (!ways.length && !this.pointedWays.length) return;
+    this.pointedWays = ways;
+    this.showWays();
   }
   step(span) {
     for (let power = 1; ; power *= 10) for (const step of [power, 2 * power, 5 * power]) if (this.wide * step >= APART * span) return step;

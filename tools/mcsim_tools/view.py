@@ -20,7 +20,7 @@ from .changes import Verdict, verdict_of
 from .drawing import Frame, Picture
 from .faults import Fault
 from .packing import Packed
-from .page import page
+from .page import chains_of, page
 from .printable import printable
 from .reading import Reading, read
 from .scale import Clock, Unit
@@ -138,7 +138,7 @@ def draw_page(told: Told, words: argparse.Namespace, window: Window, live: Optio
     ticks = '' if words.tick_us is None else f' --tick-us {words.tick_us}'
     heading = {
         'name': name, 'under': under, 'title': f'{name}: {under}', 'end': reading.end, 'plotted': sorted(packed.place[name] for name in plotted),
-        'chosen': sorted(packed.place[name] for name in choice.threads),
+        'chosen': sorted(packed.place[name] for name in choice.threads), 'chains': chains_of(packed, reading.chains, reading.end),
         'command': f'tools/view {printable(shlex.quote(str(words.system)))} --horizon {reading.end}{ticks}',
     }
     return Page(page(packed, unit, heading, Theme(words.theme), live), verdict_of(packed, unit))
