@@ -68,7 +68,7 @@ function point(v) {
   const hit = under.find(element => element && $("draw").contains(element));
   const tip = $("tip");
   tip.style.display = hit ? "block" : "none";
-  const t = view.at(place(v)), ways = hit ? view.schedule.ways.at(hit.dataset.i, t) : [];
+  const t = view.at(place(v)), ways = hit ? view.source.ways.at(hit.dataset.i, t) : [];
   view.point(ways);
   if (!hit) return;
   tip.textContent = [view.words.of(hit.dataset.i, t), ...ways.map(way => view.wayWords.of(way))].join("\n");

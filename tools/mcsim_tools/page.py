@@ -65,11 +65,27 @@ def data(packed: Packed, unit: Unit, heading: Mapping[str, Any]) -> dict[str, An
         'slow': [[packed.chain_place[one.chain.name], one.origin, one.moment] for one in packed.slow], 'locks': packed.locks(),
         'findings': [[one.kind, one.core, one.begin, one.end, one.name, place[one.thread.name] if one.thread else -1, one.said(unit)] for one in packed.findings],
         'more': packed.left_out, 'summary': packed.summary(),
+        **moving(packed), 'things': packed.count,
+        'columns': None if packed.columns is None else [packed.columns.begin, packed.columns.width, packed.columns.many],
+    }
+
+
+def data_of_part(packed: Packed) -> dict[str, Any]:
+    """What a page asks for beyond its detail: single things of a window, with threads and notifications numbered as on the page."""
+    packed.columns = None
+    arrays, parts = packed.text()
+    found = {'a': packed.begin, 'b': packed.end, 'detail': packed.detail, 'columns': None, **moving(packed), 'arrays': parts}
+    return {'data': found, 'arrays': arrays}
+
+
+def moving(packed: Packed) -> dict[str, Any]:
+    """What is open at the end of a window, and its orders."""
+    place = packed.place
+    return {
         'open': [[place[one.thread.name], one.activated, one.begun, one.end] for one in packed.open_rounds],
         'sent': [[note, place[signal.maker.name], signal.made] for note, signal in packed.sent if signal.maker],
         'orders': [[place[packed.system.thread_of[context.name].name], moment, context.name] for context, moment in packed.orders
                    if context.name in packed.system.thread_of],
-        'columns': None if packed.columns is None else [packed.columns.begin, packed.columns.width, packed.columns.many],
     }
 
 

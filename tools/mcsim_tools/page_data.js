@@ -125,6 +125,7 @@ const COLUMN_OF = { [RUNNING]: "Run", [READY]: "Ready", [THROTTLED]: "Throttled"
 class Schedule {
   constructor(data, bytes) {
     Object.assign(this, data);
+    this.data = data;
     this.bytes = bytes;
     this.places = new Map();
     let at = 0;

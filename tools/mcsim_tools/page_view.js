@@ -11,6 +11,9 @@ const NARROWEST = 120, SPARE = 40;
 
 const DEFAULTS = { overdue: "overdue", "never activated": "never" };
 
+// called after each drawing, on a page that has a server
+let onShow = null;
+
 class View {
   constructor(schedule, chosen) {
     this.schedule = schedule;
@@ -21,6 +24,8 @@ class View {
     this.wayWords = new WayWords(schedule, this.unit);
     // the ways that are pointed at, and the one that was chosen from a list
     this.pointedWays = []; this.chosenWay = null;
+    // parts of the run beyond the detail of the page, the last one first, and which of them or the page has what is in view
+    this.parts = []; this.source = schedule;
     this.lo = schedule.a; this.hi = Math.max(schedule.b, schedule.a + 1);
     this.cursor = null; this.light = -1; this.isPrinting = false; this.frames = 0;
     this.arrange();
@@ -105,6 +110,8 @@ class View {
     const began = performance.now(), { a, b } = this.schedule, span = clamp(this.hi - this.lo, this.least, this.span);
     this.lo = clamp(this.lo, a, Math.max(a, a + this.span - span));
     this.hi = this.lo + span;
+    this.source = this.sourceNow();
+    this.drawer.schedule = this.words.schedule = this.wayWords.schedule = this.source;
     const { scrollTop, clientHeight } = $("scroll");
     const seen = this.isPrinting ? this.rows.list : this.rows.seen(scrollTop - SPARE, scrollTop + clientHeight + SPARE);
     $("plot").innerHTML = this.drawer.draw(seen, this, this.isPrinting ? Infinity : undefined);
@@ -118,8 +125,14 @@ class View {
     $("margin").style.display = this.hi >= b - 1e-6 ? "" : "none";
     this.tellWhere();
     overview?.showWindow();
+    onShow?.(this);
     this.frames++;
     this.took = performance.now() - began;
+  }
+  // what has single things of the window that is in view
+  sourceNow() {
+    if (this.hi <= this.schedule.single) return this.schedule;
+    return this.parts.find(part => part.a <= this.lo && this.hi <= part.single) ?? this.schedule;
   }
   joins() {
     if (!$("sig").checked || this.columnLanes > this.rows.list.length / 2) return "";
@@ -171,7 +184,7 @@ class View {
     const hi = Math.min(b, Math.ceil(this.hi));
     const hint = this.hidesSignals && $("sig").checked ? " (zoom in for signals)" : "";
     $("where").textContent = `${this.unit.text(Math.round(this.lo))} to ${this.unit.text(Math.round(this.hi))}${hint}`;
-    $("blunt").hidden = detail === null || this.hi <= detail;
+    $("blunt").hidden = detail === null || this.hi <= detail || this.source !== this.schedule;
     if ($("blunt").hidden) return;
     const advice = `This window singly: ${command} --from ${lo} --to ${hi} -o part.html`;
     $("blunt").textContent = `From ${this.unit.text(detail)} on this page has shares of time only. ${advice}`;

@@ -11,6 +11,7 @@ holds, which tells at a wake whether the thread is ready or throttled."""
 from __future__ import annotations
 
 import collections
+import copy
 from collections.abc import Collection, Iterable, Sequence
 from typing import NamedTuple, Optional
 
@@ -204,14 +205,31 @@ class Reading:
         self.count = 0
         self.end = 0
 
+    def copy(self, listener: Listener) -> Reading:
+        """A reading that goes on from here for another listener. It follows chains from the interrupts on that are yet to come."""
+        other = copy.copy(self)
+        other.listener = listener
+        other.accounts = {name: copy.copy(account) for name, account in self.accounts.items()}
+        other.words, other.first_set, other.taken_by, other.taken_since = map(dict, (self.words, self.first_set, self.taken_by, self.taken_since))
+        other.signals = collections.defaultdict(collections.deque)
+        for key, queue in self.signals.items():
+            other.signals[key].extend(signal._replace(carried=None) for signal in queue)
+        other.arriving = self.arriving and self.arriving._replace(carried=None)
+        other.refills = {name: refills.copy() for name, refills in self.refills.items()}
+        other.places = {name: copy.copy(place) for name, place in self.places.items()}
+        other.chains = Chains(self.system, listener.answered) if self.system.chains and listener.hears_chains else None
+        return other
+
     def read(self, lines: Iterable[str], horizon: Optional[int]) -> None:
+        """Reads the rows from where it is to the end."""
         heard = {
             'release': self.release, 'run': self.run, 'stop': self.stop, 'signal': self.signal, 'arrive': self.arrive, 'wake': self.wake,
             'hold': self.hold, 'got': self.got, 'round': self.round, 'order': self.order, 'interrupt': self.interrupt, 'enter': self.enter_server,
             'leave': self.leave_server,
         }
-        for name in self.accounts:
-            self.tell_held(name, 0, False)
+        for name, account in self.accounts.items():
+            is_used = account.standing == RUNNING
+            self.tell_held(name, account.chosen if is_used else self.end, is_used)
         for number, moment, core, kind, words in rows_of(lines):
             if horizon is not None and moment > horizon:
                 break
