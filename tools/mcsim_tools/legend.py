@@ -9,6 +9,8 @@ from .reading import BLOCKED, HELD, LOST, MERGED, READY, RUNNING, STANDINGS, THR
 from .style import BAR
 from .tally import MISS, OVERDUE
 
+# states of budgets above which a page may show them by columns
+MANY_HELD = 500
 HELD_BACK = (OUTCOMES.index(HELD), OUTCOMES.index(MERGED))
 # pixels of a line of the legend, of a letter at most, of a sample, and between two entries
 ROW, LETTER, SAMPLE, GAP = 26, 6.6, 26, 14
@@ -76,7 +78,7 @@ def items(drawn: Mapping[str, int], column_width: Optional[int]) -> list[Item]:
         (drawn.get('lost'), Item('lost: its bits are already set', sign('lost', 'bad', BAR + 1))),
         (drawn.get('order'), Item('reconfiguration (order) by SchedControl', sign('order', 'order', BAR - 1))),
         (drawn.get('inside'), Item('a server: who is inside, and below who waits', both(box('on c0', BAR, up=2), box('waits c1', 5, up=-8)))),
-        (drawn.get('plot'), Item('budget: usable now, replenished later', both(box('use c0', 7, up=-3), box('come1', 7, up=4)))),
+        (drawn.get('plot'), Item('budget: usable now, replenished later' + ('; pale in columns: not all the time' if drawn.get('levels') else ''), both(box('use c0', 7, up=-3), box('come1', 7, up=4)))),
         (not is_single, Item(f'each column is {column_width:,} ticks, and shows shares of them' if column_width else '', lambda x, y: '')),
     ]
     return [item for is_there, item in known if is_there]
@@ -93,7 +95,7 @@ def of_page(packed: Packed, has_others: bool) -> dict[str, int]:
         'call': any(packed.queued.values()), 'up': rounds, 'down': has_deadlines, 'left out': True, 'resp': rounds, 'queued': outcomes.count(OUTCOMES.index(HELD)),
         'late': is_late, 'join': any(packed.posts[2::9]), 'interrupt': any(packed.posts[7::9]), 'hold': any(outcome in HELD_BACK and note not in locks for outcome, note in zip(outcomes, packed.posts[4::9])),
         'free': any(outcome in HELD_BACK and note in locks for outcome, note in zip(outcomes, packed.posts[4::9])),
-        'lost': outcomes.count(OUTCOMES.index(LOST)), 'order': len(packed.orders), 'plot': any(packed.held), 'way': any(packed.ways), 'inside': any(packed.served.values()),
+        'lost': outcomes.count(OUTCOMES.index(LOST)), 'order': len(packed.orders), 'plot': any(packed.held), 'levels': packed.held_count > MANY_HELD, 'way': any(packed.ways), 'inside': any(packed.served.values()),
     }
 
 

@@ -59,7 +59,7 @@ def data(packed: Packed, unit: Unit, heading: Mapping[str, Any]) -> dict[str, An
     """All that the page knows but for the arrays."""
     place = packed.place
     return {
-        **heading, 'a': packed.begin, 'b': packed.end, 'detail': packed.detail, 'tick': None if unit.tick is None else float(unit.tick), 'unit': unit.name,
+        **heading, 'a': packed.begin, 'b': packed.end, 'detail': packed.detail, 'heldEnd': packed.held_end, 'tick': None if unit.tick is None else float(unit.tick), 'unit': unit.name,
         'cores': packed.system.cores, 'threads': [thread_words(packed, thread) for thread in packed.threads], 'standings': STANDINGS,
         'notes': packed.notes, 'sources': packed.sources, 'servers': packed.servers, 'serverCores': packed.server_cores(),
         'slow': [[packed.chain_place[one.chain.name], one.origin, one.moment] for one in packed.slow], 'locks': packed.locks(),
@@ -74,7 +74,7 @@ def data_of_part(packed: Packed) -> dict[str, Any]:
     """What a page asks for beyond its detail: single things of a window, with threads and notifications numbered as on the page."""
     packed.columns = None
     arrays, parts = packed.text()
-    found = {'a': packed.begin, 'b': packed.end, 'detail': packed.detail, 'columns': None, **moving(packed), 'arrays': parts}
+    found = {'a': packed.begin, 'b': packed.end, 'detail': packed.detail, 'heldEnd': packed.held_end, 'columns': None, **moving(packed), 'arrays': parts}
     return {'data': found, 'arrays': arrays}
 
 

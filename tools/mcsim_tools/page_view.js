@@ -179,15 +179,17 @@ class View {
     for (const lane of document.querySelectorAll("#draw .lane")) lane.classList.toggle("hi", lane.dataset.name === name);
   }
   tellWhere() {
-    const { detail, b, command } = this.schedule;
+    const { detail, heldEnd, b, command } = this.schedule;
     const lo = Math.max(0, Math.floor(this.lo));
     const hi = Math.min(b, Math.ceil(this.hi));
     const hint = this.hidesSignals && $("sig").checked ? " (zoom in for signals)" : "";
     $("where").textContent = `${this.unit.text(Math.round(this.lo))} to ${this.unit.text(Math.round(this.hi))}${hint}`;
-    $("blunt").hidden = detail === null || this.hi <= detail || this.source !== this.schedule;
-    if ($("blunt").hidden) return;
-    const advice = `This window singly: ${command} --from ${lo} --to ${hi} -o part.html`;
-    $("blunt").textContent = `From ${this.unit.text(detail)} on this page has shares of time only. ${advice}`;
+    const isBlunt = detail !== null && this.hi > detail && this.source === this.schedule;
+    const endsBudgets = this.lanes.hasBudgets && heldEnd !== null && this.hi > heldEnd && this.source === this.schedule;
+    $("blunt").hidden = !isBlunt && !endsBudgets;
+    const what = isBlunt ? [`From ${this.unit.text(detail)} on this page has shares of time only.`] : [];
+    if (endsBudgets) what.push(`Budgets are drawn up to ${this.unit.text(heldEnd)}.`);
+    $("blunt").textContent = `${what.join(" ")} This window singly: ${command} --from ${lo} --to ${hi} -o part.html`;
   }
 
   // ---- moving
