@@ -93,7 +93,7 @@ class UnderWay(NamedTuple):
 
     def brought(self, moment: int) -> Optional[Brought]:
         """What it brings of chains when it takes effect."""
-        return self.carried and Brought(self.carried, self.made, moment)
+        return Brought(self.carried, self.made, moment) if self.carried else None
 
 
 class Holding(NamedTuple):
@@ -210,7 +210,8 @@ class Reading:
         other = copy.copy(self)
         other.listener = listener
         other.accounts = {name: copy.copy(account) for name, account in self.accounts.items()}
-        other.words, other.first_set, other.taken_by, other.taken_since = map(dict, (self.words, self.first_set, self.taken_by, self.taken_since))
+        other.words, other.first_set = dict(self.words), dict(self.first_set)
+        other.taken_by, other.taken_since = dict(self.taken_by), dict(self.taken_since)
         other.signals = collections.defaultdict(collections.deque)
         for key, queue in self.signals.items():
             other.signals[key].extend(signal._replace(carried=None) for signal in queue)
