@@ -4,9 +4,9 @@ Shows the picture of a system, its table and its findings on a page, and draws t
 better. A fault of the file stands above the last good picture, with its line and with what tools/explain says of it. A file that is not read within 5 s, and a run with its picture that takes longer than
 --limit, are given up, and the page says so; the next save is looked at again.
 
-The page is at http://127.0.0.1:PORT, a port that is free unless one is asked for, and for this machine alone. What is served is this one page: no
-path and no command is taken from the network, but two times between which the page asks for single things beyond its detail. Requests that name another host or come from another origin are answered 403, a few are held at a
-time, and none longer than 5 s. Ctrl-C ends it."""
+The page is at http://127.0.0.1:PORT, a port that is free unless one is asked for, and for this machine alone. What is served is this one page, and parts
+of its run between two times, for what is beyond the page's detail. No other path and no command is taken from the network. Requests that name another
+host or come from another origin are answered 403, a few are held at a time, and none longer than 5 s. Ctrl-C ends it."""
 from __future__ import annotations
 
 import argparse
