@@ -57,6 +57,7 @@ CHECKS = (
     Check('program', 'bandwidth'),
     Check('program', 'rules'),
     Check('program', 'readers'),
+    Check('program', 'ways'),
     Check('program', 'analyses'),
     Check('program', 'engines'),
     Check('program', 'refused_runs'),
