@@ -87,7 +87,7 @@ def items(drawn: Mapping[str, int], column_width: Optional[int]) -> list[Item]:
 def of_page(packed: Packed, has_others: bool) -> dict[str, int]:
     """What a page may show of a schedule."""
     outcomes, stood = packed.posts[6::9], [sum(counts.stood[standing] for counts in packed.of.values()) for standing in range(len(STANDINGS))]
-    rounds, has_deadlines = sum(counts.rounds for counts in packed.of.values()), any(thread.deadline for thread in packed.threads)
+    rounds, has_deadlines = sum(counts.rounds for counts in packed.of.values()) + len(packed.open_rounds), any(thread.deadline for thread in packed.threads)
     locks = set(packed.locks())
     is_late = any(packed.found[kind] for kind in (MISS, OVERDUE))
     return {
