@@ -63,6 +63,7 @@ CHECKS = (
     Check('program', 'bandwidth', 7),
     Check('program', 'rules', 10),
     Check('program', 'readers', 5),
+    Check('program', 'ways', 10),
     Check('program', 'analyses', 20),
     Check('program', 'worst', 30),
     Check('program', 'compare', 30),

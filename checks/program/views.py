@@ -194,7 +194,7 @@ class Expected:
 
 
     def servers(self) -> None:
-        """Who is inside a server, and who waited until it was let in. Nothing is drawn of what takes no time."""
+        """Who is inside a server, and who waited until it was let in, or waits still. Nothing is drawn of what takes no time."""
         inside: dict[str, int] = {}
         waits: dict[str, int] = {}
         for moment, _, kind, *rest in self.rows:
@@ -206,6 +206,7 @@ class Expected:
             elif kind == 'stop' and rest[1] == 'call':
                 waits[rest[0]] = int(moment)
         self.count['inside'] += sum(begin < self.horizon for begin in inside.values())
+        self.count['waits'] += sum(begin < self.horizon for begin in waits.values())
 
 
 def is_apart(kind: str) -> bool:
@@ -337,9 +338,9 @@ FOLLOWS = 30
 
 
 @contextlib.contextmanager
-def live_page(system: pathlib.Path, program: pathlib.Path) -> Iterator[str]:
+def live_page(system: pathlib.Path, program: pathlib.Path, *more: Word) -> Iterator[str]:
     """The address of the live page of a system."""
-    command: list[Word] = [sys.executable, TOP / 'tools' / 'live', system, '--program', program, '--horizon', '12']
+    command: list[Word] = [sys.executable, TOP / 'tools' / 'live', system, '--program', program, *more]
     with subprocess.Popen(command, stdout=subprocess.PIPE, text=True) as running:
         assert running.stdout
         try:
@@ -356,7 +357,7 @@ def try_live(page: Browser, program: pathlib.Path, folder: pathlib.Path, count: 
     saved = [(text, [3, '']), (text.replace('budget = 2', 'budget = 5'), [1, '']),
              (text.replace('priority = 5', 'priority = 256'), [1, f'{file}:{key}: out of range at thread 1 priority']), (text, [3, ''])]
     file.write_text(text)
-    with live_page(file, program) as address:
+    with live_page(file, program, '--horizon', '12') as address:
         page.open(address)
         page.value('ready')
         for text, wanted in saved:
@@ -369,6 +370,90 @@ def try_live(page: Browser, program: pathlib.Path, folder: pathlib.Path, count: 
                 said = page.value("$('fault').textContent")
                 count.expect(f'the live page does not explain a fault: {said}', 'priority = 256' in said and '0 to 255' in said)
     count.expect(f'the live page throws {page.faults()}', not page.faults())
+
+
+# what of a window is drawn singly: how often each kind of bar and sign, beyond the detail too
+IN_WINDOW = """(() => {
+  view.window(150000, 150900);
+  view.show();
+  const found = {}, tell = name => { found[name] = (found[name] ?? 0) + 1; };
+  for (const bar of document.querySelectorAll('#plot g.T rect, #plot g.C rect')) tell(bar.classList[0] + ' ' + bar.closest('g').dataset.name);
+  for (const sign of document.querySelectorAll('#plot g.M use')) tell(sign.getAttribute('href') + ' ' + sign.closest('g').dataset.name);
+  return found;
+})()"""
+
+
+def try_part(trial: Trial) -> None:
+    """A live page shows a window beyond its detail as a page that holds the whole run does."""
+    page, file, horizon = trial.page, trial.folder / 'parts.toml', 200_000
+    file.write_text(large.LONG)
+    drawn = trial.drawn(file, horizon)
+    trial.count.expect(f'{file.name}: {drawn.stderr!r}', not drawn.status)
+    page.open((trial.folder / 'page.html').as_uri())
+    page.value('ready')
+    wanted = page.value(IN_WINDOW)
+    with live_page(file, trial.program, '--horizon', str(horizon), '--most', '1000', '--limit', '600') as address:
+        page.open(address)
+        page.value('ready')
+        page.value(IN_WINDOW)
+        until = time.monotonic() + FOLLOWS
+        # what moves the window puts off what the page asks for
+        while page.value('view.source === view.schedule') and time.monotonic() < until:
+            time.sleep(0.05)
+        found = page.value(IN_WINDOW)
+        is_blunt = page.value("!$('blunt').hidden")
+        trial.count.expect(f'beyond its detail a live page shows {found}, and not {wanted}; {is_blunt}', found == wanted and not is_blunt)
+    trial.count.expect(f'the live page throws {page.faults()}', not page.faults())
+
+
+# an interrupt each 20 ticks from 10 on; that of 10 is answered at 26, that of 30 at 41
+PACKETS = '''version = 3
+cores = 2
+delay = 3
+context = [
+    { name = "driver", core = 0, budget = 10, period = 20, extra_refills = 4 },
+    { name = "filter", core = 1, budget = 12, period = 20, extra_refills = 4 },
+    { name = "busy", core = 1, budget = 5, period = 30, extra_refills = 4 },
+]
+note = [{ name = "irq", core = 0 }, { name = "data", core = 1 }]
+source = [{ name = "nic", note = "irq", badge = 1, period = 20, start = 10 }]
+thread = [
+    { name = "Driver", context = "driver", priority = 50, script = ["wait irq", "compute 2", "signal data 1"] },
+    { name = "Filter", context = "filter", priority = 50, script = ["wait data", "compute 5"] },
+    { name = "Busy", context = "busy", priority = 60, start = 16, script = ["compute 5"] },
+]
+chain = [{ name = "packet", source = "nic", thread = "Filter", deadline = 12 }]
+'''
+FIRST_BAR = "(() => { const box = [...document.querySelectorAll('g.T[data-name=Driver] rect.running')][1].getBoundingClientRect(); return [box.x + 3, box.y + 5]; })()"
+CHAIN_WORDS = ('chain packet: 10 to 26, latency 16, deadline 12: slow by 4', '10 interrupt of nic to irq; Driver signals at 13: running 3',
+               '13 signal of Driver to data, arrives at 16; Filter ends its round at 26: running 5, ready 5')
+
+
+def try_chain(trial: Trial) -> None:
+    """The way of a chain is drawn where a piece of it is pointed at, and where its answer is chosen from the list of those that are slow."""
+    page, file, wrong = trial.page, trial.folder / 'packets.toml', []
+    file.write_text(PACKETS)
+    drawn = trial.drawn(file, 40)
+    trial.count.expect(f'{file.name}: {drawn.stderr!r}', not drawn.status)
+    page.open((trial.folder / 'page.html').as_uri())
+    page.value('ready')
+    page.mouse('mouseMoved', *page.value(FIRST_BAR))
+    page.value(DRAWN)
+    tip, paths = page.value(TIP), page.value("document.querySelectorAll('#ways path').length")
+    if not all(line in tip for line in CHAIN_WORDS) or paths < 5:
+        wrong.append(f'a bar on a way says {tip!r}, with {paths} lines')
+    page.mouse('mouseMoved', 5, 5)
+    page.value(DRAWN)
+    if page.value("document.querySelectorAll('#ways path').length"):
+        wrong.append('a way stays where nothing is pointed at')
+    row = page.value("[...document.querySelectorAll('#chaintable tbody tr')].map(row => [...row.cells].map(cell => cell.textContent))")
+    if row != [['packet', 'nic', 'Filter', '2', '1', '16', '16', '16', '12', '1', '–']]:
+        wrong.append(f'the list of chains is {row}')
+    page.value("view.lanes.remove(0), view.arrange(), document.querySelector('#slow .finding').click()")
+    page.value(DRAWN)
+    if page.value("[document.querySelectorAll('#ways path').length > 4, view.lanes.has(0)]") != [True, True]:
+        wrong.append('a slow answer that is chosen has no way, or a thread on it no lane')
+    trial.count.expect(f'{file.name}: {wrong}', not wrong + page.faults())
 
 
 class Trial:
@@ -454,7 +539,9 @@ def main() -> None:
             file.write_text(random_systems.random_text(rng))
             trial.look(file, rng.choice(HORIZONS))
         try_large(trial)
+        try_chain(trial)
         try_live(page, program, trial.folder, trial.count)
+        try_part(trial)
     print(f'{trial.counted} bars and signs were counted')
     trial.count.end()
 

@@ -16,7 +16,7 @@ sys.dont_write_bytecode = True
 sys.path[0] = str(pathlib.Path(__file__).resolve().parents[2])
 from checks import common
 from checks.common import DATA, TOP, Count, Word
-from checks.program import browser, large
+from checks.program import browser, large, views
 from checks.program.browser import Browser
 
 WIDTHS, HIGH = (420, 700, 1366, 1920), 900
@@ -47,7 +47,7 @@ def systems(folder: pathlib.Path) -> Iterator[tuple[pathlib.Path, int, list[str]
     """Files, how far each is run, and more options: some in real units."""
     for place, file in enumerate(sorted((DATA / 'examples').glob('*.toml'))[:EXAMPLES]):
         yield file, 60, ['--tick-us', '10'] if place % 2 else []
-    for name, text, horizon in large.systems():
+    for name, text, horizon in (*large.systems(), ('packets.toml', views.PACKETS, 40)):
         file = folder / name
         file.write_text(text)
         yield file, horizon, []
@@ -96,7 +96,7 @@ def main() -> None:
 def look(shown: Browser, page: pathlib.Path, is_dark: bool, pictures: pathlib.Path | None, count: Count) -> None:
     shown.open(page.as_uri())
     shown.value('ready')
-    shown.value("findings.list.length && findings.go(0)")
+    shown.value("findings.list.length ? findings.go(0) : view.schedule.slow.length && chainList.goSlow(0)")
     shown.value(DRAWN)
     window = f'{page.stem}-{shown.wide}-{"dark" if is_dark else "light"}'
     if pictures:

@@ -243,7 +243,7 @@ class Picture:
                 word = 'overdue' if finding.kind == OVERDUE else 'never'
                 self.drawn[finding.kind] += 1
                 at = f'x="{number(self.left + self.scale.wide + 6)}" y="{self.lanes.base[finding.thread.name] + 3}"'
-                title = f'<title>{escaped(finding.name)}: {escaped(finding.said)}</title>'
+                title = f'<title>{escaped(finding.name)}: {escaped(finding.said(self.unit))}</title>'
                 self.names.append(f'<text class="badtext" {at}>{word}{title}</text>')
 
     # ---- what contexts hold

@@ -93,6 +93,11 @@ def asked(system: System, threads: Optional[str], cores: Optional[str]) -> list[
 FEW = 5
 
 
+def budgets_asked(system: System, asked: str) -> Collection[str]:
+    """The threads whose budgets a page holds whatever they take; all others are held as long as they are few."""
+    return () if asked in ('auto', 'none') else choose_budgets(system, asked)
+
+
 def choose_budgets(system: System, asked: str) -> frozenset[str]:
     """The threads whose budgets are plotted: `all`, `none`, `auto` (all, where they are few), or names with commas between."""
     sporadic = [thread.name for thread in system.threads.values() if not thread.context.is_round_robin]

@@ -9,6 +9,8 @@ from .reading import BLOCKED, HELD, LOST, MERGED, READY, RUNNING, STANDINGS, THR
 from .style import BAR
 from .tally import MISS, OVERDUE
 
+# states of budgets above which a page may show them by columns
+MANY_HELD = 500
 HELD_BACK = (OUTCOMES.index(HELD), OUTCOMES.index(MERGED))
 # pixels of a line of the legend, of a letter at most, of a sample, and between two entries
 ROW, LETTER, SAMPLE, GAP = 26, 6.6, 26, 14
@@ -44,6 +46,10 @@ def line(x: int, y: int) -> str:
     return f'<path class="join" d="M{x + 2} {y + 1}C{x + 2} {y - 8} {x + 16} {y - 1} {x + 16} {y - 11}"/>'
 
 
+def way(begin: int, end: int, more: str = '') -> Draw:
+    return lambda x, y: f'<path class="way{more}" d="M{x + begin} {y - 4}H{x + end}"/>'
+
+
 def hatched(x: int, y: int) -> str:
     return f'<rect style="fill:url(#hatch0)" x="{x}" y="{y - 8}" width="18" height="8"/>'
 
@@ -64,6 +70,7 @@ def items(drawn: Mapping[str, int], column_width: Optional[int]) -> list[Item]:
         (drawn.get('late') and is_single, Item('deadline missed, or overdue', both(box('late', 4), at_end('endlate', 'bad')))),
         (drawn.get('late') and not is_single, Item('below a lane: rounds missed; above it: signals lost', box('late', 4))),
         (drawn.get('join'), Item('signal, joined to where it takes effect', both(line, dot))),
+        (drawn.get('way'), Item("a chain's way, where it is pointed at; thin while it is pending", both(way(0, 10), way(11, 18, ' waits')))),
         (drawn.get('made') and not drawn.get('join'), Item('signal made', dot)),
         (drawn.get('interrupt'), Item('interrupt', sign('irq', 'ink', BAR))),
         (drawn.get('hold'), Item('pending: no thread waits yet', sign('hold', 'soft', BAR + 2))),
@@ -71,7 +78,7 @@ def items(drawn: Mapping[str, int], column_width: Optional[int]) -> list[Item]:
         (drawn.get('lost'), Item('lost: its bits are already set', sign('lost', 'bad', BAR + 1))),
         (drawn.get('order'), Item('reconfiguration (order) by SchedControl', sign('order', 'order', BAR - 1))),
         (drawn.get('inside'), Item('a server: who is inside, and below who waits', both(box('on c0', BAR, up=2), box('waits c1', 5, up=-8)))),
-        (drawn.get('plot'), Item('budget: usable now, replenished later', both(box('use c0', 7, up=-3), box('come1', 7, up=4)))),
+        (drawn.get('plot'), Item('budget: usable now, replenished later' + ('; pale in columns: not all the time' if drawn.get('levels') else ''), both(box('use c0', 7, up=-3), box('come1', 7, up=4)))),
         (not is_single, Item(f'each column is {column_width:,} ticks, and shows shares of them' if column_width else '', lambda x, y: '')),
     ]
     return [item for is_there, item in known if is_there]
@@ -80,7 +87,7 @@ def items(drawn: Mapping[str, int], column_width: Optional[int]) -> list[Item]:
 def of_page(packed: Packed, has_others: bool) -> dict[str, int]:
     """What a page may show of a schedule."""
     outcomes, stood = packed.posts[6::9], [sum(counts.stood[standing] for counts in packed.of.values()) for standing in range(len(STANDINGS))]
-    rounds, has_deadlines = sum(counts.rounds for counts in packed.of.values()), any(thread.deadline for thread in packed.threads)
+    rounds, has_deadlines = sum(counts.rounds for counts in packed.of.values()) + len(packed.open_rounds), any(thread.deadline for thread in packed.threads)
     locks = set(packed.locks())
     is_late = any(packed.found[kind] for kind in (MISS, OVERDUE))
     return {
@@ -88,7 +95,7 @@ def of_page(packed: Packed, has_others: bool) -> dict[str, int]:
         'call': any(packed.queued.values()), 'up': rounds, 'down': has_deadlines, 'left out': True, 'resp': rounds, 'queued': outcomes.count(OUTCOMES.index(HELD)),
         'late': is_late, 'join': any(packed.posts[2::9]), 'interrupt': any(packed.posts[7::9]), 'hold': any(outcome in HELD_BACK and note not in locks for outcome, note in zip(outcomes, packed.posts[4::9])),
         'free': any(outcome in HELD_BACK and note in locks for outcome, note in zip(outcomes, packed.posts[4::9])),
-        'lost': outcomes.count(OUTCOMES.index(LOST)), 'order': len(packed.orders), 'plot': any(packed.held), 'inside': any(packed.served.values()),
+        'lost': outcomes.count(OUTCOMES.index(LOST)), 'order': len(packed.orders), 'plot': any(packed.held), 'levels': packed.held_count > MANY_HELD, 'way': any(packed.ways), 'inside': any(packed.served.values()),
     }
 
 

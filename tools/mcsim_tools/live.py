@@ -4,15 +4,16 @@ Shows the picture of a system, its table and its findings on a page, and draws t
 better. A fault of the file stands above the last good picture, with its line and with what tools/explain says of it. A file that is not read within 5 s, and a run with its picture that takes longer than
 --limit, are given up, and the page says so; the next save is looked at again.
 
-The page is at http://127.0.0.1:PORT, a port that is free unless one is asked for, and for this machine alone. What is served is this one page: no
-path and no command is taken from the network, requests that name another host or come from another origin are answered 403, a few are held at a
-time, and none longer than 5 s. Ctrl-C ends it."""
+The page is at http://127.0.0.1:PORT, a port that is free unless one is asked for, and for this machine alone. What is served is this one page, and parts
+of its run between two times, for what is beyond the page's detail. No other path and no command is taken from the network. Requests that name another
+host or come from another origin are answered 403, a few are held at a time, and none longer than 5 s. Ctrl-C ends it."""
 from __future__ import annotations
 
 import argparse
 import contextlib
 import http.server
 import json
+import re
 import socket
 import socketserver
 import threading
@@ -28,6 +29,8 @@ from .page import fault_page
 from .source import Words
 
 HOST = '127.0.0.1'
+# the picture, and from when to when
+PART = re.compile(r'/part/([1-9][0-9]{0,8})/([0-9]{1,13})/([0-9]{1,13})')
 # requests that are held at a time, and the seconds that one may take, whatever it does
 HELD, SECONDS = 8, 5
 # seconds that a run and its picture may take, unless --limit says it
@@ -77,6 +80,10 @@ class Watch:
             page = self.state.page if self.state.picture else fault_page('\n'.join([drawn.fault, *drawn.explained])).encode()
             self.state = self.state._replace(page=page, fault=drawn.fault, explained=drawn.explained)
 
+    def part(self, asked: looking.Part) -> Optional[bytes]:
+        """A part of the picture that is shown, if it has this number."""
+        return self.looker.part(asked) if asked.number == self.state.picture else None
+
     def follow(self) -> None:
         while not self.ends.wait(looking.LOOK):
             self.look()
@@ -87,7 +94,7 @@ class Watch:
 
 
 class Handler(http.server.BaseHTTPRequestHandler):
-    """Answers two requests: for the page, and for its number."""
+    """Answers three requests: for the page, for its number, and for a part of the run."""
 
     server: Server
     timeout = SECONDS
@@ -114,6 +121,9 @@ class Handler(http.server.BaseHTTPRequestHandler):
             self.answer(HTTPStatus.OK, 'text/html', state.page)
         elif self.path == '/state':
             self.answer(HTTPStatus.OK, 'application/json', state.text())
+        elif asked := PART.fullmatch(self.path):
+            part = self.server.watch.part(looking.Part(*map(int, asked.groups())))
+            self.answer(HTTPStatus.OK, 'application/json', part) if part else self.answer(HTTPStatus.NOT_FOUND, 'text/plain', b'')
         else:
             self.answer(HTTPStatus.NOT_FOUND, 'text/plain', b'')
 

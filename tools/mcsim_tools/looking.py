@@ -10,13 +10,14 @@ import enum
 import multiprocessing
 import multiprocessing.connection
 import pathlib
+import threading
 import time
 from collections.abc import Sequence
 from dataclasses import dataclass, field
 from multiprocessing.connection import Connection
-from typing import Optional, Union
+from typing import NamedTuple, Optional, Union
 
-from . import explain, explaining, source, system, view, workers
+from . import explain, explaining, lanes, parts, source, system, view, workers
 from .changes import Verdict
 from .faults import Fault
 from .printable import printable
@@ -25,6 +26,8 @@ from .printable import printable
 READ = 5
 # seconds within which a process is to begin, on a machine that has much to do
 BEGIN = 30
+# seconds for which a part waits for a look that is under way, and that it may take more than it should
+BUSY = 0.5
 # how often the file is looked at, in seconds
 LOOK = 0.2
 
@@ -60,29 +63,58 @@ class Step(enum.Enum):
     READ = 'read'
 
 
+class Part(NamedTuple):
+    """What is asked of a picture beyond the detail of its page."""
+
+    number: int
+    begin: int
+    end: int
+
+
+class Drawer:
+    """Draws the file for each number that comes, and parts of the last picture."""
+
+    def __init__(self, connection: Connection, words: argparse.Namespace, window: view.Window) -> None:
+        self.connection, self.words, self.window = connection, words, window
+        self.kept: Optional[parts.Kept] = None
+
+    def serve(self) -> None:
+        with contextlib.suppress(EOFError, OSError):
+            while True:
+                asked: Union[int, Part] = self.connection.recv()
+                self.connection.send(self.part(asked) if isinstance(asked, Part) else self.draw(asked))
+
+    def part(self, asked: Part) -> Optional[bytes]:
+        if self.kept is None or self.kept.number != asked.number:
+            return None
+        return self.kept.part(asked.begin, asked.end)
+
+    def draw(self, number: int) -> Drawn:
+        words, text = self.words, b''
+        try:
+            text = system.read_bytes(words.system)
+            self.connection.send(Step.READ)
+            return self.drawn(number, text)
+        except Fault as fault:
+            # nothing is run for a file that was not read
+            return Drawn(fault=printable(fault), explained=explained(words, text) if text else ())
+        except Exception as error:
+            return Drawn(fault=printable(f'{words.system}: it cannot be drawn: {type(error).__name__}: {error}'))
+
+    def drawn(self, number: int, text: bytes) -> Drawn:
+        words, marks = self.words, parts.Marks()
+        horizon = source.HORIZON if self.window.horizon is None else self.window.horizon
+        with source.run(words.program, words.system, text, horizon) as told:
+            page = view.draw_page(told, words, self.window, number, marks.of)
+        budgets = lanes.budgets_asked(told.system, words.budgets)
+        self.kept = parts.Kept(number, words.program, words.system, text, told.system, horizon, budgets, marks.list)
+        return Drawn(page.text.encode(), verdict=page.verdict)
+
+
 def serve(connection: Connection, words: argparse.Namespace, window: view.Window) -> None:
-    """Draws the file for each number that comes."""
     workers.begin()
     connection.send(Step.BEGAN)
-    with contextlib.suppress(EOFError, OSError):
-        while True:
-            number: int = connection.recv()
-            connection.send(draw(connection, words, window, number))
-
-
-def draw(connection: Connection, words: argparse.Namespace, window: view.Window, number: int) -> Drawn:
-    text = b''
-    try:
-        text = system.read_bytes(words.system)
-        connection.send(Step.READ)
-        with source.run(words.program, words.system, text, source.HORIZON if window.horizon is None else window.horizon) as told:
-            page = view.draw_page(told, words, window, live=number)
-            return Drawn(page.text.encode(), verdict=page.verdict)
-    except Fault as fault:
-        # nothing is run for a file that was not read
-        return Drawn(fault=printable(fault), explained=explained(words, text) if text else ())
-    except Exception as error:
-        return Drawn(fault=printable(f'{words.system}: it cannot be drawn: {type(error).__name__}: {error}'))
+    Drawer(connection, words, window).serve()
 
 
 def explained(words: argparse.Namespace, text: bytes) -> list[str]:
@@ -102,6 +134,8 @@ class Looker:
         self.words, self.window, self.limit = words, window, limit
         self.connection: Optional[Connection] = None
         self.process: Optional[multiprocessing.process.BaseProcess] = None
+        # a look or a part is under way
+        self.is_busy = threading.Lock()
 
     def begin(self) -> Connection:
         """Starts a process, if there is none."""
@@ -118,6 +152,28 @@ class Looker:
 
     def look(self, number: int) -> Optional[Drawn]:
         """Draws the file as the picture of a number. None if it was saved again meanwhile: then this look is given up."""
+        with self.is_busy:
+            return self.looked(number)
+
+    def part(self, asked: Part) -> Optional[bytes]:
+        """A part of the last picture. None if there is none, or if it takes too long, a look that is under way included."""
+        if not self.is_busy.acquire(timeout=BUSY):
+            return None
+        try:
+            if self.connection is None:
+                return None
+            self.connection.send(asked)
+            if not self.connection.poll(parts.SECONDS + BUSY):
+                raise EOFError
+            part: Optional[bytes] = self.connection.recv()
+            return part
+        except (EOFError, OSError):
+            self.give_up()
+            return None
+        finally:
+            self.is_busy.release()
+
+    def looked(self, number: int) -> Optional[Drawn]:
         mark = mark_of(self.words.system)
         try:
             connection = self.begin()

@@ -12,16 +12,17 @@ import zlib
 from collections.abc import Collection, Iterable
 from typing import Optional
 
+from .chains import Answer
 from .locks import locks_of
 from .reading import BLOCKED, HELD, LOST, MERGED, READY, RUNNING, THROTTLED, WOKE, Holding, Post, Reading, Round, Stood, UnderWay
 from .scene import LOSSES, MISSED, ROUNDS, Columns
 from .system import Context, System, Thread
 from .tally import Finding, Tally
 
-# things that a page holds at most, which take some 4 bytes each, so that it has less than 10 MB; and states of budgets
-MOST, MOST_HELD = 1_600_000, 40_000
-# findings that a page lists
-LISTED = 20_000
+# things that a page holds at most, which take some 4 bytes each, so that it has less than 10 MB; and states of budgets, which end then
+MOST, MOST_HELD = 1_600_000, 400_000
+# findings that a page lists, and answers of chains that came too late
+LISTED, LISTED_SLOW = 20_000, 2_000
 ORDERS = 2000
 WHYS = ('', 'spent', 'yield', 'wait', 'call', 'done', 'preempt', 'order', 'wake')
 OUTCOMES = (WOKE, HELD, MERGED, LOST)
@@ -31,6 +32,8 @@ COUNTED = {'Run': RUNNING, 'Ready': READY, 'Throttled': THROTTLED, 'Blocked': BL
 
 class Packed(Tally):
     """Listens to a whole schedule: counts all of it, and keeps what a page shows of a window."""
+
+    hears_chains = True
 
     def __init__(self, system: System, begin: int, end: Optional[int], most: int = MOST, budgets: Collection[str] = ()) -> None:
         super().__init__(system)
@@ -42,19 +45,28 @@ class Packed(Tally):
         self.segments: list[list[int]] = [[] for _ in self.threads]
         self.rounds: list[list[int]] = [[] for _ in self.threads]
         self.posts: list[int] = []
-        self.held: list[list[int]] = [[] for _ in self.threads]
+        # of each state of a budget the time since the one before, its length, whether it is used, and how many refills; and the refills
+        self.held: list[array.array[int]] = [array.array('Q') for _ in self.threads]
+        self.refills: list[array.array[int]] = [array.array('Q') for _ in self.threads]
+        self.held_until = [0] * len(self.threads)
+        self.held_end: Optional[int] = None
         self.open_held: dict[str, Holding] = {}
         self.served: dict[str, list[int]] = {name: [] for name in self.servers}
         self.queued: dict[str, list[int]] = {name: [] for name in self.servers}
         self.open_rounds: list[Round] = []
+        self.chains = list(system.chains.values())
+        self.chain_place = places(system.chains)
+        # of each chain its answers in order, with how many pieces each has, and the pieces
+        self.ways: list[list[int]] = [[] for _ in self.chains]
+        self.legs: list[list[int]] = [[] for _ in self.chains]
+        self.slow: list[Answer] = []
         self.sent: list[tuple[str, UnderWay]] = []
         self.orders: list[tuple[Context, int]] = []
         self.count = self.held_count = 0
         # the time at which single things end, and shares by columns begin
         self.detail: Optional[int] = None
         self.columns: Optional[Columns] = None
-        # budgets that are asked for are held whatever they take, and all others as long as they are few
-        self.asked = budgets
+        # all budgets, or those that are asked for
         self.hears_holdings: Collection[str] = frozenset(budgets or (thread.name for thread in self.threads if not thread.context.is_round_robin))
 
     # ---- what a reading says
@@ -81,7 +93,8 @@ class Packed(Tally):
 
     def end_detail(self, moment: int) -> None:
         """From this time on there are columns. What a thread does across it is divided when it is told."""
-        self.detail, self.hears_holdings = moment, ()
+        self.detail = moment
+        self.end_budgets(moment)
         self.columns = Columns(self.place, moment, self.last)
 
     def is_seen(self, begin: int, end: int) -> bool:
@@ -125,6 +138,18 @@ class Packed(Tally):
         if signal.maker and self.is_seen(signal.made, signal.made):
             self.sent.append((note, signal))
 
+    def answered(self, answer: Answer) -> None:
+        if answer.is_first and answer.is_slow and len(self.slow) < LISTED_SLOW:
+            self.slow.append(answer)
+        if self.columns or not self.is_seen(answer.origin, answer.moment):
+            return
+        place = self.chain_place[answer.chain.name]
+        self.ways[place] += (answer.moment, answer.latency, len(answer.way))
+        for hop in answer.way:
+            made, arrived = hop.brought.made, hop.brought.arrived
+            self.legs[place] += (made - answer.origin, arrived - made, hop.taken - arrived, self.place[hop.thread.name], self.note_place[hop.note])
+        self.count += 1 + len(answer.way)
+
     def ordered(self, context: Context, moment: int) -> None:
         if self.is_seen(moment, moment) and len(self.orders) < ORDERS:
             self.orders.append((context, moment))
@@ -144,24 +169,28 @@ class Packed(Tally):
     def end_held(self, name: str, moment: int) -> None:
         was = self.open_held.pop(name, None)
         if was and was.moment < moment and self.is_seen(was.moment, moment):
-            own = self.held[self.place[name]]
-            own += (was.moment, moment, was.is_used, len(was.refills))
+            place = self.place[name]
+            self.held[place].extend((was.moment - self.held_until[place], moment - was.moment, was.is_used, len(was.refills)))
+            self.held_until[place] = moment
             for date, amount in was.refills:
-                own += (max(0, date - was.moment), amount)
+                self.refills[place].extend((max(0, date - was.moment), amount))
             self.held_count += 1
-            if self.has_too_many_held():
-                self.hears_holdings = ()
-                self.held = [[] for _ in self.threads]
+            if self.held_count == MOST_HELD:
+                self.held_end = moment
+                self.end_budgets(moment)
 
-    def has_too_many_held(self) -> bool:
-        return not self.asked and self.held_count > MOST_HELD
+    def end_budgets(self, moment: int) -> None:
+        """From this time on no budget is followed."""
+        for name in list(self.open_held) if self.hears_holdings else ():
+            self.end_held(name, moment)
+        self.open_held.clear()
+        self.hears_holdings = ()
 
     def close(self, reading: Reading, end: Optional[int]) -> None:
         """Ends what is open; the window ends at `end`, or with the schedule."""
         if self.last is None:
             self.last = max(reading.end if end is None else end, self.begin + 1)
-        for name in list(self.open_held) if self.hears_holdings else ():
-            self.end_held(name, reading.end)
+        self.end_budgets(reading.end)
 
     @property
     def end(self) -> int:
@@ -193,11 +222,17 @@ class Packed(Tally):
         yield from zip(('roundNumber', 'roundEnd', 'roundResponse', 'roundTook'), numbers)
         fields = [self.posts[place::9] for place in range(9)]
         yield from zip(('postAt', 'postWay', 'postMaker', 'postTo', 'postNote', 'postBadge', 'postOutcome', 'postSource', 'postCore'), [steps(fields[0]), *fields[1:]])
-        yield 'heldCount', [len(own) for own in self.held]
-        yield 'held', flat(self.held)
+        yield 'heldCount', [len(own) // 4 for own in self.held]
+        yield from columns_of('held', ('Gap', 'Length', 'Used', 'Many'), flat(self.held))
+        yield 'refillCount', [len(own) // 2 for own in self.refills]
+        yield from columns_of('refill', ('Date', 'Amount'), flat(self.refills))
         for what, of_servers in (('served', self.served), ('queued', self.queued)):
             yield f'{what}Count', [len(own) // 3 for own in of_servers.values()]
             yield from columns_of(what, ('Begin', 'End', 'Thread'), flat(of_servers.values()))
+        yield 'wayCount', [len(own) // 3 for own in self.ways]
+        yield 'wayEnd', flat(steps(own[::3]) for own in self.ways)
+        yield from zip(('wayLatency', 'wayLegs'), (flat(own[place::3] for own in self.ways) for place in (1, 2)))
+        yield from columns_of('leg', ('Made', 'Arrived', 'Taken', 'Thread', 'Note'), flat(self.legs))
         if self.columns:
             cells = self.columns.cells
             for what, counts in COUNTED.items():

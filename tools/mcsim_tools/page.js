@@ -1,5 +1,5 @@
 // The page itself: what is done when somebody uses it.
-let view, overview, findings, table, due = 0, drag = null;
+let view, overview, findings, table, chainList, due = 0, drag = null;
 const fingers = new Map();
 const soon = () => { if (!due) due = requestAnimationFrame(() => { due = 0; view.show(); }); };
 
@@ -17,6 +17,7 @@ async function begin(page, was) {
   overview = new Overview(view);
   findings = new Findings(view);
   table = new Table(view);
+  chainList = new ChainList(view);
   new Search(view, findings);
   if (was && was.schedule.a === schedule.a && was.schedule.b === schedule.b) view.window(was.lo, was.hi);
 }
@@ -67,8 +68,10 @@ function point(v) {
   const hit = under.find(element => element && $("draw").contains(element));
   const tip = $("tip");
   tip.style.display = hit ? "block" : "none";
+  const t = view.at(place(v)), ways = hit ? view.source.ways.at(hit.dataset.i, t) : [];
+  view.point(ways);
   if (!hit) return;
-  tip.textContent = view.words.of(hit.dataset.i, view.at(place(v)));
+  tip.textContent = [view.words.of(hit.dataset.i, t), ...ways.map(way => view.wayWords.of(way))].join("\n");
   tip.style.left = Math.max(4, Math.min(v.clientX + 14, innerWidth - tip.offsetWidth - 8)) + "px";
   tip.style.top = Math.min(v.clientY + 16, innerHeight - tip.offsetHeight - 8) + "px";
 }
@@ -76,7 +79,7 @@ $("draw").addEventListener("wheel", turn, { passive: false });
 $("draw").addEventListener("pointerdown", press);
 $("draw").addEventListener("pointermove", move);
 for (const name of ["pointerup", "pointercancel"]) addEventListener(name, release);
-$("draw").addEventListener("pointerleave", () => { $("tip").style.display = "none"; });
+$("draw").addEventListener("pointerleave", () => { $("tip").style.display = "none"; view.point([]); });
 $("draw").addEventListener("dblclick", v => { if (!v.target.closest(".head")) view.all(); });
 $("scroll").addEventListener("scroll", soon);
 

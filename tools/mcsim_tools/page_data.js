@@ -81,15 +81,29 @@ class Rounds {
 // how many of rising times are at a or later and before b
 const countIn = (times, a, b) => firstAt(times.length, i => times[i] >= b) - firstAt(times.length, i => times[i] >= a);
 
+// the segments of a track in which its thread runs
+function running(track) {
+  const found = [];
+  for (let i = 0; i < track.n; i++) if (track.standing(i) === RUNNING) found.push(i);
+  return found;
+}
+
 // Who runs on a core: all stretches of its threads in order, and how many ticks it was busy before each.
 class Timeline {
-  constructor(stretches) {
-    stretches.sort((one, two) => one[0] - two[0]);
-    this.n = stretches.length;
-    this.begin = Float64Array.from(stretches, one => one[0]);
-    this.end = Float64Array.from(stretches, one => one[1]);
-    this.thread = Uint16Array.from(stretches, one => one[2]);
-    this.segment = Uint32Array.from(stretches, one => one[3]);
+  constructor(tracks) {
+    const found = tracks.map(([thread, track]) => [thread, track, running(track)]);
+    this.n = found.reduce((sum, [, , own]) => sum + own.length, 0);
+    const begins = new Float64Array(this.n), owners = new Uint16Array(this.n), segments = new Uint32Array(this.n);
+    let at = 0;
+    for (const [thread, track, own] of found) for (const i of own) {
+      begins[at] = track.begin[i]; owners[at] = thread; segments[at++] = i;
+    }
+    const order = new Uint32Array(this.n).map((_, i) => i).sort((one, two) => begins[one] - begins[two]);
+    const of = new Map(found.map(([thread, track]) => [thread, track]));
+    this.thread = Uint16Array.from(order, i => owners[i]);
+    this.segment = Uint32Array.from(order, i => segments[i]);
+    this.begin = Float64Array.from(order, i => begins[i]);
+    this.end = this.begin.map((_, i) => of.get(this.thread[i]).begin[this.segment[i] + 1]);
     this.busy = prefixes(this.end.map((end, i) => end - this.begin[i]));
   }
   within(a, b) { return [firstAt(this.n, i => this.end[i] > a), firstAt(this.n, i => this.begin[i] >= b)]; }
@@ -125,6 +139,7 @@ const COLUMN_OF = { [RUNNING]: "Run", [READY]: "Ready", [THROTTLED]: "Throttled"
 class Schedule {
   constructor(data, bytes) {
     Object.assign(this, data);
+    this.data = data;
     this.bytes = bytes;
     this.places = new Map();
     let at = 0;
@@ -144,9 +159,11 @@ class Schedule {
     const [at, many, wide] = this.places.get(name);
     const last = Math.min(to, many);
     const found = new Float64Array(Math.max(0, last - from));
-    for (let byte = 0, scale = 1; byte < wide; byte++, scale *= 256) {
-      const plane = at + byte * many + from;
-      for (let i = 0; i < found.length; i++) found[i] += this.bytes[plane + i] * scale;
+    const plane = byte => this.bytes.subarray(at + byte * many + from, at + byte * many + from + found.length);
+    found.set(plane(0));
+    for (let byte = 1, scale = 256; byte < wide; byte++, scale *= 256) {
+      const own = plane(byte);
+      for (let i = 0; i < found.length; i++) found[i] += own[i] * scale;
     }
     return found;
   }
@@ -159,12 +176,7 @@ class Schedule {
     const own = () => ["Number", "End", "Response", "Took"].map(name => this.numbers("round" + name, from, to));
     return this.roundsOf[thread] ??= new Rounds(...own(), this.threads[thread].deadline);
   }
-  timeline(core) { return this.timelines[core] ??= new Timeline(this.onCore[core].flatMap(thread => this.stretches(thread))); }
-  stretches(thread) {
-    const track = this.track(thread), found = [];
-    for (let i = 0; i < track.n; i++) if (track.standing(i) === RUNNING) found.push([track.begin[i], track.begin[i + 1], thread, i]);
-    return found;
-  }
+  timeline(core) { return this.timelines[core] ??= new Timeline(this.onCore[core].map(thread => [thread, this.track(thread)])); }
   // the ticks up to a time in which a thread stood so, and in which a core was busy
   ticks(thread, standing, t) {
     const single = this.track(thread).ticks(standing, Math.min(t, this.single));
@@ -183,6 +195,7 @@ class Schedule {
   }
   countLost(thread, a, b) { return countIn(this.posts.lost[thread], a, b); }
   missedOn(core, a, b) { return this.onCore[core].reduce((sum, thread) => sum + this.countOf(thread, "Missed", a, b), 0); }
+  get ways() { return this.allWays ??= new Ways(this); }
   get posts() { return this.allPosts ??= new Posts(this); }
   get held() { return this.allHeld ??= new Held(this); }
   server(what, place) { return (this[what + "Of"] ??= this.servers.map((_, k) => new Stays(this, what, k)))[place]; }
@@ -214,19 +227,80 @@ class Posts {
 // What the context of each thread held, from one time to another.
 class Held {
   constructor(schedule) {
-    const at = prefixes(schedule.numbers("heldCount"));
-    this.read = thread => schedule.numbers("held", at[thread], at[thread + 1]);
-    this.has = thread => at[thread + 1] > at[thread];
+    this.schedule = schedule;
+    this.at = prefixes(schedule.numbers("heldCount"));
+    this.refillAt = prefixes(schedule.numbers("refillCount"));
     this.known = [];
   }
-  of(thread) { return this.known[thread] ??= this.parse(this.read(thread)); }
-  parse(numbers) {
-    const found = [];
-    for (let i = 0; i < numbers.length;) {
-      const [begin, end, isUsed, many] = numbers.subarray(i, i + 4), refills = [];
-      i += 4;
-      for (let k = 0; k < many; k++, i += 2) refills.push([begin + numbers[i], numbers[i + 1]]);
-      found.push({ begin, end, isUsed: isUsed > 0, refills });
+  has(thread) { return this.at[thread + 1] > this.at[thread]; }
+  of(thread) { return this.known[thread] ??= this.read(thread); }
+  read(thread) {
+    const read = names => names.map(name => this.schedule.numbers("held" + name, this.at[thread], this.at[thread + 1]));
+    const refills = ["Date", "Amount"].map(name => this.schedule.numbers("refill" + name, this.refillAt[thread], this.refillAt[thread + 1]));
+    return new Holdings(...read(["Gap", "Length", "Used", "Many"]), ...refills);
+  }
+}
+
+// The states of one budget in their order, and of each the least and the most that could be used, and all that it has.
+class Holdings {
+  constructor(gaps, lengths, used, many, dates, amounts) {
+    Object.assign(this, { n: lengths.length, used, dates, amounts });
+    this.end = prefixes(gaps.map((gap, i) => gap + lengths[i])).subarray(1);
+    this.begin = this.end.map((end, i) => end - lengths[i]);
+    this.refillAt = prefixes(many);
+    this.low = new Float64Array(this.n);
+    this.high = new Float64Array(this.n);
+    this.all = new Float64Array(this.n);
+    this.most = 1;
+    for (let i = 0; i < this.n; i++) this.measure(i, lengths[i]);
+  }
+  // what is in use gets less until the end; what is not in use gets more with each replenishment
+  measure(i, length) {
+    let first = 0, last = 0, all = 0;
+    for (let k = this.refillAt[i]; k < this.refillAt[i + 1]; k++) {
+      const amount = this.amounts[k];
+      all += amount;
+      if (this.dates[k] <= 0) first += amount;
+      if (this.dates[k] < length) last += amount;
+    }
+    this.low[i] = this.used[i] ? Math.max(0, first - length) : first;
+    this.high[i] = this.used[i] ? first : last;
+    this.all[i] = all;
+    if (all > this.most) this.most = all;
+  }
+  state(i) {
+    const refills = [];
+    for (let k = this.refillAt[i]; k < this.refillAt[i + 1]; k++) refills.push([this.begin[i] + this.dates[k], this.amounts[k]]);
+    return { begin: this.begin[i], end: this.end[i], isUsed: this.used[i] > 0, refills };
+  }
+  within(a, b) { return [firstAt(this.n, i => this.end[i] > a), firstAt(this.n, i => this.begin[i] >= b)]; }
+  // from the first state to before the last
+  least(first, after) { return (this.lows ??= new Levels(this.low, Math.min, Infinity)).of(first, after); }
+  greatest(first, after) { return (this.highs ??= new Levels(this.high, Math.max, -Infinity)).of(first, after); }
+}
+
+// The least or greatest of many numbers, from one place to before another.
+const FOLD = 8;
+class Levels {
+  constructor(numbers, pick, none) {
+    Object.assign(this, { levels: [numbers], pick, none });
+    for (let low = numbers; low.length > FOLD;) {
+      const high = new Float64Array(Math.ceil(low.length / FOLD)).fill(none);
+      for (let i = 0; i < low.length; i++) {
+        const place = Math.floor(i / FOLD);
+        high[place] = pick(high[place], low[i]);
+      }
+      this.levels.push(low = high);
+    }
+  }
+  of(first, after) {
+    let found = this.none;
+    for (const [place, level] of this.levels.entries()) {
+      const isTop = place === this.levels.length - 1;
+      while (first < after && (isTop || first % FOLD)) found = this.pick(found, level[first++]);
+      while (first < after && after % FOLD) found = this.pick(found, level[--after]);
+      if (first >= after) return found;
+      first /= FOLD; after /= FOLD;
     }
     return found;
   }
@@ -247,12 +321,12 @@ class Stays {
 }
 
 // Times and lengths in the one unit of the page.
+const NUMBERS = new Intl.NumberFormat("en-US", { maximumFractionDigits: 9 });
 const LETTERS = [[1e9, "G"], [1e6, "M"], [1e3, "k"]];
 class Unit {
   constructor(schedule) { this.tick = schedule.tick; this.name = schedule.unit; }
   bare(ticks) {
-    const number = this.tick === null ? ticks : Math.round(ticks * this.tick * 1e9) / 1e9;
-    return number.toLocaleString("en-US", { maximumFractionDigits: 9 });
+    return NUMBERS.format(this.tick === null ? ticks : Math.round(ticks * this.tick * 1e9) / 1e9);
   }
   text(ticks) { return this.tick === null ? this.bare(ticks) : this.bare(ticks) + " " + this.name; }
   short(ticks) {

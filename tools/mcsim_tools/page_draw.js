@@ -239,16 +239,38 @@ class Drawer {
   // below what can be used now, above it in greys what comes back later; the sum is the budget
   budget(row) {
     this.back("lane", row.top + 1, PLOT);
-    const paths = [[], [], [], []];
-    const held = this.schedule.held.of(row.thread);
-    const most = held.reduce((most, one) => Math.max(most, one.refills.reduce((sum, refill) => sum + refill[1], 0)), 1);
-    const first = firstAt(held.length, i => held[i].end > this.a);
-    const after = firstAt(held.length, i => held[i].begin >= this.b);
-    if (after - first > 4 * this.wide) return;
-    for (let i = first; i < after; i++) this.holding(held[i], row.top + 1 + PLOT, PLOT / most, paths);
-    const looks = [`use${this.lanes.colour(row.thread)}`, "come1", "come2", "come3"];
+    if (!this.schedule.held.has(row.thread)) return;
+    const held = this.schedule.held.of(row.thread), [first, after] = held.within(this.a, this.b), paths = [[], [], [], []];
+    const isSingle = after - first <= this.wide / COLUMN, base = row.top + 1 + PLOT, unit = PLOT / held.most;
+    if (isSingle) for (let i = first; i < after; i++) this.holding(held.state(i), base, unit, paths);
+    else this.heldColumns(held, base, unit, paths);
+    const colour = this.lanes.colour(row.thread), looks = [`use${colour}`, isSingle ? "come1" : `may${colour}`, isSingle ? "come2" : "come1", "come3"];
     const drawn = paths.map((path, k) => path.length ? `<path class="${looks[k]}" d="${path.join("")}"/>` : "");
     this.bars.push(`<g class="H" data-i="b.${row.thread}">${drawn.join("")}</g>`);
+  }
+  // of each column the least that could be used, above it what could be used at some time in it, and above that what is replenished later
+  heldColumns(held, base, unit, paths) {
+    const edges = this.edges(), many = edges.length - 1, [lows, mosts, alls] = [0, 1, 2].map(() => new Float64Array(many));
+    for (let k = 0; k < many; k++) {
+      const [first, after] = held.within(edges[k], edges[k + 1]);
+      if (first >= after) continue;
+      lows[k] = held.least(first, after);
+      mosts[k] = held.greatest(first, after);
+      alls[k] = held.all[first];
+    }
+    [new Float64Array(many), lows, mosts, alls].reduce((low, high, place) => {
+      this.band(low, high, edges, base, unit, paths[place - 1]);
+      return high;
+    });
+  }
+  // from one height to another, column by column; neighbours of one height are one
+  band(low, high, edges, base, unit, path) {
+    for (let k = 0; k < low.length;) {
+      const first = k++;
+      while (k < low.length && low[k] === low[first] && high[k] === high[first]) k++;
+      const [bottom, top] = [low[first], high[first]].map(ticks => fixed(base - ticks * unit));
+      if (low[first] < high[first]) path.push(`M${fixed(this.x(edges[first]))} ${bottom}V${top}H${fixed(this.x(edges[k]))}V${bottom}Z`);
+    }
   }
   holding(one, base, unit, paths) {
     const cuts = [one.begin, ...one.refills.map(([date]) => date).filter(date => one.begin < date && date < one.end), one.end];

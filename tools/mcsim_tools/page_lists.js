@@ -180,8 +180,9 @@ class Search {
     return servers.map((name, server) => [name, "server", () => this.view.bringCore(Math.max(0, serverCores[server]))]);
   }
   chains() {
-    const { chains, threads } = this.view.schedule;
-    return chains.map(([name, thread]) => [name, `chain, ends in ${threads[thread].name}`, () => this.view.bring(thread)]);
+    const { chains, threads, ways } = this.view.schedule;
+    const go = place => ways.longest[place] < 0 ? this.view.bring(chains[place].thread) : chainList.go(ways.way(ways.longest[place]));
+    return chains.map(({ name, thread }, place) => [name, `chain, ends in ${threads[thread].name}`, () => go(place)]);
   }
   show() {
     const items = this.hits.map(([name, what, go], place) => {

@@ -11,6 +11,9 @@ const NARROWEST = 120, SPARE = 40;
 
 const DEFAULTS = { overdue: "overdue", "never activated": "never" };
 
+// called after each drawing, on a page that has a server
+let onShow = null;
+
 class View {
   constructor(schedule, chosen) {
     this.schedule = schedule;
@@ -18,6 +21,11 @@ class View {
     this.lanes = new Lanes(schedule, chosen);
     this.drawer = new Drawer(schedule, this.lanes);
     this.words = new Words(schedule, this.unit, this);
+    this.wayWords = new WayWords(schedule, this.unit);
+    // the ways that are pointed at, and the one that was chosen from a list
+    this.pointedWays = []; this.chosenWay = null;
+    // parts of the run beyond the detail of the page, the last one first, and which of them or the page has what is in view
+    this.parts = []; this.source = schedule;
     this.lo = schedule.a; this.hi = Math.max(schedule.b, schedule.a + 1);
     this.cursor = null; this.light = -1; this.isPrinting = false; this.frames = 0;
     this.arrange();
@@ -41,7 +49,7 @@ class View {
     Object.assign(this, this.lanes.layout());
     const clip = `<clipPath id="clip"><rect x="${this.left - 6}" y="-50" width="${this.wide + 12}" height="${this.rows.bottom + 500}"/></clipPath>`;
     const pinned = `<g transform="translate(0 ${AXIS})"><g id="pinned" clip-path="url(#clip)"></g>${this.heads(this.pins)}</g>`;
-    const plot = '<g id="grid"></g><g clip-path="url(#clip)"><g id="plot"></g><g id="joins"></g><g id="cursor"></g></g>';
+    const plot = '<g id="grid"></g><g clip-path="url(#clip)"><g id="plot"></g><g id="joins"></g><g id="ways"></g><g id="cursor"></g></g>';
     this.fill($("top"), AXIS + (this.pins.list.length ? this.pins.bottom : 0), `<defs>${clip}</defs><g id="axis"></g>${pinned}`);
     this.fill($("main"), this.rows.bottom + 4, `${plot}${this.heads(this.rows)}<g id="margin">${this.margin()}</g>`);
     this.show();
@@ -102,6 +110,8 @@ class View {
     const began = performance.now(), { a, b } = this.schedule, span = clamp(this.hi - this.lo, this.least, this.span);
     this.lo = clamp(this.lo, a, Math.max(a, a + this.span - span));
     this.hi = this.lo + span;
+    this.source = this.sourceNow();
+    this.drawer.schedule = this.words.schedule = this.wayWords.schedule = this.source;
     const { scrollTop, clientHeight } = $("scroll");
     const seen = this.isPrinting ? this.rows.list : this.rows.seen(scrollTop - SPARE, scrollTop + clientHeight + SPARE);
     $("plot").innerHTML = this.drawer.draw(seen, this, this.isPrinting ? Infinity : undefined);
@@ -109,13 +119,20 @@ class View {
     $("joins").innerHTML = this.joins();
     $("pinned").innerHTML = this.drawer.draw(this.pins.list, this);
     this.showAxis();
+    this.showWays();
     this.showCursor();
     this.showLight();
     $("margin").style.display = this.hi >= b - 1e-6 ? "" : "none";
     this.tellWhere();
     overview?.showWindow();
+    onShow?.(this);
     this.frames++;
     this.took = performance.now() - began;
+  }
+  // what has single things of the window that is in view
+  sourceNow() {
+    if (this.hi <= this.schedule.single) return this.schedule;
+    return this.parts.find(part => part.a <= this.lo && this.hi <= part.single) ?? this.schedule;
   }
   joins() {
     if (!$("sig").checked || this.columnLanes > this.rows.list.length / 2) return "";
@@ -124,6 +141,16 @@ class View {
     const lines = this.drawer.joins(base);
     this.hidesSignals = lines === null;
     return lines ?? "";
+  }
+  // the ways that are pointed at, or else the one that was chosen
+  showWays() {
+    const ways = this.pointedWays.length ? this.pointedWays : this.chosenWay ? [this.chosenWay] : [], line = new WayLine(this);
+    $("ways").innerHTML = ways.map(way => line.draw(way)).join("");
+  }
+  point(ways) {
+    if (!ways.length && !this.pointedWays.length) return;
+    this.pointedWays = ways;
+    this.showWays();
   }
   step(span) {
     for (let power = 1; ; power *= 10) for (const step of [power, 2 * power, 5 * power]) if (this.wide * step >= APART * span) return step;
@@ -152,15 +179,17 @@ class View {
     for (const lane of document.querySelectorAll("#draw .lane")) lane.classList.toggle("hi", lane.dataset.name === name);
   }
   tellWhere() {
-    const { detail, b, command } = this.schedule;
+    const { detail, heldEnd, b, command } = this.schedule;
     const lo = Math.max(0, Math.floor(this.lo));
     const hi = Math.min(b, Math.ceil(this.hi));
     const hint = this.hidesSignals && $("sig").checked ? " (zoom in for signals)" : "";
     $("where").textContent = `${this.unit.text(Math.round(this.lo))} to ${this.unit.text(Math.round(this.hi))}${hint}`;
-    $("blunt").hidden = detail === null || this.hi <= detail;
-    if ($("blunt").hidden) return;
-    const advice = `This window singly: ${command} --from ${lo} --to ${hi} -o part.html`;
-    $("blunt").textContent = `From ${this.unit.text(detail)} on this page has shares of time only. ${advice}`;
+    const isBlunt = detail !== null && this.hi > detail && this.source === this.schedule;
+    const endsBudgets = this.lanes.hasBudgets && heldEnd !== null && this.hi > heldEnd && this.source === this.schedule;
+    $("blunt").hidden = !isBlunt && !endsBudgets;
+    const what = isBlunt ? [`From ${this.unit.text(detail)} on this page has shares of time only.`] : [];
+    if (endsBudgets) what.push(`Budgets are drawn up to ${this.unit.text(heldEnd)}.`);
+    $("blunt").textContent = `${what.join(" ")} This window singly: ${command} --from ${lo} --to ${hi} -o part.html`;
   }
 
   // ---- moving

@@ -20,7 +20,7 @@ class Words {
       t: () => this.share(first, t),
       k: () => this.core(first, t),
       n: () => `${this.nameOf(first)} ${this.text(third)} to ${this.text(+rest[3])}: ${this.count(first, rest[1], third, +rest[3])}`,
-      b: () => this.budget(first),
+      b: () => this.budget(first, t),
       o: () => this.order(this.schedule.orders[first]),
       u: () => this.underWay(this.schedule.sent[first]),
       v: () => this.server(rest[0], second, third),
@@ -68,9 +68,11 @@ class Words {
   }
   order([, moment, context]) { return `order for context ${context} at ${this.text(moment)}`; }
   underWay([note, maker, made]) { return `signal of ${this.nameOf(maker)} at ${this.text(made)} to ${note}, still under way`; }
-  budget(thread) {
-    const { name, context } = this.schedule.threads[thread];
-    return `${name}: what context ${context} holds: in colour what it may use now, in grey what comes back, the first below`;
+  budget(thread, t) {
+    const { name, context } = this.schedule.threads[thread], held = this.schedule.held.of(thread), [a, b] = this.pixel(t);
+    const [first, after] = held.within(a, b), isOne = after <= first + 1;
+    const could = isOne ? "" : `; about ${this.text(t)} at least ${this.text(held.least(first, after))}, at most ${this.text(held.greatest(first, after))} could be used`;
+    return `${name}: what context ${context} holds: in colour what it may use now, in grey what comes back, the first below${could}`;
   }
   server(what, server, i) {
     const stays = this.schedule.server(what, server);

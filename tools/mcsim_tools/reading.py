@@ -11,12 +11,15 @@ holds, which tells at a wake whether the thread is ready or throttled."""
 from __future__ import annotations
 
 import collections
+import copy
 from collections.abc import Collection, Iterable, Sequence
 from typing import NamedTuple, Optional
 
+from .chains import Answer, Brought, Carried, Chains
 from .refills import Refill, Refills
 from .rows import no_row, rows_of
 from .source import Told
+from .steps import ENTER, LEAVE, SIGNAL, Place, Scripts
 from .system import Context, System, Thread
 
 PENDING, READY, RUNNING, THROTTLED, BLOCKED, DONE = range(6)
@@ -86,6 +89,11 @@ class UnderWay(NamedTuple):
     core: int
     badge: int
     source: str = ''
+    carried: Optional[Carried] = None
+
+    def brought(self, moment: int) -> Optional[Brought]:
+        """What it brings of chains when it takes effect."""
+        return Brought(self.carried, self.made, moment) if self.carried else None
 
 
 class Holding(NamedTuple):
@@ -98,9 +106,10 @@ class Holding(NamedTuple):
 
 
 class Listener:
-    """What a reading tells; a tool overrides what it needs. `hears_holdings` tells whose budgets it follows."""
+    """What a reading tells; a tool overrides what it needs. `hears_holdings` tells whose budgets it follows, `hears_chains` whether it follows chains."""
 
     hears_holdings: Collection[str] = ()
+    hears_chains = False
 
     def entered(self, thread: Thread, moment: int, standing: int, date: Optional[int]) -> None:
         """From the moment on a thread stands so, for no time perhaps; one that is throttled until the date."""
@@ -121,7 +130,7 @@ class Listener:
     def ordered(self, context: Context, moment: int) -> None: ...
 
     def at_server(self, server: str, thread: Thread, begin: int, end: int) -> None:
-        """The thread waited for a server that was taken, and was let in at the end."""
+        """The thread waited for a server that was taken, and was let in at the end, or waited still."""
 
     def in_server(self, server: str, thread: Thread, begin: int, end: int) -> None:
         """The thread had a server, and left it at the end, or had it still."""
@@ -130,6 +139,9 @@ class Listener:
 
     def never(self, thread: Thread, horizon: int) -> None:
         """The thread has a deadline, and was not activated once."""
+
+    def answered(self, answer: Answer) -> None:
+        """An interrupt of a chain has its first answer. Of a round with many answers only the first ones are told."""
 
 
 class Account:
@@ -186,17 +198,39 @@ class Reading:
         self.refills = {
             name: Refills(thread.context, thread.start, system.min_budget, system.orders[thread.context.name]) for name, thread in system.threads.items()
         }
+        self.chains = Chains(system, listener.answered) if system.chains and listener.hears_chains else None
+        # at which step each thread is, followed where a server or a chain asks for it
+        self.scripts, self.places = Scripts(system.servers), dict[str, Place]()
+        self.follows_steps = bool(system.servers or self.chains)
         self.count = 0
         self.end = 0
 
+    def copy(self, listener: Listener) -> Reading:
+        """A reading that goes on from here for another listener. It follows chains from the interrupts on that are yet to come."""
+        other = copy.copy(self)
+        other.listener = listener
+        other.accounts = {name: copy.copy(account) for name, account in self.accounts.items()}
+        other.words, other.first_set = dict(self.words), dict(self.first_set)
+        other.taken_by, other.taken_since = dict(self.taken_by), dict(self.taken_since)
+        other.signals = collections.defaultdict(collections.deque)
+        for key, queue in self.signals.items():
+            other.signals[key].extend(signal._replace(carried=None) for signal in queue)
+        other.arriving = self.arriving and self.arriving._replace(carried=None)
+        other.refills = {name: refills.copy() for name, refills in self.refills.items()}
+        other.places = {name: copy.copy(place) for name, place in self.places.items()}
+        other.chains = Chains(self.system, listener.answered) if self.system.chains and listener.hears_chains else None
+        return other
+
     def read(self, lines: Iterable[str], horizon: Optional[int]) -> None:
+        """Reads the rows from where it is to the end."""
         heard = {
             'release': self.release, 'run': self.run, 'stop': self.stop, 'signal': self.signal, 'arrive': self.arrive, 'wake': self.wake,
             'hold': self.hold, 'got': self.got, 'round': self.round, 'order': self.order, 'interrupt': self.interrupt, 'enter': self.enter_server,
             'leave': self.leave_server,
         }
-        for name in self.accounts:
-            self.tell_held(name, 0, False)
+        for name, account in self.accounts.items():
+            is_used = account.standing == RUNNING
+            self.tell_held(name, account.chosen if is_used else self.end, is_used)
         for number, moment, core, kind, words in rows_of(lines):
             if horizon is not None and moment > horizon:
                 break
@@ -262,9 +296,16 @@ class Reading:
             account.end()
         else:
             account.begin(moment, moment)
+        if self.follows_steps:
+            place = self.place(words[3])
+            if self.chains:
+                self.chains.round(place, moment)
+            place.begin()
 
     def signal(self, moment: int, core: int, words: list[str]) -> None:
-        signal = UnderWay(self.accounts[words[3]].thread, moment, core, int(words[5]))
+        step = self.place(words[3]).advance(SIGNAL, words[4]) if self.follows_steps else None
+        carried = self.chains.signal(words[3], step) if self.chains and step else None
+        signal = UnderWay(self.accounts[words[3]].thread, moment, core, int(words[5]), carried=carried)
         if self.system.home_of[words[4]] == core:
             self.arriving = signal
         else:
@@ -277,13 +318,18 @@ class Reading:
     def interrupt(self, moment: int, core: int, words: list[str]) -> None:
         if self.system.sources[words[3]] != words[4]:
             raise ValueError
-        self.arriving = UnderWay(None, moment, core, int(words[5]), words[3])
+        self.arriving = UnderWay(None, moment, core, int(words[5]), words[3], self.chains.interrupt(words[3], moment) if self.chains else None)
 
     def wake(self, moment: int, core: int, words: list[str]) -> None:
         account = self.accounts[words[3]]
         if account.standing != BLOCKED or account.why == 'call':
             raise ValueError
-        self.post(words[4], moment, account.thread, WOKE)
+        signal = self.post(words[4], moment, account.thread, WOKE)
+        if self.follows_steps:
+            place = self.place(words[3])
+            step = place.take(words[4], int(words[5]))
+            if self.chains:
+                self.chains.wake(place, step, words[4], signal.badge, signal.brought(moment), moment)
         if account.is_activated_by(int(words[5])):
             account.begin(moment, moment)
         self.resume(account, moment)
@@ -293,6 +339,7 @@ class Reading:
         if self.taken_by[server] is not None:
             raise ValueError
         self.taken_by[server], self.taken_since[server] = words[3], moment
+        self.place(words[3]).advance(ENTER, server)
         # a thread that runs goes on; one that waits for the server is let in by the one that leaves it
         if account.standing == BLOCKED and account.why == 'call':
             self.listener.at_server(server, account.thread, account.since, moment)
@@ -303,6 +350,7 @@ class Reading:
     def leave_server(self, moment: int, core: int, words: list[str]) -> None:
         if self.accounts[words[3]].standing != RUNNING or self.taken_by[words[4]] != words[3]:
             raise ValueError
+        self.place(words[3]).advance(LEAVE, words[4])
         self.leave(words[4], moment)
 
     def hold(self, moment: int, core: int, words: list[str]) -> None:
@@ -312,7 +360,9 @@ class Reading:
             self.first_set[note] = moment
         self.listener.word(note, moment, word)
         waiters = self.system.waiters[note]
-        self.post(note, moment, waiters[0] if waiters else None, HELD if not was else LOST if was == word else MERGED)
+        signal = self.post(note, moment, waiters[0] if waiters else None, HELD if not was else LOST if was == word else MERGED)
+        if self.chains:
+            self.chains.hold(note, signal.badge, signal.brought(moment))
 
     def got(self, moment: int, core: int, words: list[str]) -> None:
         account, note = self.accounts[words[3]], words[4]
@@ -320,6 +370,11 @@ class Reading:
         self.listener.word(note, moment, 0)
         if account.is_activated_by(int(words[5])):
             account.begin(moment, self.first_set[note])
+        if self.follows_steps:
+            place = self.place(words[3])
+            step = place.take(note, int(words[5]))
+            if self.chains:
+                self.chains.got(place, step, note, moment)
 
     def order(self, moment: int, core: int, words: list[str]) -> None:
         context = self.system.contexts[words[3]]
@@ -333,6 +388,12 @@ class Reading:
             self.tell_held(thread.name, moment, False)
 
     # ---- what rows come to
+
+    def place(self, thread: str) -> Place:
+        """At which step a thread is."""
+        if thread not in self.places:
+            self.places[thread] = Place(self.system.threads[thread], self.scripts)
+        return self.places[thread]
 
     def leave(self, server: str, moment: int) -> None:
         """Ends the stay of the thread that has a server, if one has it."""
@@ -368,16 +429,21 @@ class Reading:
         if name in self.listener.hears_holdings:
             self.listener.holds(Holding(self.accounts[name].thread, self.refills[name].list, moment, is_used))
 
-    def post(self, note: str, moment: int, thread: Optional[Thread], outcome: str) -> None:
-        maker, made, core, badge, source = self.arriving or UnderWay(None, moment, self.system.home_of[note], 0)
+    def post(self, note: str, moment: int, thread: Optional[Thread], outcome: str) -> UnderWay:
+        signal = self.arriving or UnderWay(None, moment, self.system.home_of[note], 0)
         self.arriving = None
+        maker, made, core, badge, source, _ = signal
         self.listener.posted(Post(note, badge, maker, made, core, moment, thread, outcome, source))
+        return signal
 
     def close(self) -> None:
         """What is open at the end."""
         for account in self.accounts.values():
             self.tell_stood(account, self.end)
             self.close_round(account)
+            if account.standing == BLOCKED and account.why == 'call':
+                server = self.place(account.thread.name).next().name
+                self.listener.at_server(server, account.thread, account.since, self.end)
         for server in self.taken_by:
             self.leave(server, self.end)
         for (_, note), queue in self.signals.items():

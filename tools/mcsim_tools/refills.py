@@ -1,6 +1,8 @@
 """What a context holds, followed from rows and file alone by the rules of docs/MODEL.md."""
 from __future__ import annotations
 
+import copy
+
 from .system import Context, Order
 
 # a refill: its date and its amount
@@ -17,6 +19,11 @@ class Refills:
         self.is_slice, self.is_bandwidth = context.is_round_robin, context.is_bandwidth
         self.list: list[Refill] = [[start, context.budget]]
         self.orders = iter(orders)
+
+    def copy(self) -> Refills:
+        other = copy.copy(self)
+        other.list, other.orders = [list(refill) for refill in self.list], copy.copy(self.orders)
+        return other
 
     def is_ready(self, moment: int) -> bool:
         return self.is_slice or self.list[0][0] <= moment

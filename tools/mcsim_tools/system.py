@@ -62,6 +62,7 @@ class Thread:
     activated_by: Optional[str]
     # the bits of which such a word has to have one, where nothing but handlers follows that wait; None: each word will do
     bits: Optional[int] = None
+    script: Sequence[Item] = ()
 
     @property
     def core(self) -> int:
@@ -78,6 +79,21 @@ def has_one_of(word: int, bits: Optional[int]) -> bool:
 
 
 @dataclass(frozen=True)
+class Chain:
+    """A way from the interrupts of a source to the rounds of a thread that answer them; no badges and no deadline are 0."""
+
+    name: str
+    source: str
+    thread: str
+    badges: int
+    deadline: int
+
+    def is_answered_by(self, word: int) -> bool:
+        """Whether a round of the thread with this word answers."""
+        return not self.badges or self.badges & word != 0
+
+
+@dataclass(frozen=True)
 class System:
     """A system: its parts by name, each in the order of the file."""
 
@@ -90,10 +106,10 @@ class System:
     orders: dict[str, list[Order]]
     # the word that each notification holds at first
     words: dict[str, int] = field(default_factory=dict)
-    servers: frozenset[str] = frozenset()
-    # for each source the notification that it signals, and for each chain the thread at its end
+    # the script of each server, and for each source the notification that it signals
+    servers: Mapping[str, Sequence[Item]] = field(default_factory=dict)
     sources: dict[str, str] = field(default_factory=dict)
-    chains: dict[str, str] = field(default_factory=dict)
+    chains: dict[str, Chain] = field(default_factory=dict)
     thread_of: dict[str, Thread] = field(init=False)
     waiters: dict[str, list[Thread]] = field(init=False)
     # for each notification the bits that leave something to do to a thread whose script begins with a wait for it
@@ -219,7 +235,12 @@ def thread_of(number: int, table: Tables, contexts: Mapping[str, Context], waits
     first = items[0][1] if items[0][0] == 'wait' else None
     start, deadline = whole(table, 'start', 0), whole(table, 'deadline', 0)
     bits = None if first is None else bits_of(items)
-    return Thread(number, name_of(table), contexts[table['context']], whole(table, 'priority'), start, deadline, waits.of(items), first, bits)
+    return Thread(number, name_of(table), contexts[table['context']], whole(table, 'priority'), start, deadline, waits.of(items), first, bits, items)
+
+
+def chain_of(table: Tables, sources: Mapping[str, object], threads: Mapping[str, object]) -> Chain:
+    source, thread = part_of(sources, table['source']), part_of(threads, table['thread'])
+    return Chain(name_of(table), source, thread, whole(table, 'badges', 0, most=GREATEST_WORD), whole(table, 'deadline', 0))
 
 
 def orders_of(tables: Tables, contexts: Mapping[str, Context]) -> dict[str, list[Order]]:
@@ -241,9 +262,9 @@ def system_of(tables: Tables) -> System:
     words = {table['name']: whole(table, 'word', 0, most=GREATEST_WORD) for table in tables.get('note', [])}
     sources = {name_of(table): part_of(home_of, table['note']) for table in tables.get('source', [])}
     by_name = {thread.name: thread for thread in threads}
-    chains = {name_of(table): part_of(by_name, table['thread']) for table in tables.get('chain', [])}
+    chains = {chain.name: chain for chain in (chain_of(table, sources, by_name) for table in tables.get('chain', []))}
     orders = orders_of(tables, contexts)
-    return System(cores, whole(tables, 'min_budget', 1), contexts, home_of, by_name, orders, words, frozenset(waits.scripts), sources, chains)
+    return System(cores, whole(tables, 'min_budget', 1), contexts, home_of, by_name, orders, words, waits.scripts, sources, chains)
 
 
 def read_bytes(path: pathlib.Path) -> bytes:

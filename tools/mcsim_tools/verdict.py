@@ -162,7 +162,7 @@ def counted(lines: Sequence[str], system: System, of: Collection[str]) -> dict[s
     """How much was found of each kind; of threads where some are given, with the signals that were lost at notifications for which they wait, and the
     chains that end with them."""
     notes = {note for name in of for note in system.threads[name].waits}
-    chains = {chain for chain, name in system.chains.items() if name in of}
+    chains = {chain.name for chain in system.chains.values() if chain.thread in of}
     wanted = {'lost': notes, **dict.fromkeys(OF_CHAINS, chains)}
     counts: collections.Counter[str] = collections.Counter()
     for line in lines:

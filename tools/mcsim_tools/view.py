@@ -12,6 +12,7 @@ from __future__ import annotations
 import argparse
 import decimal
 import shlex
+from collections.abc import Callable, Iterable, Iterator
 from dataclasses import dataclass
 from typing import NamedTuple, Optional
 
@@ -20,7 +21,7 @@ from .changes import Verdict, verdict_of
 from .drawing import Frame, Picture
 from .faults import Fault
 from .packing import Packed
-from .page import page
+from .page import chains_of, page
 from .printable import printable
 from .reading import Reading, read
 from .scale import Clock, Unit
@@ -29,6 +30,8 @@ from .source import Told, Words, moment
 from .style import Theme
 from .tally import Tally
 
+# takes marks along the lines that a reading reads
+Marker = Callable[[Iterable[str], Reading, Packed], Iterator[str]]
 MOST = 20_000
 WIDTH = 1200
 LANES = 150
@@ -124,13 +127,13 @@ class Page(NamedTuple):
     verdict: Verdict
 
 
-def draw_page(told: Told, words: argparse.Namespace, window: Window, live: Optional[int] = None) -> Page:
-    """Draws a page; a live one has a number."""
+def draw_page(told: Told, words: argparse.Namespace, window: Window, live: Optional[int] = None, marks: Optional[Marker] = None) -> Page:
+    """Draws a page; a live one has a number, and marks from which parts of it can be read."""
     asked = lanes.asked(told.system, words.threads, words.cores)
     plotted = lanes.choose_budgets(told.system, words.budgets)
-    budgets = () if words.budgets in ('auto', 'none') else plotted
-    packed = Packed(told.system, window.begin, window.end, words.most or packing.MOST, budgets)
-    reading = read(told, packed)
+    packed = Packed(told.system, window.begin, window.end, words.most or packing.MOST, lanes.budgets_asked(told.system, words.budgets))
+    reading = Reading(told.system, packed)
+    reading.read(marks(told.lines, reading, packed) if marks else told.lines, told.horizon)
     packed.close(reading, window.end)
     most = words.lanes or (LANES if len(asked) <= LANES else FIRST_LANES)
     choice, unit = lanes.Choice.of(asked, packed.findings, most), Clock(words.tick_us).unit(reading.end)
@@ -138,7 +141,7 @@ def draw_page(told: Told, words: argparse.Namespace, window: Window, live: Optio
     ticks = '' if words.tick_us is None else f' --tick-us {words.tick_us}'
     heading = {
         'name': name, 'under': under, 'title': f'{name}: {under}', 'end': reading.end, 'plotted': sorted(packed.place[name] for name in plotted),
-        'chosen': sorted(packed.place[name] for name in choice.threads),
+        'chosen': sorted(packed.place[name] for name in choice.threads), 'chains': chains_of(packed, reading.chains, reading.end),
         'command': f'tools/view {printable(shlex.quote(str(words.system)))} --horizon {reading.end}{ticks}',
     }
     return Page(page(packed, unit, heading, Theme(words.theme), live), verdict_of(packed, unit))

@@ -127,9 +127,24 @@ class Live(unittest.TestCase):
         self.assertEqual(self.ask(host='evil.example', method='POST'), (403, ''))
 
     def test_it_serves_no_path_and_takes_no_command(self) -> None:
-        for path in ('/one.toml', '/../one.toml', f'/{self.system}', '/?--horizon=5', '/state/'):
+        self.wait_for(1, None)
+        parts = ['/part/1/5', '/part/1/5/1', '/part/1/0/13', '/part/2/0/12', '/part/1/0/12/', '/part/1/-1/5', '/part/01/0/5', '/part/1/0/' + '9' * 14, '/part/1/0/5?x']
+        for path in ('/one.toml', '/../one.toml', f'/{self.system}', '/?--horizon=5', '/state/', *parts):
             self.assertEqual(self.ask(path), (404, ''), path)
         self.assertEqual([self.ask(method=method)[0] for method in ('POST', 'PUT', 'DELETE')], [501] * 3)
+
+    def test_a_part_of_the_run(self) -> None:
+        self.wait_for(1, None)
+        status, text = self.ask('/part/1/4/11')
+        part = json.loads(text)
+        self.assertEqual((status, part['data']['a'], part['data']['b'], part['data']['detail']), (200, 4, 11, None))
+        # throttled 4 to 5, running to 7, throttled to 10, running to 11
+        self.assertEqual(dict((name, many) for name, many, _ in part['data']['arrays'])['segLength'], 4)
+        self.assertEqual(self.ask('/part/1/4/11', origin='http://evil.example'), (403, ''))
+        self.save(ONE + '# saved\n', LATER_ROWS)
+        self.wait_for(2, None)
+        # a picture that is no longer shown has no parts
+        self.assertEqual((self.ask('/part/1/4/11')[0], self.ask('/part/2/4/11')[0]), (404, 200))
 
     def test_it_follows_the_file(self) -> None:
         self.wait_for(1, None)
