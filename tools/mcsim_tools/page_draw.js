@@ -1,6 +1,6 @@
 // Draws lanes for a window of time as the text of SVG elements: single things, or shares of time by columns where they are too many.
 // A drawn thing says what it is in data-i: its kind, and where to find it. Its words are made when somebody points at it.
-const COLOURS = 6, MANY = 5000, COLUMN = 2, JOINS = 160, CROWDED = 18, FEW = 4, LETTER = 6.6, NEAR = 8;
+const COLOURS = 6, MANY = 1800, COLUMN = 2, JOINS = 160, CROWDED = 18, FEW = 4, LETTER = 6.6, NEAR = 8;
 const HEIGHT = { [RUNNING]: BAR, [READY]: 7, [THROTTLED]: 8, [BLOCKED]: 1.6 };
 const SMALL = new Set(["up", "down", "hold", "lost", "end", "endlate"]);
 const LEFT_OUT = new Set(["made", "down"]);
