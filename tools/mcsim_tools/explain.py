@@ -7,7 +7,7 @@ Says what the first fault of a system's file means, and where it stands. It runs
     what may stand there, and the known word that is nearest to the one that was written
 
 Without a fault it prints one line and ends with 0; else its exit code is that of mcsim, and 2 where FILE cannot be read. docs/FAULTS.md has each fault
-with a file that has it. The program is --program, or what the variable MCSIM names, or the mcsim that stands beside this folder, or the one on PATH."""
+with its cause and the line that mends it. The program is --program, or what the variable MCSIM names, or the mcsim that stands beside this folder, or the one on PATH."""
 from __future__ import annotations
 
 import pathlib
