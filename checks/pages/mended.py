@@ -1,5 +1,5 @@
 #!/usr/bin/env python3
-"""Tells whether docs/FAULTS.md is right: it names each fault of a file or a run and has a diff for it, whose wrong file gives the fault, and the mended file none.
+"""Holds docs/FAULTS.md to the program: it names each fault of a file or a run and has a diff for it, whose wrong file gives the fault, and the mended file none.
 
 A diff goes from wrong to right, with the line that the wrong one gives after '#'. It is of docs/every_table.toml, or a whole file if it begins with the
 version, or of commands. The mended file or command runs to the end without a word. tools/explain tells the fault of each wrong file with a line of it

@@ -1,5 +1,5 @@
 #!/usr/bin/env python3
-"""Tells whether what the tools read off rows of chains is what a second reading finds, on random systems.
+"""Compares what the tools read off rows of chains with a second reading, on random systems.
 
 Behind the ways and latencies of a page is tools/mcsim_tools/chains.py, and the second reading is checks/program/chain_reading.py. Both say which
 interrupts of a chain got a first answer, and when, which answers came too late, and which interrupt has none. The way of each answer is one: it begins
