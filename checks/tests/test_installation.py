@@ -17,6 +17,9 @@ Change = Callable[[pathlib.Path], object]
 # few files of each kind, so that an installation can be broken off at each of its steps
 INSTALLED = """mcsim lib/mcsim/mcsim bin/mcsim
 launcher/install.sh lib/mcsim/launcher/install.sh
+launcher/words.sh lib/mcsim/launcher/words.sh
+launcher/terminal.sh lib/mcsim/launcher/terminal.sh
+launcher/typed.sh lib/mcsim/launcher/typed.sh
 bin/mcsim lib/mcsim/bin/mcsim
 bin/SOURCES lib/mcsim/bin/SOURCES
 tools/view lib/mcsim/tools/view bin/mcsim-view
@@ -24,8 +27,8 @@ docs/mcsim.1 share/man/man1/mcsim.1
 """
 # what stands below the prefix then
 FILES = {
-    'lib/mcsim/installed', 'lib/mcsim/mcsim', 'lib/mcsim/launcher/install.sh', 'lib/mcsim/bin/mcsim', 'lib/mcsim/bin/SOURCES', 'lib/mcsim/tools/view',
-    'share/man/man1/mcsim.1', 'bin/mcsim', 'bin/mcsim-view',
+    'lib/mcsim/installed', 'lib/mcsim/mcsim', 'lib/mcsim/launcher/install.sh', 'lib/mcsim/launcher/words.sh', 'lib/mcsim/launcher/terminal.sh',
+    'lib/mcsim/launcher/typed.sh', 'lib/mcsim/bin/mcsim', 'lib/mcsim/bin/SOURCES', 'lib/mcsim/tools/view', 'share/man/man1/mcsim.1', 'bin/mcsim', 'bin/mcsim-view',
 }
 PLACES = sorted(FILES - {'lib/mcsim/installed'})
 # stops the launcher before its Nth call of such a command, or behind it

@@ -6,6 +6,7 @@ _mcsim_tools() {
         mcsim-explain) words='--help --version --program' ;;
         mcsim-live) words='--help --version --horizon --program --from --to --tick-us --budgets --threads --cores --lanes --most --width --theme --port --limit' ;;
         mcsim-microkit) words='--help --version --work --partial --tick-us --output' ;;
+        mcsim-pretty) words='--help --version --color --tick-us --rows --system --run' ;;
         mcsim-sweep) words='--help --version --set --least --greatest --of --horizon --jobs --emit --run --again --collect --program --checker --output' ;;
         mcsim-tasks) words='--help --version --priorities --clocks --random --utilisation --seed --periods --list --analyse --horizon --program --output' ;;
         mcsim-trace) words='--help --version --horizon --program --rows --tick-ns --budgets --output' ;;
@@ -15,6 +16,7 @@ _mcsim_tools() {
     esac
     case $tool:$before in
         mcsim-live:--theme) values='auto light dark' ;;
+        mcsim-pretty:--color) values='auto always never' ;;
         mcsim-tasks:--priorities) values='given rate deadline' ;;
         mcsim-view:--theme) values='auto light dark' ;;
     esac
@@ -27,4 +29,4 @@ _mcsim_tools() {
         mapfile -t COMPREPLY < <(compgen -f -- "$word")
     fi
 }
-complete -F _mcsim_tools mcsim-compare mcsim-explain mcsim-live mcsim-microkit mcsim-sweep mcsim-tasks mcsim-trace mcsim-view mcsim-waves mcsim-worst
+complete -F _mcsim_tools mcsim-compare mcsim-explain mcsim-live mcsim-microkit mcsim-pretty mcsim-sweep mcsim-tasks mcsim-trace mcsim-view mcsim-waves mcsim-worst

@@ -1,0 +1,282 @@
+"""The tables and the sentence of a verdict, line by line."""
+from __future__ import annotations
+
+import io
+import json
+import os
+import pathlib
+import subprocess
+import sys
+import tempfile
+import unittest
+from decimal import Decimal
+from typing import Any, Optional
+
+from worked import TOOLS
+from mcsim_tools import colours, concluding, pretty, scale, tabling
+from mcsim_tools.concluding import Asked
+from mcsim_tools.tabling import Look, Table
+
+MISS = {'moment': 11, 'core': 0, 'kind': 'miss', 'thread': 'Loop', 'number': 1, 'response': 9, 'deadline': 5}
+LOST = {'moment': 20, 'core': 0, 'kind': 'lost', 'note': 'tick', 'word': 1}
+NOTHING = {'kind': 'counts', 'missed': 0, 'overdue': 0, 'lost': 0, 'never': 0, 'merged': 0, 'allowed': 0, 'hints': 0}
+WHY = [
+    {'moment': 4, 'core': 1, 'kind': 'arrive', 'note': 'tick', 'badge': 1, 'from': 2}, {'moment': 15, 'core': 1, 'kind': 'run', 'thread': 'B'},
+    {'kind': 'why', 'thread': 'B', 'number': 2, 'from': 4, 'to': 24, 'waited': 0, 'activated': 4, 'begun': 4, 'ended': 24},
+    {'kind': 'ran', 'thread': 'A', 'ticks': 3}, {'kind': 'ran', 'thread': 'B', 'ticks': 7}, {'kind': 'ran', 'thread': 'C', 'ticks': 4}, {'kind': 'idle', 'ticks': 6},
+]
+MS = scale.Unit(Decimal('0.5'), 'ms')
+RED, END = '\x1b[1;31m', '\x1b[0m'
+
+
+def table(*rows: dict[str, Any], width: int = 80, unit: scale.Unit = scale.TICKS, has_colours: bool = False) -> list[str]:
+    return list(Table(rows, Look(width, unit, colours.Paint(has_colours))).lines())
+
+
+def counts(**found: int) -> dict[str, Any]:
+    return {**NOTHING, **found}
+
+
+def sentence(*lines: dict[str, Any], asked: Asked = Asked(), status: Optional[int] = None, unit: scale.Unit = scale.TICKS) -> str:
+    verdict = pretty.Verdict(False)
+    for line in lines:
+        verdict.add(line)
+    found = concluding.conclusion(verdict.facts, asked, status if status is not None else 5 if any(verdict.facts.findings()) else 0, unit)
+    assert found is not None
+    return found.text
+
+
+def shown(*lines: dict[str, Any], width: int = 80, rows: bool = False, is_why: bool = False, asked: Asked = Asked(), status: int = 0) -> list[str]:
+    verdict = pretty.Verdict(rows, is_why)
+    verdict.read(json.dumps(line) + '\n' for line in lines)
+    out = io.StringIO()
+    pretty.show(verdict, pretty.View(Look(width), out), asked, status)
+    return out.getvalue().splitlines()
+
+
+class Tables(unittest.TestCase):
+    def test_keys_are_heads_numbers_stand_right_and_texts_left(self) -> None:
+        found = table({'kind': 'new', 'moment': 5, 'who': 'A', 'n': 7}, {'kind': 'new', 'moment': 12, 'who': 'Bob', 'n': 10})
+        self.assertEqual(found, ['moment  who   n', '     5  A     7', '    12  Bob  10'])
+
+    def test_a_key_of_several_words_is_as_many_lines(self) -> None:
+        self.assertEqual(table({'a': 1, 'ticks_ready': 20, 'ends_no_more': 3}), [
+            '          ends',
+            '   ticks    no',
+            'a  ready  more',
+            '1     20     3',
+        ])
+
+    def test_what_a_row_does_not_have_is_a_dash_and_its_column_stays_in_place(self) -> None:
+        found = table({'thread': 'A', 'deadline': 5}, {'thread': 'B', 'greatest': 17, 'deadline': 9})
+        self.assertEqual(found, ['thread  greatest  deadline', 'A              -         5', 'B             17         9'])
+
+    def test_columns_of_zeros_are_named_below(self) -> None:
+        found = table({'thread': 'A', 'ready': 0, 'woken': 0, 'n': 0}, {'thread': 'B', 'ready': 0, 'woken': 0, 'n': 1})
+        self.assertEqual(found, ['thread  n', 'A       0', 'B       1', '0 in each: ready, woken'])
+        self.assertEqual(table({'thread': 'A', 'ready': 0}), ['thread  ready', 'A           0'])
+
+    def test_a_wide_table_goes_on_below_with_the_names_of_its_rows(self) -> None:
+        rows = ({'thread': 'A', 'alpha': 1, 'beta': 2, 'gamma': 3, 'delta': 4}, {'thread': 'B', 'alpha': 5, 'beta': 6, 'gamma': 7, 'delta': 8})
+        self.assertEqual(table(*rows, width=24), [
+            'thread  alpha  beta',
+            'A           1     2',
+            'B           5     6',
+            'thread  gamma  delta',
+            'A           3      4',
+            'B           7      8',
+        ])
+        # 31 characters by two, and 27 by one
+        self.assertEqual(table(*rows, width=30)[0], 'thread alpha beta gamma delta')
+
+    def test_times_are_in_the_unit_shares_per_cent_and_other_numbers_as_they_are(self) -> None:
+        found = table({'moment': 5, 'granted': 375000, 'number': 5, 'ticks_ready': 2}, {'moment': 24, 'granted': 1000000, 'number': 6, 'ticks_ready': 3}, unit=MS)
+        self.assertEqual(found, [
+            '                         ticks',
+            'moment  granted          ready',
+            '    ms        %  number     ms',
+            '   2.5     37.5       5    1.0',
+            '  12.0    100.0       6    1.5',
+        ])
+
+    def test_what_is_wrong_is_red(self) -> None:
+        found = table({'margin': -3, 'lost': 0}, {'margin': 4, 'lost': 2}, has_colours=True)
+        self.assertEqual(found[1:], [f'{RED}    -3{END}     0', f'     4  {RED}   2{END}'])
+
+    def test_no_line_is_wider_than_the_terminal(self) -> None:
+        long = {f'{name}_{number}': number * 10**number for number in range(9) for name in ('ticks', 'other')}
+        rows = [{'thread': 'A' * length, 'number': length, **long, 'margin': -length} for length in (1, 9, 14)]
+        for width in range(34, 210):
+            found = table(*rows, width=width)
+            self.assertLessEqual(max(map(len, found)), width)
+            # each value is in it
+            for key, value in long.items():
+                self.assertIn(str(value), ' '.join(found).split(), key)
+
+    def test_a_control_character_does_nothing(self) -> None:
+        self.assertEqual(table({'thread': 'a\x1b[2J'})[1], 'a?[2J')
+
+
+class Sentences(unittest.TestCase):
+    def test_threads_that_miss(self) -> None:
+        other = {**MISS, 'thread': 'Late', 'moment': 40}
+        self.assertEqual(sentence(MISS, counts(missed=1)), '1 thread misses its deadline; first: Loop, round 1, at 11')
+        self.assertEqual(sentence(MISS, MISS, counts(missed=2), asked=Asked(threads=9)), '1 of 9 threads misses its deadline; first: Loop, round 1, at 11')
+        found = sentence(MISS, other, LOST, counts(missed=2, lost=1, hints=2, merged=7), asked=Asked(threads=9))
+        self.assertEqual(found, '2 of 9 threads miss their deadline; first: Loop, round 1, at 11; also 1 signal lost, 2 hints')
+
+    def test_times_are_in_the_unit(self) -> None:
+        self.assertEqual(sentence(MISS, counts(missed=1), unit=MS), '1 thread misses its deadline; first: Loop, round 1, at 5.5 ms')
+
+    def test_other_findings(self) -> None:
+        self.assertEqual(sentence(LOST, LOST, counts(lost=2)), 'No deadline is missed, but there is: 2 signals lost; first: lost, tick, at 20')
+
+    def test_a_kind_of_finding_that_comes_along_has_its_key(self) -> None:
+        found = sentence({'kind': 'gone', 'thread': 'A'}, counts(gone=3), status=5)
+        self.assertEqual(found, 'No deadline is missed, but there is: 3 gone')
+
+    def test_misses_that_are_not_listed(self) -> None:
+        self.assertEqual(sentence(counts(missed=3, never=1), status=5), '3 jobs miss their deadline; also 1 thread never activated')
+
+    def test_hints_alone(self) -> None:
+        hint = {'kind': 'hint', 'hint': 'unbound', 'context': 'spare'}
+        self.assertEqual(sentence(hint, counts(hints=1), asked=Asked(30, 3, 2)), 'All deadlines are met up to 30; 1 hint')
+        self.assertEqual(sentence(hint, counts(hints=1), asked=Asked(30, 3, 2), status=5), 'No deadline is missed, but there is: 1 hint')
+
+    def test_nothing(self) -> None:
+        self.assertEqual(sentence(NOTHING, asked=Asked(30, 3, 1)), 'The deadline is met up to 30')
+        self.assertEqual(sentence(NOTHING, asked=Asked(30, 3, 0), unit=MS), 'Nothing is found up to 15 ms: no thread has a deadline')
+        self.assertEqual(sentence(NOTHING), 'All deadlines are met')
+
+    def test_a_verdict_that_is_cut_off_has_none(self) -> None:
+        self.assertIsNone(concluding.conclusion(concluding.Facts(), Asked(), 0, scale.TICKS))
+        self.assertEqual(shown(MISS, status=4)[-1], '    11     0  Loop         1         9         5')
+
+    def test_all_time(self) -> None:
+        sets = {'kind': 'sets', 'sets': 3, 'repeating': 3, 'findings': 0}
+        self.assertEqual(sentence(sets), 'For ever no deadline is missed, and no signal is lost unless that is allowed; 3 of 3 sets of cores repeat')
+        found = sentence({**sets, 'repeating': 1}, status=6)
+        self.assertEqual(found, 'Nothing is found so far, and nothing is known of later times: 1 of 3 sets of cores repeats')
+        miss = {'kind': 'miss', 'thread': 'Loop', 'each_period': 9, 'before': 12}
+        found = sentence(miss, {**sets, 'findings': 1}, asked=Asked(threads=3))
+        self.assertEqual(found, '1 of 3 threads misses its deadline; first: Loop, 9 each period, 12 before; 3 of 3 sets of cores repeat')
+
+
+class Shown(unittest.TestCase):
+    def test_a_kind_that_comes_along_has_a_table_of_its_keys(self) -> None:
+        found = shown({'moment': 12, 'core': 1, 'kind': 'slow', 'chain': 'e', 'latency': 9, 'deadline': 8, 'origin': 3}, {'kind': 'chain', 'chain': 'e', 'answered': 1}, counts(slow=1), status=5)
+        self.assertEqual(found[:7], ['slow', 'moment  core  chain  latency  deadline  origin', '    12     1  e            9         8       3', '', 'chain', 'chain  answered', 'e             1'])
+        self.assertEqual(found[-1], 'No deadline is missed, but there is: 1 answer late; first: slow, e, at 12')
+
+    def test_kinds_come_in_their_order_each_with_its_number(self) -> None:
+        found = shown(MISS, LOST, {**MISS, 'moment': 13, 'number': 2}, counts(missed=2, lost=1), status=5)
+        self.assertEqual([line for line in found if line.split('(')[0].strip() in ('miss', 'lost', 'counts')], ['miss (2)', 'lost', 'counts'])
+
+    def test_many_rows_are_cut_and_counted(self) -> None:
+        many = [{**MISS, 'moment': moment} for moment in range(250)]
+        found = shown(*many, counts(missed=250), status=5)
+        self.assertEqual(found[0], 'miss (250)')
+        # a head, the rows, what is 0, and what is left
+        self.assertEqual(found[101], '    99  Loop         1         9         5')
+        self.assertEqual(found[103], 'and 150 more: --rows shows 10000, and --format text, csv or json all of them')
+        self.assertEqual(len(shown(*many, counts(missed=250), rows=True, status=5)) - len(found), 150 - 1)
+
+    def test_why_answers_first_and_has_the_rows_if_they_are_wanted(self) -> None:
+        answer = ['B, round 2, from 4 to 24: it ran for 7 ticks, other threads for 7 ticks, and its', '  core was idle for 6 ticks', '', 'why']
+        found = shown(*WHY, is_why=True)
+        self.assertEqual(found[:4], answer)
+        self.assertEqual(found[-1], '--rows shows the 2 rows of its core, too')
+        found = shown(*WHY, is_why=True, rows=True)
+        self.assertEqual(found[:4], answer)
+        self.assertEqual(found[-3:], ['rows (2)', ' 4  1  arrive  note tick  badge 1  from 2', '15  1  run     thread B'])
+
+    def test_sets_of_cores_head_their_lines(self) -> None:
+        sets = [{'kind': 'repeats', 'cores': '0 1', 'from': 170, 'period': 120}, {'kind': 'thread', 'thread': 'A', 'greatest': 24}]
+        found = shown(*sets, {**sets[0], 'cores': '2'}, sets[1], {'kind': 'sets', 'sets': 2, 'repeating': 2, 'findings': 0})
+        self.assertEqual([line for line in found if line.startswith('repeats')], ['repeats  cores 0 1  from 170  period 120', 'repeats  cores 2  from 170  period 120'])
+        self.assertEqual(found.count('thread  greatest'), 2)
+
+    def test_hints_say_what_they_mean(self) -> None:
+        found = shown({'kind': 'hint', 'hint': 'unbound', 'context': 'spare'}, counts(hints=1))
+        self.assertEqual(found[1:3], ['hint     context  meaning', 'unbound  spare    it has no thread'])
+
+    def test_cores_that_no_thread_uses(self) -> None:
+        context = [{'name': 'a', 'core': 1}, {'name': 'b', 'core': 2}]
+        found = pretty.hints_of({'cores': 4, 'context': context, 'thread': [{'context': 'a'}]})
+        self.assertEqual([hint['core'] for hint in found], [0, 2, 3])
+
+
+class Colours(unittest.TestCase):
+    def test_when(self) -> None:
+        for when, expected in ((colours.ALWAYS, True), (colours.NEVER, False), (colours.AUTO, False)):
+            self.assertEqual(colours.are_wanted(when, io.StringIO()), expected)
+
+
+LINES = '\n'.join(json.dumps(line) for line in (MISS, counts(missed=1)))
+PROGRAM = f"""#!/bin/sh
+echo "$@" >>"$0.words"
+cat <<'END'
+{LINES}
+END
+echo "to a person" >&2
+exit ${{0##*-}}
+"""
+
+
+class Tool(unittest.TestCase):
+    def setUp(self) -> None:
+        place = tempfile.TemporaryDirectory()
+        self.addCleanup(place.cleanup)
+        self.folder = pathlib.Path(place.name)
+
+    def program(self, status: int) -> pathlib.Path:
+        path = self.folder / f'program-{status}'
+        path.write_text(PROGRAM)
+        path.chmod(0o755)
+        return path
+
+    def ran(self, *words: object, **how: Any) -> subprocess.CompletedProcess[str]:
+        how = {'env': {**os.environ, 'COLUMNS': '80'}, **how}
+        return subprocess.run([sys.executable, TOOLS / 'pretty', *map(str, words)], capture_output=True, text=True, **how)
+
+    def test_the_exit_code_and_the_errors_are_those_of_the_program(self) -> None:
+        for status in (0, 1, 3, 4, 5, 6):
+            found = self.ran('--run', self.program(status), 'a.toml', '--horizon', '20')
+            self.assertEqual((found.returncode, found.stderr), (status, 'to a person\n'))
+            self.assertEqual(found.stdout.endswith('; first: Loop, round 1, at 11\n'), status in (0, 5, 6))
+        self.assertEqual((self.folder / 'program-5.words').read_text(), '--format json a.toml --horizon 20\n')
+
+    def test_the_file_of_the_system_says_how_many_threads_it_has(self) -> None:
+        system = self.folder / 'system.toml'
+        system.write_text('cores = 2\ncontext = [{ name = "a", core = 1 }]\nthread = [{ name = "A", context = "a" }, { name = "B" }]\n')
+        found = self.ran('--system', system, '--run', self.program(5), system).stdout
+        self.assertIn('1 of 2 threads misses its deadline; first: Loop, round 1, at 11; also 1 hint\n', found)
+        self.assertIn('\nunused     0  no thread runs on it\n', found)
+        for option in ('--why', '--forever', '--show=table'):
+            self.assertNotIn('unused', self.ran('--system', system, '--run', self.program(5), system, option).stdout)
+
+    def test_lines_of_a_file_and_of_standard_input(self) -> None:
+        file = self.folder / 'lines.json'
+        file.write_text(LINES)
+        for found in (self.ran(file), self.ran(input=LINES), self.ran('-', input=LINES)):
+            self.assertEqual((found.returncode, found.stderr), (0, ''))
+            self.assertTrue(found.stdout.endswith('1 thread misses its deadline; first: Loop, round 1, at 11\n'), found.stdout)
+
+    def test_colours_and_units(self) -> None:
+        coloured = self.ran('--color', 'always', input=LINES).stdout
+        self.assertIn(f'{RED}miss{END}\n', coloured)
+        self.assertNotIn('\x1b', self.ran(input=LINES).stdout)
+        self.assertIn(', at 11 µs\n', self.ran('--tick-us', '1', input=LINES).stdout)
+
+    def test_faults_are_one_line(self) -> None:
+        for words, said in (
+            (('--tick-us', '0'), "pretty: argument --tick-us: '0' is no length of a tick in microseconds, above 0 and at most 10^12\n"),
+            ((self.folder / 'none.json',), f'pretty: {self.folder}/none.json: No such file or directory\n'),
+            (('--run', self.folder / 'none'), f'pretty: {self.folder}/none: No such file or directory\n'),
+        ):
+            found = self.ran(*words, input='')
+            self.assertEqual((found.returncode, found.stdout, found.stderr), (2, '', said))
+
+
+if __name__ == '__main__':
+    unittest.main()
