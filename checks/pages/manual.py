@@ -21,8 +21,9 @@ from checks import common
 from checks.common import TOP, Count
 
 COMPLETIONS = TOP / 'launcher' / 'completions'
-# the words of the launcher, which the programs do not know
+# the words of the launcher, which the programs do not know; those that stand alone are on no list of options
 LAUNCHER = {'version', 'install', 'uninstall', 'prove'}
+TYPED = {'mcsim': {'tick-us'}, 'mcscheck': {'tick-us', 'color', 'rows'}}
 RANGE = r'\b(\d+ to [\d^]+)'
 # what mandoc says of a page that another one names, where that is not installed
 NOT_INSTALLED = ' referenced manual not found: '
@@ -48,7 +49,7 @@ class Page:
         return self.text.split(f'.Sh {name}\n', 1)[1].split('\n.Sh ', 1)[0]
 
     def options(self) -> dict[str, Option]:
-        pattern = r'^\.It (?:Fl h , )?Fl -([\w-]+)(?: Ar ([\w ]+))?\n(.*?)(?=^\.It |^\.El)'
+        pattern = r'^\.It (?:Fl \w(?: Ar \w+)? , )?Fl -([\w-]+)(?: Ar ([\w ]+))?\n(.*?)(?=^\.It |^\.El)'
         found = {}
         for name, values, text in re.findall(pattern, self.section('DESCRIPTION'), re.M | re.S):
             default = re.search(r'The default is (\w+)', text) or re.search(r'^\.Cm (\w+)\n\(the default\)', text, re.M)
@@ -57,7 +58,7 @@ class Page:
 
     def choices(self) -> list[str]:
         """The words of --show, where it has them."""
-        item = re.search(r'^\.It Fl -show.*?(?=^\.It )', self.text, re.M | re.S)
+        item = re.search(r'^\.It Fl s , Fl -show.*?(?=^\.It )', self.text, re.M | re.S)
         return sorted(re.findall(r'^\.Cm (\w+)', item[0], re.M)) if item else []
 
     def statuses(self) -> list[str]:
@@ -134,11 +135,13 @@ class Trial:
     def lists(self, page: Page) -> None:
         """What the page and the help list."""
         text, name = common.run([self.programs[page.name], '--help']).stdout.decode(), page.name
-        self.same(f'options of {name}', page.options(), options_of_help(text))
+        options, typed = page.options(), TYPED[name]
+        self.same(f'options of {name}', {option: how for option, how in options.items() if option not in typed}, options_of_help(text))
+        self.count.expect(f'{name}.1 does not have all options of the launcher', typed <= options.keys())
         self.same(f'words of --show of {name}', page.choices(), choices_of_help(text))
         self.same(f'statuses of {name}', page.statuses(), re.findall(r'^  (\d)  ', text, re.M))
         for file in (COMPLETIONS / form.format(name) for form in ('_{}', '{}.bash', '{}.fish')):
-            wanted = ({*options_of_help(text), *LAUNCHER}, choices_of_help(text))
+            wanted = ({*options_of_help(text), *LAUNCHER, *typed}, choices_of_help(text))
             self.count.expect(f'{file.name} has {completed(file)}, and not {wanted}', completed(file) == wanted)
 
     def examples(self, pages: Pages, folder: pathlib.Path) -> None:

@@ -207,7 +207,7 @@ class BrokenOff(Installation):
             self.skipTest('nothing can be mounted here')
         p = self.prefix
         self.assertEqual(ran.stdout.splitlines(), [
-            'status 1', f'taken away from {p}: 7 files and links', 'status 0', 'status 1', 'status 0', 'gate', f'taken away from {p}: 8 files and links', 'status 0',
+            'status 1', f'taken away from {p}: 10 files and links', 'status 0', 'status 1', 'status 0', 'gate', f'taken away from {p}: 11 files and links', 'status 0',
             f'{p}/said',
         ], ran.stderr)
         lines = ran.stderr.splitlines()
@@ -248,7 +248,7 @@ class OfTheUser(Installation):
                 self.refused(self.install(), f'mcsim: nothing was installed: {self.prefix}/{place} was changed since it was installed: move it away')
                 self.assertEqual(tree(self.prefix), before)
                 status, stdout, stderr = self.uninstall()
-                self.assertEqual((status, stdout), (0, f'taken away from {self.prefix}: 7 files and links\n'))
+                self.assertEqual((status, stdout), (0, f'taken away from {self.prefix}: 10 files and links\n'))
                 self.assertEqual(stderr, f'mcsim: kept: {self.prefix}/{place}, which was changed since it was installed\n')
                 left = tree(self.prefix)
                 self.assertEqual({path: it for path, it in left.items() if it is not None or path in mine}, mine)
@@ -356,7 +356,7 @@ class Earlier(Installation):
         (self.prefix / 'lib/mcsim/installed').write_text(''.join(f'{line}\n' for line in sorted(FILES | folders)))
 
     def test_it_is_taken_away(self) -> None:
-        self.assertEqual(self.uninstall(), (0, f'taken away from {self.prefix}: 8 files and links\n', ''))
+        self.assertEqual(self.uninstall(), (0, f'taken away from {self.prefix}: 11 files and links\n', ''))
         self.assertEqual(tree(self.prefix), {})
 
     def test_a_newer_one_takes_its_place(self) -> None:

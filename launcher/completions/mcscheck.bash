@@ -8,15 +8,19 @@ _mcscheck() {
         before=${COMP_WORDS[COMP_CWORD - 2]}
     fi
     case $before in
-        --show)
+        --show | -s)
             mapfile -t COMPREPLY < <(compgen -W 'findings jobs table both' -- "$word")
             return
             ;;
         --format)
-            mapfile -t COMPREPLY < <(compgen -W 'text csv json' -- "$word")
+            mapfile -t COMPREPLY < <(compgen -W 'text csv json pretty' -- "$word")
             return
             ;;
-        --horizon | --workers | --allow-lost | --why)
+        --color)
+            mapfile -t COMPREPLY < <(compgen -W 'auto always never' -- "$word")
+            return
+            ;;
+        --horizon | -n | --workers | -w | --tick-us | --allow-lost | --why)
             COMPREPLY=()
             return
             ;;
@@ -27,7 +31,7 @@ _mcscheck() {
             ;;
     esac
     if [[ $word == -* ]]; then
-        mapfile -t COMPREPLY < <(compgen -W '--horizon --workers --allow-lost --strict --show --format --why --forever --help --version --install --uninstall --prove' -- "$word")
+        mapfile -t COMPREPLY < <(compgen -W '--horizon --workers --tick-us --allow-lost --strict --show --format --color --rows --why --forever --help --version --install --uninstall --prove' -- "$word")
     else
         compopt -o filenames
         mapfile -t COMPREPLY < <(compgen -f -X '!*.toml' -- "$word"; compgen -d -- "$word")

@@ -8,11 +8,11 @@ _mcsim() {
         before=${COMP_WORDS[COMP_CWORD - 2]}
     fi
     case $before in
-        --show)
+        --show | -s)
             mapfile -t COMPREPLY < <(compgen -W 'schedule reports both' -- "$word")
             return
             ;;
-        --horizon | --workers)
+        --horizon | -n | --workers | -w | --tick-us)
             COMPREPLY=()
             return
             ;;
@@ -23,7 +23,7 @@ _mcsim() {
             ;;
     esac
     if [[ $word == -* ]]; then
-        mapfile -t COMPREPLY < <(compgen -W '--horizon --workers --show --help --version --install --uninstall --prove' -- "$word")
+        mapfile -t COMPREPLY < <(compgen -W '--horizon --workers --tick-us --show --help --version --install --uninstall --prove' -- "$word")
     else
         compopt -o filenames
         mapfile -t COMPREPLY < <(compgen -f -X '!*.toml' -- "$word"; compgen -d -- "$word")

@@ -202,7 +202,7 @@ def asked() -> argparse.Namespace:
     words = Options(__doc__)
     words.reads('system', metavar='SYSTEM', help='the file of the system')
     words.reads('trace', metavar='TRACE.csv', help='the measured trace, - for standard input')
-    words.add_argument('--horizon', type=source.moment, default=source.HORIZON, metavar='N', help='the last time of the schedule (default: %(default)s)')
+    words.add_argument('-n', '--horizon', type=source.moment, default=source.HORIZON, metavar='N', help='the last time of the schedule (default: %(default)s)')
     for column in Columns._fields:
         words.add_argument(f'--{column}', default=column, metavar='COLUMN', help=f'the column of the {column} (default: {column})')
     words.add_argument('--events', action='append', default=[], metavar='KIND=WORD', help=f'the word of the trace for an event: {", ".join(measured.KINDS)}')

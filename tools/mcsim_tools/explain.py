@@ -51,16 +51,18 @@ def shown(line: str, column: int) -> list[str]:
 
 def explanation(file: pathlib.Path, fault: explaining.Fault, text: bytes) -> list[str]:
     """The lines of a fault: where it stands, and what there is to say of it."""
-    plain = explaining.plain_text(text)
+    plain, name = explaining.plain_text(text), ''
     lines = positions.Reader(plain)
     if fault.kind == 'not TOML':
         position, facts = explaining.not_toml(text)
     else:
         case = explaining.Case(fault, positions.read(plain), schema())
-        position, facts = case.position(), explaining.facts_of(case)
-    if position is None:
-        return [f'{file}: {fault}', *(f'  {fact}' for fact in facts)]
-    return [f'{file}:{position.line}:{position.column}: {fault}', *excerpt(lines, position), *(f'  {fact}' for fact in facts)]
+        position, facts, name = case.position(), explaining.facts_of(case), explaining.whom(case)
+    marked = excerpt(lines, position) if position else []
+    # a name that stands in the line is seen
+    facts = [*facts, f'{fault.section} {fault.row} is {name}'] if name and name not in ''.join(marked) else facts
+    place = f':{position.line}:{position.column}' if position else ''
+    return [f'{file}{place}: {fault}', *marked, *(f'  {fact}' for fact in facts)]
 
 
 def excerpt(lines: positions.Reader, position: Position) -> list[str]:

@@ -491,3 +491,9 @@ def facts_of(case: Case) -> list[str]:
     kind = case.fault.kind
     found = FACTS.get(kind) or FACTS.get(kind.partition(':')[0])
     return list(found(case)) if found else []
+
+
+def whom(case: Case) -> str:
+    """The name of a fault's row, if it has one that is not at fault."""
+    name = case.value('name') if case.fault.section != 'top' and case.fault.key != 'name' else None
+    return name.text if name is not None and name.kind == 'text' else ''

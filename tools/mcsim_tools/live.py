@@ -200,6 +200,8 @@ def main() -> None:
     words.add_argument('--port', type=port, default=0, metavar='N', help='the port of the page (default: one that is free)')
     words.add_argument('--limit', type=limit, default=LIMIT, metavar='N', help='seconds that a run and its picture may take (default: %(default)s)')
     asked = words.asked()
+    if asked.system == options.STANDARD_INPUT:
+        raise Fault('-: the page follows a file, and standard input is none')
     watch = Watch(asked)
     try:
         watch.look()

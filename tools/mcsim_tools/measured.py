@@ -6,14 +6,12 @@ import csv
 import decimal
 import io
 import pathlib
-import sys
 from collections.abc import Collection, Mapping, Sequence
 from dataclasses import dataclass, field
 from typing import NamedTuple, Optional
 
 from . import named, system
 from .faults import Fault
-from .options import STANDARD_INPUT
 from .system import System
 
 RUN, STOP, WAKE, INTERRUPT = 'run', 'stop', 'wake', 'interrupt'
@@ -78,7 +76,7 @@ class Reader:
     def __init__(self, path: pathlib.Path, known: System, words: Words) -> None:
         self.path, self.system, self.words = path, known, words
         try:
-            text = (sys.stdin.buffer.read() if path == STANDARD_INPUT else system.read_bytes(path)).decode('utf-8-sig')
+            text = system.read_bytes(path).decode('utf-8-sig')
         except UnicodeDecodeError:
             raise Fault(f'{path}: not UTF-8') from None
         self.cells = csv.reader(io.StringIO(text, newline=''), skipinitialspace=True)

@@ -14,9 +14,9 @@ STANDARD_INPUT = pathlib.Path('-')
 
 
 def number(wanted: str, least: int, most: int) -> Callable[[str], int]:
-    """Returns the reader of a whole number; `wanted` says what another text is not."""
+    """Returns the reader of a whole number, also of 1e6 and 1_000_000; `wanted` says what another text is not."""
     def read(text: str) -> int:
-        found = digits.number(text, least, most)
+        found = digits.number(digits.typed(text), least, most)
         if found is None:
             raise argparse.ArgumentTypeError(f'{text!r} is {wanted}')
         return found
@@ -49,6 +49,8 @@ class Options(argparse.ArgumentParser):
             value = getattr(found, name)
             paths = value if isinstance(value, list) else [] if value is None else [value]
             sources += [0 if path == STANDARD_INPUT else path for path in paths]
+        if sources.count(0) > 1:
+            self.error('- stands twice: standard input can be read once')
         given = [getattr(found, name) for name in self.outputs]
         # an output that was not asked for is none, but for the first, which then is standard output
         output.check([target for place, target in enumerate(given) if place == 0 or target is not None], sources)

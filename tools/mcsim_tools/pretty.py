@@ -263,7 +263,7 @@ def read_file(asked: argparse.Namespace) -> int:
     path = asked.file or STANDARD_INPUT
     verdict = Verdict(asked.rows)
     try:
-        with sys.stdin.buffer if path == STANDARD_INPUT else path.open('rb') as file:
+        with system.opened(path) as file:
             verdict.read(source.text_lines(file))
     except OSError as error:
         raise why(path, error) from None

@@ -9,7 +9,6 @@ import os
 import pathlib
 import shutil
 import subprocess
-import sys
 import threading
 from collections.abc import Iterator, Sequence
 from dataclasses import dataclass
@@ -17,7 +16,7 @@ from typing import IO, Optional
 
 from . import explaining, options, system
 from .faults import Fault, first_line, why
-from .options import STANDARD_INPUT, Options
+from .options import Options
 from .system import System
 
 HORIZON = 1000
@@ -38,7 +37,7 @@ class Words(Options):
     def __init__(self, doc: Optional[str]) -> None:
         super().__init__(doc)
         self.reads('system', metavar='SYSTEM', help='the file of the system')
-        self.add_argument('--horizon', type=moment, metavar='N', help=f'the last moment of the run (default: {HORIZON}; of rows: that of the last one)')
+        self.add_argument('-n', '--horizon', type=moment, metavar='N', help=f'the last moment of the run (default: {HORIZON}; of rows: that of the last one)')
         self.add_argument('--program', default=default_program(), metavar='PATH', help='the program to run (default: %(default)s)')
 
     def takes_rows(self) -> Words:
@@ -143,10 +142,10 @@ def lines_of(path: pathlib.Path, file: IO[bytes]) -> Iterator[str]:
 def rows_of_file(path: pathlib.Path, rows: pathlib.Path, horizon: Optional[int]) -> Iterator[Told]:
     known = system.parse(path, system.read_bytes(path))
     try:
-        file = sys.stdin.buffer if rows == STANDARD_INPUT else rows.open('rb')
+        opened = system.opened(rows)
     except OSError as error:
         raise why(rows, error) from None
-    with file:
+    with opened as file:
         yield Told(known, lines_of(rows, file), horizon)
 
 

@@ -98,7 +98,7 @@ def asked() -> argparse.Namespace:
     words.add_argument('--least', metavar='PLACE=A:B', help='tells the least value under which nothing is found')
     words.add_argument('--greatest', metavar='PLACE=A:B', help='tells the greatest value under which nothing is found')
     words.add_argument('--of', nargs='+', default=[], metavar='THREAD', help='looks at the findings of these threads alone')
-    words.add_argument('--horizon', type=source.moment, default=source.HORIZON, metavar='N', help='the last moment of each run (default: %(default)s)')
+    words.add_argument('-n', '--horizon', type=source.moment, default=source.HORIZON, metavar='N', help='the last moment of each run (default: %(default)s)')
     jobs = options.number(f'no number of jobs, of 1 to {workers.MOST_JOBS}', 1, workers.MOST_JOBS)
     words.add_argument('--jobs', type=jobs, default=workers.processors(), metavar='N', help='how many runs at once (default: all processors, here %(default)s)')
     words.add_argument('--emit', type=pathlib.Path, metavar='DIR', help='writes the systems for an engine, and runs none of them')

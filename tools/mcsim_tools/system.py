@@ -1,14 +1,17 @@
 """What the tools need of a system's file. The program is what tests a file; this reads one that it accepts, and refuses what no tool could draw."""
 from __future__ import annotations
 
+import contextlib
 import pathlib
 import re
+import sys
 from collections.abc import Iterable, Iterator, Mapping, Sequence
 from dataclasses import dataclass, field
-from typing import Any, Optional
+from typing import IO, Any, Optional
 
 from . import tables
 from .faults import Fault, why
+from .options import STANDARD_INPUT
 
 LONGEST = 2**26
 GREATEST = 2**40
@@ -267,10 +270,15 @@ def system_of(tables: Tables) -> System:
     return System(cores, whole(tables, 'min_budget', 1), contexts, home_of, by_name, orders, words, waits.scripts, sources, chains)
 
 
+def opened(path: pathlib.Path) -> contextlib.AbstractContextManager[IO[bytes]]:
+    """A file that is read; `-` is standard input, which stays open."""
+    return contextlib.nullcontext(sys.stdin.buffer) if path == STANDARD_INPUT else path.open('rb')
+
+
 def read_bytes(path: pathlib.Path) -> bytes:
     """A file's bytes, as many as the program takes."""
     try:
-        with path.open('rb') as file:
+        with opened(path) as file:
             text = file.read(LONGEST + 1)
     except OSError as error:
         raise why(path, error) from None

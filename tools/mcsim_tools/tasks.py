@@ -376,7 +376,7 @@ def main() -> None:
     words.add_argument('--periods', type=periods, default=(10, 1000), metavar='A:B', help='their periods (default: 10:1000)')
     words.add_argument('--list', action='store_true', help='writes the list of tasks, and no system')
     words.add_argument('--analyse', action='store_true', help='writes the analysis beside what is seen; the system goes to -o FILE alone')
-    words.add_argument('--horizon', type=source.moment, metavar='N', help='the last moment of the run of --analyse')
+    words.add_argument('-n', '--horizon', type=source.moment, metavar='N', help='the last moment of the run of --analyse')
     words.add_argument('--program', default=source.default_program(), metavar='PATH', help='the program to run (default: %(default)s)')
     words.writes('-o', '--output', metavar='FILE', help='where the system goes (default: standard output)')
     asked = words.asked()

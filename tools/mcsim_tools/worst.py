@@ -220,7 +220,7 @@ def asked() -> argparse.Namespace:
     words.add_argument('--phases', action='store_true', help='leaves open when each source and each thread begins')
     percent = options.number('no share of 1 to 100 percent', 1, 100)
     words.add_argument('--times', type=percent, metavar='PERCENT', help='leaves open each execution time, from this share of it on')
-    words.add_argument('--horizon', type=source.moment, default=source.HORIZON, metavar='N', help='the last time of each run (default: %(default)s)')
+    words.add_argument('-n', '--horizon', type=source.moment, default=source.HORIZON, metavar='N', help='the last time of each run (default: %(default)s)')
     runs = options.number(f'no number of runs, of 1 to {MOST_RUNS}', 1, MOST_RUNS)
     words.add_argument('--runs', type=runs, default=RUNS, metavar='N', help='how many runs there are at most (default: %(default)s)')
     words.add_argument('--all', action='store_true', help=f'tries all combinations, at most {MOST_RUNS}')

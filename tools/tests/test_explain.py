@@ -69,7 +69,7 @@ class Explained(unittest.TestCase):
     def test_a_call_of_a_later_server_names_the_earlier_ones(self) -> None:
         text = NEW + '[[server]]\nname = "clock"\n[[server]]\nname = "timer"\nscript = ["call later 1"]\n[[server]]\nname = "later"\n'
         self.assertEqual(self.told(text, 'unknown name at server 2 script item 1')[3:], [
-            '  no earlier server has the name later', '  names of earlier servers: clock',
+            '  no earlier server has the name later', '  names of earlier servers: clock', '  server 2 is timer',
         ])
 
     def test_a_call_of_another_core_names_both(self) -> None:
@@ -103,6 +103,7 @@ class Explained(unittest.TestCase):
         text = NEW + '[[thread]]\nname = "A"\nscript = ["yield", "on 1"]\n[[chain]]\nthread = "A"\nbadges = 1\n'
         self.assertEqual(self.told(text, 'on without wait at thread 1 script item 2')[3:], [
             '  on begins a handler for a badge of the word that the first item waits for: the first item of the script is to be a wait',
+            '  thread 1 is A',
         ])
         self.assertEqual(self.told(text, 'no wait at chain 1 thread')[3:], ['  A never waits, so no interrupt can begin one of its rounds'])
         self.assertEqual(self.told(text, 'no wait at chain 1 badges')[3:], [
