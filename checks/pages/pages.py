@@ -51,8 +51,10 @@ NOT_KNOWN = 6
 SETS = re.compile(r'sets (\d+) repeating (\d+) findings (\d+)')
 CLEAN = 'nothing is ever found'
 FOREVER = ' --forever'
-# rows without a line of counts, which do not say how the verdict ends
-CSV = ' --format csv'
+# what has no line of counts at its end, which says how the verdict ends
+WITHOUT_COUNTS = (' --format csv', ' --format pretty')
+# options that the launcher reads, and no program
+TYPED = (' --format pretty', ' --tick-us ', ' -n ')
 COUNTS = re.compile(r'missed (\d+) overdue (\d+) lost (\d+) never (\d+) .*hints (\d+)')
 # a block that ends with the status of any of its verdicts
 EXITS = 'exit $status'
@@ -94,10 +96,12 @@ def questions_in(text: str) -> Iterator[tuple[str, list[str]]]:
 # a page may show once more what another one shows
 @functools.cache
 def ran(program: pathlib.Path, block: str) -> Ran:
-    """What a block of commands comes to, with this program in place of ./mcsim, its mcscheck in place of ./mcscheck, and both for the tools."""
-    block, environment = block.replace(PROGRAM, shlex.quote(str(program))), {**os.environ, 'MCSIM': str(program)}
+    """What a block of commands comes to, with this program in place of ./mcsim, its mcscheck in place of ./mcscheck, and both for the tools.
+    A block with options that the launcher reads is run as it stands."""
+    environment, is_typed = {**os.environ, 'MCSIM': str(program)}, any(word in block for word in TYPED)
+    block = block if is_typed else block.replace(PROGRAM, shlex.quote(str(program)))
     if checker := common.checker_of(program):
-        block = block.replace(CHECKER, shlex.quote(str(checker)))
+        block = block if is_typed else block.replace(CHECKER, shlex.quote(str(checker)))
         environment['MCSCHECK'] = str(checker)
     return common.run(['sh', '-c', block], seconds=SECONDS, cwd=TOP, env=environment)
 
@@ -178,7 +182,7 @@ def try_block(program: pathlib.Path, name: pathlib.Path, block: str, count: Coun
     """Tries a block of commands, and gives the lines that it wrote."""
     status, stdout, stderr = ran(program, block.strip())
     written = stdout.decode().splitlines()
-    has_counts = CSV not in block
+    has_counts = not any(word in block for word in WITHOUT_COUNTS)
     is_good = status in ((status_of(block, written),) if has_counts else (0, FOUND)) and is_silent(block, stderr.decode())
     count.expect(f'{name}: {block.strip()}: status {status}, {stderr.decode().strip()}', is_good)
     return written

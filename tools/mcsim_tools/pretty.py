@@ -4,8 +4,8 @@ pretty [--color WHEN] [--tick-us N] [--rows] [--system FILE] --run mcscheck [OPT
 Shows what mcscheck writes as JSON in tables with heads, and last in one sentence. It reads FILE, or standard input; with --run it runs mcscheck, and its
 exit code is that of mcscheck. `mcscheck --format pretty` does this.
 
-There is a table for each kind of line, whose columns are the keys of the JSON. One that is wider than the terminal goes on below. The first 100 rows of
-a kind are shown, and 10,000 with --rows. Why a job took so long is answered first; the schedule follows with --rows."""
+There is a table for each kind of line, whose columns are the keys of the JSON. One that is wider than the terminal continues below. The first 20 rows
+of a kind with times are shown, 100 of another kind, and 10,000 with --rows. Why a job took so long is answered first; the schedule follows with --rows."""
 from __future__ import annotations
 
 import argparse
@@ -27,8 +27,8 @@ from .options import STANDARD_INPUT, Options
 from .tabling import KIND, Look, Object
 from .verdict import FOUND, NOTHING
 
-# rows of a kind that are shown, and with --rows
-MOST, MOST_ROWS = 100, 10_000
+# rows of a kind that are shown, those with a time, and with --rows
+MOST, MOST_TIMES, MOST_ROWS = 100, 20, 10_000
 # exit codes that are no fault
 ANSWERS = (NOTHING, FOUND, concluding.NOT_KNOWN)
 # kinds of lines that begin a group of lines about some cores
@@ -37,8 +37,8 @@ BEGIN_GROUP = ('repeats', 'open')
 WITHOUT_HINTS = ('jobs', 'table')
 # what hints mean
 MEANINGS = {
-    'unsignalled': 'it is waited on, and no script or source signals it', 'unbound': 'it has no thread',
-    'overcommitted': 'its contexts have more than the core', 'unused': 'no thread runs on it',
+    'unsignalled': 'waited on, and never signalled', 'unbound': 'no thread is bound to it',
+    'overcommitted': 'its contexts have more than it', 'unused': 'no thread runs on it',
 }
 ROWS = 'rows'
 NARROWEST = 20
@@ -57,15 +57,15 @@ def microseconds(text: str) -> decimal.Decimal:
 class Group:
     """The lines of a group, by kind: as many of each as are shown, and how many there were."""
 
-    def __init__(self, most: int, head: Optional[Object] = None) -> None:
-        self.most, self.head = most, head
+    def __init__(self, wants_rows: bool, head: Optional[Object] = None) -> None:
+        self.wants_rows, self.head = wants_rows, head
         self.kept: dict[str, list[Object]] = {}
         self.many: collections.Counter[str] = collections.Counter()
 
     def add(self, kind: str, line: Object) -> None:
         self.many[kind] += 1
         rows = self.kept.setdefault(kind, [])
-        if len(rows) < self.most:
+        if len(rows) < (MOST_ROWS if self.wants_rows else MOST_TIMES if 'moment' in line else MOST):
             rows.append(line)
 
 
@@ -74,10 +74,9 @@ class Verdict:
 
     def __init__(self, wants_rows: bool, is_why: bool = False) -> None:
         self.wants_rows, self.is_why = wants_rows, is_why
-        self.most = MOST_ROWS if wants_rows else MOST
         self.facts = Facts()
-        self.groups = [Group(self.most)]
-        self.rows = Group(self.most if wants_rows else 0)
+        self.groups = [Group(wants_rows)]
+        self.rows = Group(wants_rows)
         self.others: list[str] = []
 
     def read(self, lines: Iterable[str]) -> None:
@@ -95,7 +94,7 @@ class Verdict:
             return
         self.facts.add(line)
         if kind in BEGIN_GROUP:
-            self.groups.append(Group(self.most, line))
+            self.groups.append(Group(self.wants_rows, line))
         elif kind != concluding.SETS:
             meaning = MEANINGS.get(str(line.get(kind))) if kind == concluding.HINT else None
             self.groups[-1].add(kind, line if meaning is None else {**line, 'meaning': meaning})

@@ -1,7 +1,8 @@
 """Tables of the objects that mcscheck writes as JSON: a head of their keys, aligned values, and no line wider than the terminal.
 
-Columns are the keys of the objects, so a kind of line that comes along needs nothing here. A key with an underscore is a head of two lines. Columns of
-zeros alone are named below the table. A table that is too wide becomes several below each other, each with the columns that name its rows."""
+Columns are the keys of the objects, so a kind of line that comes along needs nothing here. A key with an underscore is a head of two lines. If a table is
+too wide, columns of zeros alone are named below it. One that is still too wide becomes several below each other, each with the columns that name its
+rows."""
 from __future__ import annotations
 
 import decimal
@@ -31,7 +32,8 @@ NUMBER = 'number'
 # keys whose values say that something is wrong if they are above 0, or below it
 WRONG_ABOVE = frozenset(('missed', 'overdue', 'lost', 'never', 'slow', 'unanswered', 'each_period', 'so_far'))
 WRONG_BELOW = frozenset(('margin',))
-APART = 2
+# spaces between columns: two, or one if that makes fewer parts
+APART = (2, 1)
 NONE = '-'
 
 
@@ -124,18 +126,18 @@ def keys_of(rows: Sequence[Object]) -> list[str]:
     return [key for key in keys if key != KIND]
 
 
-def wide(columns: Sequence[Column], apart: int = APART) -> int:
+def wide(columns: Sequence[Column], apart: int) -> int:
     return sum(column.width + apart for column in columns) - apart
 
 
-def parts_of(columns: Sequence[Column], width: int) -> Iterator[list[Column]]:
+def parts_of(columns: Sequence[Column], width: int, apart: int) -> Iterator[list[Column]]:
     """The columns in parts that are not wider than this; each but the first begins with the columns that name the rows."""
     names = [column for column in columns if column.names_rows]
-    while names and 2 * wide(names) > width:
+    while names and 2 * wide(names, apart) > width:
         names.pop()
     part: list[Column] = []
     for column in columns:
-        if part and wide([*part, column]) > width and not set(part) <= set(names):
+        if part and wide([*part, column], apart) > width and not set(part) <= set(names):
             yield part
             part = [name for name in names if name is not column]
         part.append(column)
@@ -148,15 +150,14 @@ class Table:
     def __init__(self, rows: Sequence[Object], look: Look) -> None:
         self.look, self.count = look, len(rows)
         every = [column_of(key, rows, look.unit) for key in keys_of(rows)]
-        self.zeros = [column.key for column in every if set(column.texts) == {'0'}] if len(rows) > 1 or wide(every) > look.width else []
+        self.zeros = [column.key for column in every if set(column.texts) == {'0'}] if wide(every, APART[0]) > look.width else []
         self.columns = [column for column in every if column.key not in self.zeros]
 
     def lines(self) -> Iterator[str]:
-        # a little closer together rather than in two parts
-        apart = 1 if wide(self.columns, 1) <= self.look.width < wide(self.columns) else APART
-        for part in [self.columns] if apart == 1 else parts_of(self.columns, self.look.width):
-            if part:
-                yield from self.block(part, ' ' * apart)
+        ways = [(list(parts_of(self.columns, self.look.width, apart)), ' ' * apart) for apart in APART]
+        parts, gap = min(ways, key=lambda way: len(way[0]))
+        for part in filter(None, parts):
+            yield from self.block(part, gap)
         if self.zeros:
             yield from folded(f'0{" in each" * (self.count > 1)}: {", ".join(self.zeros)}', self.look.width)
 

@@ -71,10 +71,12 @@ class Tables(unittest.TestCase):
         found = table({'thread': 'A', 'deadline': 5}, {'thread': 'B', 'greatest': 17, 'deadline': 9})
         self.assertEqual(found, ['thread  greatest  deadline', 'A              -         5', 'B             17         9'])
 
-    def test_columns_of_zeros_are_named_below(self) -> None:
-        found = table({'thread': 'A', 'ready': 0, 'woken': 0, 'n': 0}, {'thread': 'B', 'ready': 0, 'woken': 0, 'n': 1})
-        self.assertEqual(found, ['thread  n', 'A       0', 'B       1', '0 in each: ready, woken'])
-        self.assertEqual(table({'thread': 'A', 'ready': 0}), ['thread  ready', 'A           0'])
+    def test_columns_of_zeros_are_named_below_if_the_table_is_too_wide(self) -> None:
+        rows = ({'thread': 'A', 'ready': 0, 'woken': 0, 'n': 0}, {'thread': 'B', 'ready': 0, 'woken': 0, 'n': 1})
+        self.assertEqual(table(*rows, width=22), ['thread  n', 'A       0', 'B       1', '0 in each: ready,', '  woken'])
+        # 6 + 2 + 5 + 2 + 5 + 2 + 1
+        self.assertEqual(table(*rows, width=23)[0], 'thread  ready  woken  n')
+        self.assertEqual(table({'thread': 'A', 'ready': 0, 'n': 4}, width=15), ['thread  n', 'A       4', '0: ready'])
 
     def test_a_wide_table_goes_on_below_with_the_names_of_its_rows(self) -> None:
         rows = ({'thread': 'A', 'alpha': 1, 'beta': 2, 'gamma': 3, 'delta': 4}, {'thread': 'B', 'alpha': 5, 'beta': 6, 'gamma': 7, 'delta': 8})
@@ -176,10 +178,11 @@ class Shown(unittest.TestCase):
         many = [{**MISS, 'moment': moment} for moment in range(250)]
         found = shown(*many, counts(missed=250), status=5)
         self.assertEqual(found[0], 'miss (250)')
-        # a head, the rows, what is 0, and what is left
-        self.assertEqual(found[101], '    99  Loop         1         9         5')
-        self.assertEqual(found[103], 'and 150 more: --rows shows 10000, and --format text, csv or json all of them')
-        self.assertEqual(len(shown(*many, counts(missed=250), rows=True, status=5)) - len(found), 150 - 1)
+        # a head, the rows, and what is left
+        self.assertEqual(found[21], '    19     0  Loop         1         9         5')
+        self.assertEqual(found[22], 'and 230 more: --rows shows 10000, and --format text, csv or json all of them')
+        self.assertEqual(len(shown(*many, counts(missed=250), rows=True, status=5)) - len(found), 230 - 1)
+        self.assertEqual(shown(*({'kind': 'thread', 'thread': 'A'},) * 250, NOTHING)[102], 'and 150 more: --rows shows 10000, and --format text, csv or json all of them')
 
     def test_why_answers_first_and_has_the_rows_if_they_are_wanted(self) -> None:
         answer = ['B, round 2, from 4 to 24: it ran for 7 ticks, other threads for 7 ticks, and its', '  core was idle for 6 ticks', '', 'why']
@@ -198,7 +201,7 @@ class Shown(unittest.TestCase):
 
     def test_hints_say_what_they_mean(self) -> None:
         found = shown({'kind': 'hint', 'hint': 'unbound', 'context': 'spare'}, counts(hints=1))
-        self.assertEqual(found[1:3], ['hint     context  meaning', 'unbound  spare    it has no thread'])
+        self.assertEqual(found[1:3], ['hint     context  meaning', 'unbound  spare    no thread is bound to it'])
 
     def test_cores_that_no_thread_uses(self) -> None:
         context = [{'name': 'a', 'core': 1}, {'name': 'b', 'core': 2}]
