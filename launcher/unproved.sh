@@ -5,14 +5,6 @@
 run_unproved() {
     why=$1
     shift
-    case ${1-} in
-        -h | --help)
-            if [ "$main" = mcsim ] && [ -r "$top/bin/HELP" ]; then
-                cat "$top/bin/HELP"
-                exit
-            fi
-            ;;
-    esac
     need_rt "$why, and to run the sources the command rt of the Rattle toolchain is needed, which is not on PATH"
     say "$why: the sources run unproved, which takes a minute or more (./$main --prove proves and builds them)"
     room=$(mktemp -d) || exit 1

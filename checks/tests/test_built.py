@@ -199,7 +199,7 @@ class Launched(InFolder):
         self.renewed()
         self.write('crates/mcsim/src/main.rt', 'changed\n')
         for word in ('--help', '-h'):
-            self.assertEqual(self.launch(word), (0, 'help\n', ''))
+            self.assertEqual(self.launch(word), (0, (TOP / 'launcher' / 'mcsim.help').read_text(), ''))
 
     def test_a_pipe_is_read(self) -> None:
         self.rt()

@@ -1,4 +1,5 @@
-"""What people do wrong, each with what is printed: the table misuses.toml, run through the launcher of the repository, with and without a terminal."""
+"""What the launcher of the repository prints: of what people do wrong, each line of the table misuses.toml, with and without a terminal; and to a pipe
+what the program prints, byte for byte."""
 from __future__ import annotations
 
 import contextlib
@@ -12,12 +13,22 @@ import tomllib
 import unittest
 from typing import Any
 
+from checks import common
 from checks.common import TOP
 
 TABLE = pathlib.Path(__file__).with_name('misuses.toml')
 SYSTEM = TOP / 'docs' / 'late.toml'
 PAGE = '# Title\n\nIt is a page.\n'
 LEAST = 40
+# what the program and the launcher are asked, of each of these systems, and of one that is refused
+SYSTEMS = (SYSTEM, *(TOP / 'examples' / 'systems' / f'{name}.toml' for name in ('network_driver', 'lock_and_inversion')), TOP / 'README.md')
+ASKED: dict[str, tuple[str, ...]] = {
+    'mcsim': ('--horizon 50', '--show=both --workers 2', '--horizon 30 --show reports', '--bogus', '--horizon 1099511627777'),
+    'mcscheck': (
+        '--horizon 50', '--horizon=60 --show findings --strict', '--show jobs --format csv --horizon 40', '--format json --horizon 40', '--forever --format json',
+        '--why Driver 2 --horizon 100', '--format json --why Loop 1', '--allow-lost tick --show table', '--format yaml', '--show', '--why Nobody 1',
+    ),
+}
 SECONDS = 600
 
 
@@ -74,6 +85,25 @@ class Misuses(unittest.TestCase):
         commands = [(misuse['command'], str(misuse.get('change'))) for misuse in misuses()]
         self.assertEqual(len({*commands}), len(commands))
         self.assertGreaterEqual(len(commands), LEAST)
+
+
+class Pipes(unittest.TestCase):
+    def test_a_pipe_has_the_bytes_of_the_program(self) -> None:
+        for name, asked in ASKED.items():
+            program = next(filter(common.is_program, (common.built_of(name), TOP / 'bin' / name)))
+            for system in SYSTEMS:
+                for words in asked:
+                    with self.subTest(name=name, system=system.name, words=words):
+                        wanted, found = (common.run([command, system, *words.split()]) for command in (program, TOP / name))
+                        self.assertEqual(found, wanted)
+
+    def test_so_has_one_on_standard_input(self) -> None:
+        for name, asked in ASKED.items():
+            program = next(filter(common.is_program, (common.built_of(name), TOP / 'bin' / name)))
+            with self.subTest(name=name):
+                wanted, found = (common.run([command, *asked[0].split()], SYSTEM.read_bytes()) for command in (program, TOP / name))
+                self.assertEqual(found, wanted)
+                self.assertEqual(common.run([TOP / name, '-', *asked[0].split()], SYSTEM.read_bytes()), wanted)
 
 
 def lines_of(text: str) -> list[str]:
