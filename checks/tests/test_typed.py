@@ -103,6 +103,12 @@ class Words(Typed):
         self.assertEqual(self.given('--format', 'csv', '-s', 'table'), ['--format', 'csv', '--show', 'table'])
         self.assertEqual(self.given('--format', 'csv', name='mcsim'), ['--format', 'csv'])
 
+    def test_a_launcher_that_lost_a_part_says_which(self) -> None:
+        part = self.top / 'launcher' / 'typed.sh'
+        part.unlink()
+        found = self.ran('mcsim', 'a')
+        self.assertEqual((found.returncode, found.stdout, found.stderr), (127, '', f'mcsim: {part} is missing\n'))
+
     def test_sources_that_run_unproved_have_the_same_words(self) -> None:
         self.rt()
         self.write('crates/mcsim/src/main.rt', 'changed\n')

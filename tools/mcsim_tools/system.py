@@ -272,7 +272,9 @@ def system_of(tables: Tables) -> System:
 
 def opened(path: pathlib.Path) -> contextlib.AbstractContextManager[IO[bytes]]:
     """A file that is read; `-` is standard input, which stays open."""
-    return contextlib.nullcontext(sys.stdin.buffer) if path == STANDARD_INPUT else path.open('rb')
+    if path == STANDARD_INPUT:
+        return contextlib.nullcontext(sys.stdin.buffer)
+    return path.open('rb')
 
 
 def read_bytes(path: pathlib.Path) -> bytes:

@@ -13,7 +13,7 @@ from decimal import Decimal
 from typing import Any, Optional
 
 from worked import TOOLS
-from mcsim_tools import colours, concluding, pretty, scale, tabling
+from mcsim_tools import colours, concluding, pretty, scale
 from mcsim_tools.concluding import Asked
 from mcsim_tools.tabling import Look, Table
 
