@@ -23,6 +23,7 @@ from typing import IO, Optional
 from . import colours, concluding, scale, source, system, tables, tabling
 from .concluding import Asked, Facts
 from .faults import Fault, why
+from .frame import WRITE_FAILED, OutputLost
 from .options import STANDARD_INPUT, Options
 from .tabling import KIND, Look, Object
 from .verdict import FOUND, NOTHING
@@ -272,7 +273,8 @@ def read_file(asked: argparse.Namespace) -> int:
 
 
 def run(asked: argparse.Namespace) -> int:
-    """Runs mcscheck, and shows what it writes; its exit code."""
+    """Runs mcscheck, and shows what it writes; its exit code. What goes wrong is told as mcscheck tells it."""
+    sys.argv[0] = asked.run[0]
     words = [*asked.run[:1], '--format', 'json', *asked.run[1:]]
     known = tables_of(asked.system)
     is_why = any(word == '--why' or word.startswith('--why=') for word in words)
@@ -284,7 +286,11 @@ def run(asked: argparse.Namespace) -> int:
         for hint in hints_of(known):
             verdict.add(hint)
     about = asked_of(words, known)
-    show(verdict, view_of(asked, verdict, about), about, status)
+    try:
+        show(verdict, view_of(asked, verdict, about), about, status)
+        sys.stdout.flush()
+    except OutputLost:
+        raise Fault('write failed', WRITE_FAILED) from None
     return status if status >= 0 else 128 - status
 
 

@@ -193,6 +193,11 @@ class Shown(unittest.TestCase):
         self.assertEqual(found[:4], answer)
         self.assertEqual(found[-3:], ['rows (2)', ' 4  1  arrive  note tick  badge 1  from 2', '15  1  run     thread B'])
 
+    def test_a_job_that_has_not_ended_says_so(self) -> None:
+        job = {key: value for key, value in WHY[2].items() if key != 'ended'}
+        found = sentence(job, {'kind': 'ran', 'thread': 'B', 'ticks': 1}, {'kind': 'idle', 'ticks': 19}, unit=MS)
+        self.assertEqual(found, 'B, round 2, from 2 ms to 12 ms, when it has not ended: it ran for 0.5 ms, other threads for 0 ms, and its core was idle for 9.5 ms')
+
     def test_sets_of_cores_head_their_lines(self) -> None:
         sets = [{'kind': 'repeats', 'cores': '0 1', 'from': 170, 'period': 120}, {'kind': 'thread', 'thread': 'A', 'greatest': 24}]
         found = shown(*sets, {**sets[0], 'cores': '2'}, sets[1], {'kind': 'sets', 'sets': 2, 'repeating': 2, 'findings': 0})
@@ -258,6 +263,12 @@ class Tool(unittest.TestCase):
         for option in ('--why', '--forever', '--show=table'):
             self.assertNotIn('unused', self.ran('--system', system, '--run', self.program(5), system, option).stdout)
 
+    def test_output_that_is_not_written_is_told_as_the_program_tells_it(self) -> None:
+        with open('/dev/full', 'wb') as full:
+            command = [sys.executable, TOOLS / 'pretty', '--run', self.program(5)]
+            found = subprocess.run(command, stdout=full, stderr=subprocess.PIPE, text=True)
+        self.assertEqual((found.returncode, found.stderr), (3, 'to a person\nprogram-5: write failed\n'))
+
     def test_lines_of_a_file_and_of_standard_input(self) -> None:
         file = self.folder / 'lines.json'
         file.write_text(LINES)
@@ -275,7 +286,7 @@ class Tool(unittest.TestCase):
         for words, said in (
             (('--tick-us', '0'), "pretty: argument --tick-us: '0' is no length of a tick in microseconds, above 0 and at most 10^12\n"),
             ((self.folder / 'none.json',), f'pretty: {self.folder}/none.json: No such file or directory\n'),
-            (('--run', self.folder / 'none'), f'pretty: {self.folder}/none: No such file or directory\n'),
+            (('--run', self.folder / 'none'), f'none: {self.folder}/none: No such file or directory\n'),
         ):
             found = self.ran(*words, input='')
             self.assertEqual((found.returncode, found.stdout, found.stderr), (2, '', said))
