@@ -20,11 +20,12 @@ import sys
 from collections.abc import Iterable, Iterator, Sequence
 from typing import IO, Optional
 
-from . import colours, concluding, scale, source, system, tables, tabling
+from . import colours, concluding, scale, source, system, tabling
 from .concluding import Asked, Facts
 from .faults import Fault, why
 from .frame import WRITE_FAILED, OutputLost
 from .options import STANDARD_INPUT, Options
+from .system import System
 from .tabling import KIND, Look, Object
 from .verdict import FOUND, NOTHING
 
@@ -165,27 +166,26 @@ def rest_of(row: Object, unit: scale.Unit) -> str:
 
 # What is shown
 
-def hints_of(known: system.Tables) -> list[Object]:
+def hints_of(known: System) -> list[Object]:
     """Hints that mcscheck does not give: cores on which no thread runs."""
-    homes = {context.get('name'): context.get('core') for context in known.get('context', [])}
-    used = {homes.get(thread.get('context')) for thread in known.get('thread', [])}
-    return [{KIND: concluding.HINT, concluding.HINT: 'unused', 'core': core} for core in range(known.get('cores', 0)) if core not in used]
+    used = known.by_core()
+    return [{KIND: concluding.HINT, concluding.HINT: 'unused', 'core': core} for core in range(known.cores) if core not in used]
 
 
-def tables_of(path: Optional[pathlib.Path]) -> Optional[system.Tables]:
-    """The tables of a system's file, None if they are not to be had: the program is what says why."""
+def system_in(path: Optional[pathlib.Path]) -> Optional[System]:
+    """The system of a file, None if it is not to be had: the program is what says why."""
     if path is None or not path.is_file():
         return None
-    with contextlib.suppress(Fault, tables.NotTOML, OSError):
-        return tables.read(system.read_bytes(path))
+    with contextlib.suppress(Fault):
+        return system.parse(path, system.read_bytes(path))
     return None
 
 
-def asked_of(words: Sequence[str], known: Optional[system.Tables]) -> Asked:
+def asked_of(words: Sequence[str], known: Optional[System]) -> Asked:
     """What a verdict is about, by the options of the program and the file."""
     horizon = option_of(words, '--horizon') or str(source.HORIZON)
-    threads = None if known is None else known.get('thread', [])
-    deadlines = None if threads is None else sum(1 for thread in threads if thread.get('deadline'))
+    threads = None if known is None else known.threads.values()
+    deadlines = None if threads is None else sum(1 for thread in threads if thread.deadline)
     return Asked(int(horizon) if horizon.isdigit() else None, None if threads is None else len(threads), deadlines)
 
 
@@ -267,7 +267,7 @@ def read_file(asked: argparse.Namespace) -> int:
             verdict.read(source.text_lines(file))
     except OSError as error:
         raise why(path, error) from None
-    found = Asked() if asked.system is None else asked_of([], tables_of(asked.system))
+    found = Asked() if asked.system is None else asked_of([], system_in(asked.system))
     show(verdict, view_of(asked, verdict, found), found, FOUND if any(verdict.facts.findings()) else NOTHING)
     return 0
 
@@ -276,13 +276,13 @@ def run(asked: argparse.Namespace) -> int:
     """Runs mcscheck, and shows what it writes; its exit code. What goes wrong is told as mcscheck tells it."""
     sys.argv[0] = asked.run[0]
     words = [*asked.run[:1], '--format', 'json', *asked.run[1:]]
-    known = tables_of(asked.system)
     is_why = any(word == '--why' or word.startswith('--why=') for word in words)
     verdict = Verdict(asked.rows, is_why)
     with running(words) as child:
         verdict.read(source.text_lines(source.pipe_of(child.stdout)))
         status = child.wait()
-    if known is not None and status in ANSWERS and not is_why and '--forever' not in words and option_of(words, '--show') not in WITHOUT_HINTS:
+    known = system_in(asked.system) if status in ANSWERS else None
+    if known is not None and not is_why and '--forever' not in words and option_of(words, '--show') not in WITHOUT_HINTS:
         for hint in hints_of(known):
             verdict.add(hint)
     about = asked_of(words, known)

@@ -14,6 +14,7 @@ from typing import Any, Optional
 
 from worked import TOOLS
 from mcsim_tools import colours, concluding, pretty, scale
+from mcsim_tools import system as systems
 from mcsim_tools.concluding import Asked
 from mcsim_tools.tabling import Look, Table
 
@@ -25,6 +26,18 @@ WHY = [
     {'kind': 'why', 'thread': 'B', 'number': 2, 'from': 4, 'to': 24, 'waited': 0, 'activated': 4, 'begun': 4, 'ended': 24},
     {'kind': 'ran', 'thread': 'A', 'ticks': 3}, {'kind': 'ran', 'thread': 'B', 'ticks': 7}, {'kind': 'ran', 'thread': 'C', 'ticks': 4}, {'kind': 'idle', 'ticks': 6},
 ]
+# two threads on cores 1 and 3 of four; a context on core 2 without one
+FOUR = '''
+version = 1
+cores = 4
+delay = 1
+context = [
+  { name = "a", core = 1, budget = 2, period = 5 }, { name = "b", core = 2, budget = 2, period = 5 }, { name = "c", core = 3, budget = 2, period = 5 },
+]
+thread = [
+  { name = "A", context = "a", priority = 5, script = ["compute 5"] }, { name = "C", context = "c", priority = 5, script = ["compute 5"] },
+]
+'''
 MS = scale.Unit(Decimal('0.5'), 'ms')
 RED, END = '\x1b[1;31m', '\x1b[0m'
 
@@ -209,9 +222,8 @@ class Shown(unittest.TestCase):
         self.assertEqual(found[1:3], ['hint     context  meaning', 'unbound  spare    no thread is bound to it'])
 
     def test_cores_that_no_thread_uses(self) -> None:
-        context = [{'name': 'a', 'core': 1}, {'name': 'b', 'core': 2}]
-        found = pretty.hints_of({'cores': 4, 'context': context, 'thread': [{'context': 'a'}]})
-        self.assertEqual([hint['core'] for hint in found], [0, 2, 3])
+        found = pretty.hints_of(systems.parse(pathlib.Path('system'), FOUR.encode()))
+        self.assertEqual([hint['core'] for hint in found], [0, 2])
 
 
 class Colours(unittest.TestCase):
@@ -256,10 +268,10 @@ class Tool(unittest.TestCase):
 
     def test_the_file_of_the_system_says_how_many_threads_it_has(self) -> None:
         system = self.folder / 'system.toml'
-        system.write_text('cores = 2\ncontext = [{ name = "a", core = 1 }]\nthread = [{ name = "A", context = "a" }, { name = "B" }]\n')
+        system.write_text(FOUR)
         found = self.ran('--system', system, '--run', self.program(5), system).stdout
-        self.assertIn('1 of 2 threads misses its deadline; first: Loop, round 1, at 11; also 1 hint\n', found)
-        self.assertIn('\nunused     0  no thread runs on it\n', found)
+        self.assertIn('1 of 2 threads misses its deadline; first: Loop, round 1, at 11; also 2 hints\n', found)
+        self.assertIn('\nunused     0  no thread runs on it\nunused     2  no thread runs on it\n', found)
         for option in ('--why', '--forever', '--show=table'):
             self.assertNotIn('unused', self.ran('--system', system, '--run', self.program(5), system, option).stdout)
 
@@ -268,6 +280,15 @@ class Tool(unittest.TestCase):
             command = [sys.executable, TOOLS / 'pretty', '--run', self.program(5)]
             found = subprocess.run(command, stdout=full, stderr=subprocess.PIPE, text=True)
         self.assertEqual((found.returncode, found.stderr), (3, 'to a person\nprogram-5: write failed\n'))
+
+    def test_a_file_that_is_no_system_adds_nothing(self) -> None:
+        system = self.folder / 'system.toml'
+        for text in ('', 'cores = 2\nthread = 5\n', 'not TOML', 'version = 1\ncores = "many"\n'):
+            system.write_text(text)
+            for status in (1, 5):
+                found = self.ran('--system', system, '--run', self.program(status), system)
+                self.assertEqual((found.returncode, found.stderr), (status, 'to a person\n'))
+                self.assertNotIn('hint', found.stdout.replace('hints', ''))
 
     def test_lines_of_a_file_and_of_standard_input(self) -> None:
         file = self.folder / 'lines.json'
