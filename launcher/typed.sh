@@ -6,7 +6,7 @@
 #   -                          standard input, in place of FILE
 #   --format csv               in mcscheck alone: the findings, unless --show says what
 #   --format pretty, --color WHEN, --rows    in mcscheck alone: tools/pretty shows the verdict
-# All other words stay as they are. Nothing of a word is read twice, and no other program is started on the way to the one that was asked for.
+# All other words stay as they are, and so do values of which the program says better what is wrong with them.
 
 # ends with what is wrong with the options
 misuse() {
@@ -24,12 +24,10 @@ start_as_typed() {
             left=$((left - 1))
             written=$word
             set_value "$option"
-            [ -z "$dropped" ] || continue
         else
             set_word "$word"
-            [ -z "$dropped" ] || continue
         fi
-        set -- "$@" "$written"
+        [ -n "$dropped" ] || set -- "$@" "$written"
     done
     [ "$how:$picks" != csv: ] || set -- --show findings "$@"
     if [ "$how" = pretty ]; then
