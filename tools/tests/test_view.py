@@ -360,7 +360,7 @@ class Tool(unittest.TestCase):
         self.refused('--from 9 is not before the end, 9', 'one.toml', *rest, '--from', '9', '--to', '9')
         self.refused("there is no thread 'B'", 'one.toml', *rest, '--threads', 'B')
         self.refused("there is no core '1'", 'one.toml', *rest, '--cores', '1')
-        self.refused("argument --horizon: 'x' is no moment of 0 to 2^40", 'one.toml', *rest, '--horizon', 'x')
+        self.refused("argument -n/--horizon: 'x' is no moment of 0 to 2^40", 'one.toml', *rest, '--horizon', 'x')
         self.refused("argument --tick-us: '0' is no length of a tick in microseconds", 'one.toml', *rest, '--tick-us', '0')
         self.refused('rows.txt: No such file or directory', 'one.toml', '--rows', 'rows.txt', '-o', 'x.svg')
 
