@@ -22,7 +22,7 @@ sys.path[0] = str(pathlib.Path(__file__).resolve().parents[2])
 from checks import common
 from checks.common import TOP, Count, Ran, Word
 from checks.measure import performance
-from checks.pages.pages import blocks_in
+from checks.pages.pages import TYPED, blocks_in
 from checks.program.faults import DOUBLE_NAME, LONGEST, NOTHING, Case, begins, exactly, ran
 from checks.program.progress import PATIENCE, WIPED, Command, terminal
 
@@ -80,7 +80,9 @@ def example() -> Example:
     system = next(text for kind, text in blocks if kind == 'toml').encode()
     if system != SYSTEM.read_bytes():
         common.stop(f'{PAGE.name} shows another system than {SYSTEM.name}')
-    runs = [Shown(text.split()[2:], written.encode()) for (kind, text), (_, written) in zip(blocks, blocks[1:]) if kind == 'sh']
+    # options that the launcher reads are for pages.py
+    shown = [(text, written) for (kind, text), (_, written) in zip(blocks, blocks[1:]) if kind == 'sh' and not any(word in text for word in TYPED)]
+    runs = [Shown(text.split()[2:], written.encode()) for text, written in shown]
     asking = [run for run in runs if '--why' in run.words]
     return Example(system, [run for run in runs if run not in asking], asking[0])
 

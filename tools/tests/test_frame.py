@@ -23,6 +23,7 @@ SECONDS = 300
 AT_ONCE = 4
 BOARD = '<system><protection_domain name="a" priority="1"/></system>\n'
 TASKS = 'name,work,period\na,1,4\nb,2,6\n'
+VERDICT = '{"kind":"counts","missed":0}\n'
 PROGRAM = f"""#!/bin/sh
 cat >/dev/null
 case $* in *reports*) exit 0 ;; esac
@@ -61,6 +62,7 @@ TOOLS_OF_ALL = (
     Tool('tasks', 'tasks.csv', TASKS, ('--list',), '.csv'),
     Tool('microkit', 'board.system', BOARD, (), '.toml'),
     Tool('explain', *SYSTEM),
+    Tool('pretty', 'verdict.json', VERDICT),
     Tool('live', *SYSTEM, HORIZON),
 )
 WRITERS = tuple(tool for tool in TOOLS_OF_ALL if tool.target)
