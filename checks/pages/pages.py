@@ -54,7 +54,7 @@ FOREVER = ' --forever'
 # what has no line of counts at its end, which says how the verdict ends
 WITHOUT_COUNTS = (' --format csv', ' --format pretty')
 # options that the launcher reads, and no program
-TYPED = (' --format pretty', ' --tick-us ', ' -n ')
+TYPED = (' --format pretty', ' --tick-us ')
 COUNTS = re.compile(r'missed (\d+) overdue (\d+) lost (\d+) never (\d+) .*hints (\d+)')
 # a block that ends with the status of any of its verdicts
 EXITS = 'exit $status'
