@@ -25,10 +25,10 @@ from checks import common
 from checks.common import TOP, Count
 from checks.proofs import believe_lines
 from checks.proofs.believe_calls import Clause, Root, begin_with
-from checks.proofs.believe_definitions import Definition, all_behind
+from checks.proofs.believe_definitions import Definition, all_behind, definition_of
 from checks.proofs.believe_names import Place, Word
 from checks.proofs.believe_order import in_order
-from checks.proofs.believe_page import comment_of, is_plain, mark, places_in, region_in, region_of
+from checks.proofs.believe_page import comment_of, is_plain, is_repeated, mark, places_in, region_in, region_of
 
 PAGE = TOP / 'docs' / 'BELIEVE.md'
 
@@ -139,7 +139,7 @@ def check_lines(definitions: Iterable[Definition], count: Count) -> None:
     """Checks that each definition has a line, or a name that says enough."""
     for definition in definitions:
         why = f'nothing says what {definition.place} is: SAYS of checks/proofs/believe_lines.py has no line for it'
-        count.expect(why, bool(comment_of(definition)) or is_plain(definition.place))
+        count.expect(why, bool(comment_of(definition)) or is_plain(definition.place) or is_repeated(definition))
 
 
 def compare(page: str, part: Part, count: Count) -> None:
@@ -162,11 +162,18 @@ def check_tables(seen: Iterable[Place], words: set[Word], count: Count) -> None:
     plain = {Place(file, name) for file, names in believe_lines.PLAIN.items() for name in names}
     spare = sorted((lines | plain) - set(seen))
     count.expect(f'lines for definitions that nothing cites: {", ".join(map(str, spare))}', not spare)
+    count.expect(f'lines that repeat a name, which PLAIN could list: {", ".join(map(str, repeated()))}', not repeated())
     told = {Word(name, module) for module, names in believe_lines.WORDS.items() for name in names}
     for word in sorted(words - told):
         count.expect(f'WORDS of checks/proofs/believe_lines.py does not say what {word} is', False)
     idle = sorted(told - words)
     count.expect(f'words that nothing uses: {", ".join(map(str, idle))}', not idle)
+
+
+def repeated() -> list[Place]:
+    """The definitions of which SAYS just repeats the head."""
+    found = (definition_of(Place(file, name)) for file, names in believe_lines.SAYS.items() for name in names)
+    return sorted(definition.place for definition in found if definition and is_repeated(definition))
 
 
 def parts(count: Count) -> Iterator[Part]:

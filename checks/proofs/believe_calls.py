@@ -3,15 +3,14 @@ from __future__ import annotations
 
 import re
 import textwrap
-from collections.abc import Iterator, Sequence
+from collections.abc import Collection, Iterator, Sequence
 from typing import NamedTuple
 
 from checks.common import Count
 from checks.proofs.believe_definitions import types_known
 from checks.proofs.believe_names import Place, Word, bound_in, cited_in, names_in, read
+from checks.proofs.believe_text import WIDTH, one_line, split_outside
 
-# columns of the head of a call
-WIDTH = 100
 # a space at which no line ends
 UNBROKEN = '\u00a0'
 
@@ -45,20 +44,45 @@ def contract_of(clause: Clause) -> tuple[str, list[str]]:
 
 
 def begin_with(clause: Clause, count: Count) -> tuple[set[Place], set[Word]]:
-    """What a contract cites, and the types of which the head of its call speaks."""
+    """What a contract cites, and the types of what it speaks of in the head of its call."""
     text = read(clause.file)
     head, parts = contract_of(clause)
     body = '\n'.join(parts)
     places, words = cited_in(body, bound_in(body, (), None), names_in(text))
     missing = [name for name in clause.cites if name not in {place.name for place in places}]
     count.expect(f'the clause {clause.clause} of {clause.call} in crates/{clause.file} does not cite {", ".join(missing)}', not missing)
-    known = types_known(clause.file, text)
-    return places | {known[token] for token in re.findall(r'\b[A-Z]\w*', head) if token in known}, words
+    return places | types_in(clause.file, ' '.join(spoken_of(head, body))), words
+
+
+def types_in(file: str, text: str) -> set[Place]:
+    """The types and traits of this repository that a text of this file names."""
+    known = types_known(file, read(file))
+    return {known[token] for token in re.findall(r'\b[A-Z]\w*', text) if token in known}
+
+
+def types_apart(text: str) -> list[str]:
+    """The types that commas separate."""
+    return split_outside(text.replace('->', '→').replace('<', '[').replace('>', ']'), ',')
+
+
+def spoken_of(head: str, body: str) -> Iterator[str]:
+    """The types of the parameters and of the parts of a result of which clauses speak, with the traits of those that are parameters of types."""
+    generic, _, rest = one_line(head).partition('>(') if head.startswith('<') else ('', '', one_line(head).removeprefix('('))
+    parameters, _, result = rest.removesuffix(')').partition(') -> ')
+    named = [one.partition(': ') for one in types_apart(parameters)]
+    told = [kind for name, _, kind in named if kind and re.search(rf'(?<![\w.]){name}\b', body)]
+    told += [kind for clause, kind in zip(('IfOk', 'IfErr'), types_apart(result[len('Result<'):-1])) if f'{clause} result' in body]
+    if re.search(r'(?<!Ok )(?<!Err )\bresult\b', body):
+        told.append(result)
+    yield from told
+    for letter, _, traits in (one.partition(': ') for one in types_apart(generic.removeprefix('<'))):
+        if re.search(rf'\b{letter}\b', ' '.join(told)):
+            yield traits
 
 
 def head_text(call: str, head: str) -> str:
     """The head of a call, with its parameters in as few lines as they need."""
-    one = ' '.join(f'pub fn {call}{head}'.split()).replace('( ', '(').replace(', )', ')')
+    one = one_line(f'pub fn {call}{head}')
     # a line ends between parameters, and not in one
     kept = re.sub(r'(?<=[:>+&]) |(?<=mut) | (?=\+)|(?<=,) (?=[^<()]*>)', UNBROKEN, one)
     lines = textwrap.wrap(kept, WIDTH, subsequent_indent='    ', break_on_hyphens=False, break_long_words=False)
@@ -86,6 +110,12 @@ def speaks_of(part: str, about: str) -> str:
     """Of what a clause speaks, as a comment."""
     values = values_in(part)
     return f'about this call: {", ".join(values)}' if values else f'about {about} alone: any body meets it'
+
+
+def silent_types(root: Root, known: Collection[Place]) -> list[Place]:
+    """The types that heads of a part name, and of which no clause speaks."""
+    named = {place for clause in root.clauses for place in types_in(clause.file, contract_of(clause)[0])}
+    return sorted(named.difference(known), key=lambda place: place.name)
 
 
 def calls_of(root: Root) -> Iterator[tuple[str, str, str]]:

@@ -142,7 +142,6 @@ SAYS = {
         'core_of': 'the core of a notification',
         'server_at': 'the server with this number',
         'no_items_yet': 'a script of which nothing is read yet',
-        'begins_handler': 'whether the item begins a handler',
         'hears': 'the test that the item may stand there',
         'note_names': 'the names of the notifications',
         'server_names': "the names of the servers that may be called: all of the file, or in a server's script those that stand before it",
@@ -171,9 +170,6 @@ SAYS = {
         'note': 'the tests of a notification: its keys, name, core and first word',
         'is_two_or_three': 'whether the integer is there, and is 2 or 3',
         'is_three': 'whether the integer is there, and is 3',
-        'is_version_2_or_3': 'whether a file is of version 2 or 3',
-        'is_version_3': 'whether a file is of version 3',
-        'contexts': 'all contexts of a file',
         'notes': 'all notifications of a file',
         'server': 'the tests of a server: its keys, name, core, priority and script. No notification and no earlier server has its name',
         'servers': 'all servers of a file, at most 4,096 with its notifications',
@@ -182,19 +178,14 @@ SAYS = {
         'part_at': 'the context with this number',
         'times': 'the start, the rounds and the deadline of a thread',
         'thread': "the tests of a thread: its keys, name, context, priority, times and script. Its core is its context's",
-        'threads': 'all threads of a file',
         'is_same_kind': 'whether both kinds are the same',
         'order': 'the tests of an order: its keys, moment, context, configuration, and that the kind stays. Two orders may name one context',
-        'orders': 'all orders of a file',
         'link': 'the tests of a link: it goes to another core, and no earlier row goes from the same to the same',
-        'links': 'all links of a file',
         'source': 'the tests of a source: its keys, name, notification, badge and dates',
-        'sources': 'all sources of a file',
         'script_of': 'the steps of the thread with this number',
         'waits': "the test that a chain's thread has a wait among its steps",
         'waits_first': "the test that a chain's thread begins with a wait if the chain asks for badges",
         'chain': 'the tests of a chain: its keys, name, source, thread, badges and deadline, and then these two',
-        'chains': 'all chains of a file',
         'top': 'the place of the numbers at the top',
         'top_keys': 'the keys at the top of a file of version 1',
         'listed_keys': 'the keys at the top of a file: in versions 2 and 3 also links, and in version 3 also chains, sources and servers',
@@ -207,14 +198,9 @@ SAYS = {
     'mcs_text/specs/Text.antt': {
         'why_word': 'the word of a stop',
         'until_words': 'the words of the date until which a thread waits, where there is one',
-        'thread_name': 'the name of a thread',
         'note_name': 'the name of a notification or a server',
-        'context_name': 'the name of a context',
         'words_of': 'the words of a row, behind its moment and its core',
         'schedule_text': 'the lines of all rows',
-        'thread_line': 'the line of a thread: its report',
-        'core_line': 'the line of a core: its report',
-        'source_name': 'the name of a source',
     },
     'mcs_cli/specs/Run.antt': {
         'IsRun': 'what a run does: all of the output for the bytes that were read; or it fails, and tells why',
@@ -270,7 +256,6 @@ SAYS = {
         'parts_of': "the parts of its time that a core's contexts with threads are granted",
     },
     'mcs_check/specs/Told.antt': {
-        'is_miss': 'whether a finding is a miss',
         'is_overdue': 'whether a finding is that a round is overdue',
         'is_never': 'whether a finding is that a thread was never activated',
         'is_lost': 'whether a finding is a lost signal',
@@ -285,14 +270,11 @@ SAYS = {
         'note_of': 'the notification of a lost signal',
         'word_of': 'and the word that it left as it was',
         'number_of': 'the number of a round that missed its deadline',
-        'response_of': 'and its response',
         'deadline_of': 'the deadline of what is late, or never came',
     },
     'mcs_check/specs/Formats.antt': {
         'found_line': 'the line of a finding',
         'job_line': 'the line of a round that ended',
-        'hint_line': 'the line of a hint',
-        'counts_line': 'the line of counts',
         'row_line': 'the line of a row of the schedule',
     },
     'mcs_check_words/specs/CommandLine.antt': {
@@ -315,7 +297,6 @@ SAYS = {
         'idle_line': 'the line of how long the core was idle',
         'is_there': 'whether a round is there',
         'why_text': 'what is written of the round that is asked about',
-        'is_csv': 'whether this is CSV',
     },
     'mcs_why/specs/Running.antt': {
         'is_thread': 'whether it is this thread that runs',
@@ -358,9 +339,6 @@ SAYS = {
     'mcs_check_forever/specs/Verdict.antt': {
         'findings': 'the findings of all sets',
     },
-    'mcs_forever_text/specs/Lines.antt': {
-        'words_text': 'a line as words',
-    },
     'mcs_outlook/specs/Outlook.antt': {
         'NeverLoses': 'no schedule coalesces a signal of this notification',
         'open_lines': 'the lines of a set without a repetition up to the horizon',
@@ -384,13 +362,14 @@ SAYS = {
     'mcs_forever/specs/Later.antt': {
         'RoundKeepsUp': 'the thread runs further by as many ticks as the clock',
     },
-    'mcs_forever/specs/Recurs.antt': {
-        'shift_of': 'the shift of one core',
-    },
 }
 
 # by file, the definitions whose names say enough: they have no comment on the page
 PLAIN = {
+    'mcs_check/specs/Fields.antt': 'response_of'.split(),
+    'mcs_check/specs/Formats.antt': 'counts_line hint_line'.split(),
+    'mcs_check/specs/Told.antt': 'is_miss'.split(),
+    'mcs_check/specs/Why.antt': 'is_csv'.split(),
     'mcs_check_forever/specs/Foretold.antt': 'is_rows'.split(),
     'mcs_control/specs/Context.antt': (
         'Context context_charged context_ready context_unblocked head_amount head_moment '
@@ -399,7 +378,9 @@ PLAIN = {
     'mcs_control/specs/Control.antt': 'IsModeOf'.split(),
     'mcs_control/specs/laws/Shown.antt': 'ShowsBudget ShowsBudgetOf'.split(),
     'mcs_core/specs/Alarms.antt': 'alarms_at has_come later_by ringing rings'.split(),
-    'mcs_core/specs/Clock.antt': 'arrives_at core_at core_shown opening_world schedule_with world'.split(),
+    'mcs_core/specs/Clock.antt': (
+        'arrives_at core_at core_shown opening_world schedule_with world'
+    ).split(),
     'mcs_core/specs/Contexts.antt': 'held'.split(),
     'mcs_core/specs/Core.antt': (
         'context_of note_of off opening_core opening_note stands thread_of with_context with_note '
@@ -415,9 +396,15 @@ PLAIN = {
         'IsSporadic later_budget later_context later_dated later_dates later_mail later_place '
         'later_thread'
     ).split(),
+    'mcs_forever/specs/Recurs.antt': 'shift_of'.split(),
     'mcs_forever_text/specs/Fields.antt': 'Fields cores_field note_field thread_field'.split(),
+    'mcs_forever_text/specs/Lines.antt': 'words_text'.split(),
     'mcs_laws/specs/Histories.antt': 'charges_told home_of is_order_for'.split(),
     'mcs_laws/specs/Slices.antt': 'charges_in'.split(),
+    'mcs_load/specs/Script.antt': 'begins_handler'.split(),
+    'mcs_load/specs/Walk.antt': (
+        'chains contexts is_version_2_or_3 is_version_3 links orders sources threads'
+    ).split(),
     'mcs_notify/specs/Note.antt': 'after_post after_wait posted quiet_note'.split(),
     'mcs_outlook/specs/Lines.antt': (
         'count_lines end_line end_lines is_own_note losses_of misses_of of_notes thread_lines '
@@ -435,16 +422,25 @@ PLAIN = {
         'waits'
     ).split(),
     'mcs_report/specs/Tally.antt': 'no_report'.split(),
-    'mcs_script/specs/Script.antt': 'badges_in cost cost_at is_enter is_wait move_after next_of'.split(),
+    'mcs_script/specs/Script.antt': (
+        'badges_in cost cost_at is_enter is_wait move_after next_of'
+    ).split(),
     'mcs_server_laws/specs/Ceiling.antt': 'place_of priority_of script_of'.split(),
     'mcs_server_laws/specs/Exclusion.antt': 'home_of is_done word_of'.split(),
-    'mcs_server_laws/specs/Interrupts.antt': 'ArePosted InterruptsArePosted dates_to is_interrupt_of'.split(),
+    'mcs_server_laws/specs/Interrupts.antt': (
+        'ArePosted InterruptsArePosted dates_to is_interrupt_of'
+    ).split(),
     'mcs_server_laws/specs/Nesting.antt': 'ScriptsNest are_none last_is nests without_last'.split(),
     'mcs_system/specs/System.antt': (
         'System context_part core_of no_note no_source no_thread note_part source_part '
         'thread_part'
     ).split(),
-    'mcs_system/specs/WellFormed.antt': 'AreChains AreSources IsNotification IsServer IsSource'.split(),
+    'mcs_system/specs/WellFormed.antt': (
+        'AreChains AreSources IsNotification IsServer IsSource'
+    ).split(),
+    'mcs_text/specs/Text.antt': (
+        'context_name core_line source_name thread_line thread_name'
+    ).split(),
     'mcs_ticks/specs/Capped.antt': 'one_more'.split(),
     'mcs_ticks/specs/Queue.antt': 'first_of_greatest'.split(),
     'mcs_verdict/specs/Account.antt': 'is_about is_some_of since_of'.split(),

@@ -10,7 +10,7 @@ from unittest import mock
 
 from checks import common
 from checks.proofs import (
-    believe, believe_calls, believe_definitions, believe_lines, believe_names, believe_order, believe_types,
+    believe, believe_calls, believe_definitions, believe_lines, believe_names, believe_order, believe_text, believe_types,
 )
 from checks.proofs.believe_calls import Clause, Root
 
@@ -69,7 +69,7 @@ WORDS = {'std.Prelude': {'ℕ': 'a number', '◌+◌': 'sum', '◌≡◌': 'equa
 ROOTS = (Root('part', (Clause('mcs_high/src/lib.rt', 'double', 'value', ('IsAnswer',)),)),)
 CACHED = (
     believe_definitions.definitions_of, believe_definitions.types_in, believe_names.handed_on_by,
-    believe_names.constructors_in, believe_order.floors,
+    believe_names.constructors_in, believe_order.floors, believe_text.names_in_file,
 )
 
 
@@ -132,7 +132,7 @@ class Believe(unittest.TestCase):
         self.assert_passes('--write')
         page = self.page.read_text()
         self.assertTrue(page.startswith('Before.\n') and page.endswith('After.\n'))
-        self.assertLess(page.index('-- twice a number\nabbrev pub twice'), page.index('abbrev pub IsAnswer'))
+        self.assertLess(page.index('-- twice a number\ntwice (n : ℕ) : ℕ = n + n\n'), page.index('IsAnswer (n answer : ℕ) : Type 0 = answer ≡ twice n\n'))
         self.assertNotIn('thrice', page)
         call = 'pub fn double(n: u64) -> u64\n    requires { n ≤ 9 }\n    // about this call: result\n    ensures value { IsAnswer n result }'
         self.assertIn(call, page)
@@ -161,7 +161,7 @@ class Believe(unittest.TestCase):
     def test_a_line_of_the_table_stands_for_the_comment(self) -> None:
         with mock.patch.object(believe_lines, 'SAYS', {'mcs_low/specs/Rules.antt': {'twice': 'the double'}}):
             self.assert_passes('--write')
-        self.assertIn('-- the double\nabbrev pub twice', self.page.read_text())
+        self.assertIn('-- the double\ntwice (n : ℕ)', self.page.read_text())
 
     def test_a_line_of_no_use_is_seen(self) -> None:
         self.run_it('--write')
@@ -245,7 +245,7 @@ impl Model for Kind {
 
     def test_what_a_trait_declares_is_not_cited(self) -> None:
         self.put('crates/mcs_low/src/ask.rt', TRAIT)
-        self.put('crates/mcs_high/src/lib.rt', CALL.replace('/// D', 'use mcs_low::Ask;\n\n/// D').replace('double(', 'double<A: Ask>('))
+        self.put('crates/mcs_high/src/lib.rt', CALL.replace('/// D', 'use mcs_low::Ask;\n\n/// D').replace('double(n: u64)', 'double<A: Ask>(n: A)'))
         self.claim('n')
         with mock.patch.object(believe_lines, 'WORDS', {'std.Prelude': {'ℕ': 'a number', '◌≡◌': 'equal'}}):
             self.assert_passes('--write')
@@ -296,18 +296,65 @@ impl Model for Kind {
         self.put('crates/mcs_high/specs/Claim.antt', CLAIM.replace('answer ≡ BODY', 'answer ≡ record {\n  first = twice n;\n} thrice n'))
         self.assert_passes('--write')
         page = self.page.read_text()
-        self.assertIn('  first = twice n;\n} thrice n\n```', page)
+        self.assertIn('answer ≡ record { first = twice n } thrice n\n```', page)
         self.assertIn('three times a number', page)
 
     def test_a_plain_name_needs_no_line_and_has_none(self) -> None:
         with mock.patch.object(believe_lines, 'PLAIN', {'mcs_low/specs/Rules.antt': ['twice']}):
             self.assert_passes('--write')
-        self.assertIn('```\nabbrev pub twice', self.page.read_text())
+        self.assertIn('```\ntwice (n : ℕ)', self.page.read_text())
 
     def test_a_plain_name_of_no_use_is_seen(self) -> None:
         self.run_it('--write')
         with mock.patch.object(believe_lines, 'PLAIN', {'mcs_low/specs/Rules.antt': ['thrice']}):
             self.assert_fails('lines for definitions that nothing cites: thrice of crates/mcs_low/specs/Rules.antt')
+
+    def test_a_comment_that_repeats_the_name_is_left_out(self) -> None:
+        self.put('crates/mcs_low/specs/Rules.antt', RULES.replace('-- twice a number', '-- this one, twice').replace('twice n =', 'twice one =').replace('= n + n\n\n--', '= one + one\n\n--'))
+        self.assert_passes('--write')
+        self.assertIn('```\ntwice (one : ℕ) : ℕ = one + one\n```', self.page.read_text())
+
+    def test_a_line_that_repeats_the_name_is_seen(self) -> None:
+        with mock.patch.object(believe_lines, 'SAYS', {'mcs_low/specs/Rules.antt': {'twice': 'twice that'}}):
+            self.run_it('--write')
+            self.assert_fails('lines that repeat a name, which PLAIN could list: twice of crates/mcs_low/specs/Rules.antt')
+
+    def test_a_type_of_specs_is_a_row(self) -> None:
+        self.put('crates/mcs_low/specs/Rules.antt', RULES.replace('-- twice', """-- two numbers
+pub record Pair : Type 0 where
+  -- The first one.
+  pub one : ℕ
+  pub two : List ℕ
+
+-- one number or none
+pub data Some : Type 0 where
+  Nothing : Some
+  This : ℕ → List ℕ → Some
+
+-- holds of small numbers
+pub record IsSmall (n : ℕ) : Type 0 where
+  pub small : n ≡ 0
+
+-- twice""", 1).replace('twice : ℕ → ℕ', 'twice : Pair → Some → ℕ → IsSmall → ℕ').replace('twice n =', 'twice p s n i ='))
+        self.assert_passes('--write')
+        page = self.page.read_text()
+        for row in (
+            '| [`Pair`](../crates/mcs_low/specs/Rules.antt) `{ one: ℕ, two: List ℕ }` | two numbers. `one`: the first one. |',
+            '| [`Some`](../crates/mcs_low/specs/Rules.antt) | one number or none. |\n| `Some.Nothing` |  |\n| `Some.This(ℕ, List ℕ)` |  |',
+            '-- holds of small numbers\nrecord IsSmall (n : ℕ) : Type 0 where\n  small : n ≡ 0\n',
+            'twice (p : Pair) (s : Some) (n : ℕ) (i : IsSmall) : ℕ = n + n\n',
+            '3 definitions and 2 types from 2 files: 11 lines.',
+        ):
+            self.assertIn(row, page)
+
+    def test_a_type_of_which_no_clause_speaks_is_only_named(self) -> None:
+        self.put('crates/mcs_high/src/lib.rt', CALL.replace('/// D', 'use mcs_low::kind::{Kind, Other};\n\n/// D').replace('n: u64)', 'n: u64, kind: &Kind)'))
+        self.put('crates/mcs_high/src/kind.rt', KIND)
+        self.put('crates/mcs_low/src/lib.rt', 'pub use kind::Kind;\n')
+        self.assert_passes('--write')
+        page = self.page.read_text()
+        self.assertIn('```\n\nNo clause here speaks of [`Kind`](../crates/mcs_low/src/kind.rt).\n<!-- part: ends -->', page)
+        self.assertNotIn('What is asked for.', page)
 
     def test_an_invariant_may_be_left_to_the_next_part(self) -> None:
         self.put('crates/mcs_low/src/kind.rt', """ghost use Rattle.mcs_low.specs.Rules.{thrice};
@@ -353,6 +400,125 @@ class Clauses(unittest.TestCase):
             'pub fn run<R: Threads + Wait + Sync, G: Gate + Sync>(rt: &R, system: Arc<System>,',
             '    some_longer_name: usize, gate: &mut G) -> Result<(), Fault>',
         ])
+
+
+    def test_a_head_gives_types_to_what_clauses_speak_of(self) -> None:
+        head = '<R: Threads, S: Sink + Sync>(rt: &R, system: Arc<System>, sink: &mut S) -> Result<Whole, Fault>\n'
+        for body, wanted in (
+            ('ensures { IfOk result (λ whole. whole ≡ f (arc_value system)) }', ['Arc[System]', 'Whole']),
+            ('ensures { OnOk result (Given sink.old sink.new) }', ['&mut S', 'Sink + Sync']),
+            ('ensures { IfErr result (λ f. f ≡ None) }', ['Fault']),
+            ('ensures { result ≡ Ok None }', ['Result<Whole, Fault>']),
+            ('ensures { x.system ≡ y }', []),
+        ):
+            with self.subTest(body):
+                self.assertEqual([*believe_calls.spoken_of(head, body)], wanted)
+
+    def test_a_head_without_parameters_gives_none(self) -> None:
+        self.assertEqual([*believe_calls.spoken_of('()\n', 'ensures { Holds }')], [])
+
+
+class Texts(unittest.TestCase):
+    def setUp(self) -> None:
+        # of the words that files may bring in, `zero` is a pattern, and `item` is not
+        names = believe_names.Names({}, {'zero': believe_names.Word('zero', 'std.Prelude')}, {})
+        patched = mock.patch.object(believe_text, 'names_in_file', lambda file: names)
+        patched.start()
+        self.addCleanup(patched.stop)
+
+    def written(self, text: str) -> list[str]:
+        place = believe_names.Place('mcs_low/specs/Rules.antt', text.split()[2].removeprefix('pub'))
+        definition = believe_definitions.Definition(place, (), tuple(text.splitlines()), (), frozenset(), frozenset())
+        return [*believe_text.written(definition)]
+
+    def test_one_clause_has_the_types_of_its_parameters(self) -> None:
+        for text, wanted in (
+            ('abbrev pub f : ℕ → ℕ → (ℕ → List ℕ) → Bool\nf a item g =\n    g a == item ∷ []', 'f (a item : ℕ) (g : ℕ → List ℕ) : Bool = g a == item ∷ []'),
+            ('unfoldable pub f : {A : Type 0} → List A → List A → ℕ\nf xs _ = length xs', 'f {A : Type 0} (xs _ : List A) : ℕ = length xs'),
+            ('abbrev f : ℕ → Core → Turn\nf a = says a', 'f (a : ℕ) : Core → Turn = says a'),
+            ('abbrev pub f :\n    ℕ\nf = 1', 'f : ℕ = 1'),
+        ):
+            with self.subTest(text):
+                self.assertEqual(self.written(text), [wanted])
+
+    def test_other_clauses_keep_the_type_apart(self) -> None:
+        for text, wanted in (
+            ('abbrev pub f : ℕ → ℕ\nf zero = 1', 'f : ℕ → ℕ;  f zero = 1'),
+            ('abbrev pub f : (n : ℕ) → Fin n → ℕ\nf n i = n', 'f : (n : ℕ) → Fin n → ℕ;  f n i = n'),
+            ('abbrev pub f : ℕ → Fin m\nf m = m', 'f : ℕ → Fin m;  f m = m'),
+            ('abbrev pub f : N\nf a = a', 'f : N;  f a = a'),
+        ):
+            with self.subTest(text):
+                self.assertEqual(self.written(text), [wanted])
+
+    def test_neighbours_of_one_value_are_one_clause(self) -> None:
+        for clauses, wanted in (
+            ('f (One a) n = n\nf (Two b c) n = n\nf Three n = n', 'f (One a | Two b c | Three) n = n'),
+            ('f (One a) n = a\nf (Two a) n = a', 'f (One a | Two a) n = a'),
+            ('f (Some (One a)) n = 0\nf None n = 0', 'f (Some (One a) | None) n = 0'),
+            ('f ((One a) (Two b)) n = 0\nf None n = 0', 'f ((One a) (Two b) | None) n = 0'),
+            # the first value is bound, the second is that of another definition
+            ('f (One a) n = a\nf (Two b) n = a', 'f (One a) n = a;  f (Two b) n = a'),
+            ('f One m = 0\nf Two n = 0', 'f One m = 0;  f Two n = 0'),
+            ('f One n = 0\nf Two n = n\nf Six n = 0', 'f One n = 0;  f Two n = n;  f Six n = 0'),
+        ):
+            with self.subTest(clauses):
+                self.assertEqual(self.written(f'abbrev pub f : A → ℕ → ℕ\n{clauses}'), [f'f : A → ℕ → ℕ;  {wanted}'])
+
+    def test_clauses_are_one_line_if_they_fit(self) -> None:
+        # the type and both clauses have 41, 29 and 30 columns; between two on a line there are 3
+        kind = 'f : List ℕ → List ℕ → List ℕ → List ℕ → ℕ'
+        first, second = f'f [] = {"a" * 22}', f'f (x ∷ xs) = {"b" * 17}'
+        for more, wanted in (
+            (0, [kind, f'{first};  {second}']),
+            (38, [kind, f'{first};  {second}{"b" * 38}']),
+            (39, [kind, first, f'{second}{"b" * 39}']),
+        ):
+            with self.subTest(more):
+                self.assertEqual(self.written(f'abbrev pub {kind}\n{first}\n{second}{"b" * more}'), wanted)
+
+    def test_a_head_that_is_too_wide_stays_apart(self) -> None:
+        kinds = [f'Type{letter}OfManyLetters' for letter in 'ABCD']
+        names = ['one', 'two', 'three', 'four']
+        self.assertEqual(self.written(f'abbrev pub f : {" → ".join(kinds)} → ℕ\nf {" ".join(names)} = 0'), [
+            f'f : {" → ".join(kinds)} → ℕ', 'f one two three four = 0',
+        ])
+
+    def test_short_fields_stand_side_by_side(self) -> None:
+        long = 'x' * 41
+        self.assertEqual(self.written(f'abbrev pub f : R\nf =\n    record {{\n      a = 1;\n      b = 2;\n      c = {long};\n      d = 4;\n      e = {long};\n    }}'), [
+            'f : R = record {', '  a = 1; b = 2;', f'  c = {long};', '  d = 4;', f'  e = {long} }}',
+        ])
+
+    def test_a_choice_begins_behind_its_condition(self) -> None:
+        condition, one, other = 'a' * 40, 'b' * 40, 'c' * 40
+        self.assertEqual(self.written(f'abbrev pub f : ℕ\nf =\n    if {condition}\n    then {one}\n    else {other}'), [
+            'f : ℕ =', f'    if {condition} then {one}', f'    else {other}',
+        ])
+
+    def test_lines_and_heads_of_modules_have_no_empty_line_between(self) -> None:
+        module, one, two = ['module _ (n : ℕ) where'], ['  f : ℕ = n'], ['  -- twice', '  g : ℕ = n + n']
+        self.assertEqual(believe_text.together([['a : ℕ = 1'], ['b : ℕ = 2'], module, one, one, two, one, module, two]).splitlines(), [
+            'a : ℕ = 1', 'b : ℕ = 2', '', *module, *one, *one, '', *two, '', *one, '', *module, *two,
+        ])
+
+    def test_the_names_of_a_block(self) -> None:
+        block = """-- a comment : with a colon
+one (n : ℕ) (f : (ℕ → ℕ) → ℕ) : ℕ = f n
+
+two : ℕ → ℕ;  two zero = 1;  two (suc n) = n
+infixl 4 ◌>>=◌
+◌>>=◌ : A → B → C
+a >>= b =
+    three : x
+
+module _ (n : ℕ) where
+  record IsIt : Type 0 where
+    field : n ≡ 1
+
+  four : Type 0 = (k : ℕ) → k ≡ n
+"""
+        self.assertEqual([*believe_text.names_on_page(block)], ['one', 'two', '◌>>=◌', 'IsIt', 'four'])
 
 
 class Types(unittest.TestCase):
