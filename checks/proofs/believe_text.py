@@ -83,7 +83,7 @@ def without_enclosing(text: str) -> str:
         depth += (letter == '(') - (letter == ')')
         if depth < 0:
             return text
-    return inner if text.startswith('(') and text.endswith(')') and not depth else text
+    return inner if text.startswith('(') and text.endswith(')') else text
 
 
 def typed_head(name: str, kind: str, clause: str, constructors: Collection[str]) -> str | None:
@@ -179,7 +179,7 @@ def or_pattern(first: str, second: str) -> str | None:
     """The left sides of two clauses as one, if one argument differs."""
     one, other = arguments(first), arguments(second)
     apart = [at for at, pair in enumerate(zip(one, other)) if pair[0] != pair[1]]
-    if len(one) != len(other) or len(apart) != 1 or apart[0] == 0:
+    if len(one) != len(other) or len(apart) != 1:
         return None
     at = apart[0]
     parts = f'{without_enclosing(one[at])} | {without_enclosing(other[at])}'

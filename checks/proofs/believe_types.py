@@ -11,7 +11,7 @@ from checks.proofs.believe_text import split_outside
 HEAD = '| Type, variant | What it is |\n|---|---|\n'
 # the head of a type: its name, and the name with the types that it takes
 DECLARED = re.compile(r'(?:pub(?:\(\w+\))? )?(struct|enum|trait) ((\w+)(?:<.*?>)?)(.*)')
-# the head of a type of specs/; what takes values, or stands in a module with some, is a claim
+# the head of a type of specs/; what takes values, or stands in a module that does, is a claim
 OF_SPECS = re.compile(r'pub (record|data) (\w+) : Type 0 where$')
 # how contracts see a type
 SEEN = re.compile(r'ghost (Value|view|invariant) = \{ (.*?) \};')
@@ -20,7 +20,7 @@ ROW = re.compile(r'^\| \[`(\w+)[^`]*`\]\(\.\./crates/([^)]*)\)', re.M)
 
 def is_type(definition: Definition) -> bool:
     """Whether the page has this as a row of its table."""
-    return is_source(definition.place) or bool(OF_SPECS.match(definition.lines[0]) and not definition.modules)
+    return is_source(definition.place) or bool(OF_SPECS.match(definition.lines[0]))
 
 
 class Member(NamedTuple):

@@ -437,6 +437,7 @@ class Texts(unittest.TestCase):
             ('unfoldable pub f : {A : Type 0} → List A → List A → ℕ\nf xs _ = length xs', 'f {A : Type 0} (xs _ : List A) : ℕ = length xs'),
             ('abbrev f : ℕ → Core → Turn\nf a = says a', 'f (a : ℕ) : Core → Turn = says a'),
             ('abbrev pub f :\n    ℕ\nf = 1', 'f : ℕ = 1'),
+            ('abbrev pub f : (A → B) × (B → A) → ℕ\nf p = 0', 'f (p : (A → B) × (B → A)) : ℕ = 0'),
         ):
             with self.subTest(text):
                 self.assertEqual(self.written(text), [wanted])
@@ -444,7 +445,7 @@ class Texts(unittest.TestCase):
     def test_other_clauses_keep_the_type_apart(self) -> None:
         for text, wanted in (
             ('abbrev pub f : ℕ → ℕ\nf zero = 1', 'f : ℕ → ℕ;  f zero = 1'),
-            ('abbrev pub f : (n : ℕ) → Fin n → ℕ\nf n i = n', 'f : (n : ℕ) → Fin n → ℕ;  f n i = n'),
+            ('abbrev pub f : (n : ℕ) → Fin n → ℕ\nf m i = m', 'f : (n : ℕ) → Fin n → ℕ;  f m i = m'),
             ('abbrev pub f : ℕ → Fin m\nf m = m', 'f : ℕ → Fin m;  f m = m'),
             ('abbrev pub f : N\nf a = a', 'f : N;  f a = a'),
         ):
@@ -485,9 +486,10 @@ class Texts(unittest.TestCase):
         ])
 
     def test_short_fields_stand_side_by_side(self) -> None:
-        long = 'x' * 41
-        self.assertEqual(self.written(f'abbrev pub f : R\nf =\n    record {{\n      a = 1;\n      b = 2;\n      c = {long};\n      d = 4;\n      e = {long};\n    }}'), [
-            'f : R = record {', '  a = 1; b = 2;', f'  c = {long};', '  d = 4;', f'  e = {long} }}',
+        # with their names and semicolons these have 40 and 41 columns
+        short, long = 'x' * 35, 'x' * 36
+        self.assertEqual(self.written(f'abbrev pub f : R\nf =\n    record {{\n      a = {short};\n      b = 2;\n      c = {long};\n      d = 4;\n      e = {long};\n    }}'), [
+            'f : R = record {', f'  a = {short}; b = 2;', f'  c = {long};', '  d = 4;', f'  e = {long} }}',
         ])
 
     def test_a_choice_begins_behind_its_condition(self) -> None:
