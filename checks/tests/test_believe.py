@@ -9,6 +9,7 @@ import unittest
 from unittest import mock
 
 from checks import common
+from checks.pages import prose
 from checks.proofs import (
     believe, believe_calls, believe_definitions, believe_lines, believe_names, believe_order, believe_text, believe_types,
 )
@@ -80,6 +81,13 @@ class Lines(unittest.TestCase):
         keys = [[ast.literal_eval(key) for key in table.keys if key] for table in tables]
         self.assertGreater(sum(map(len, keys)), 400)
         self.assertEqual([key for own in keys for key in set(own) if own.count(key) > 1], [])
+
+
+    def test_lines_are_plain_english(self) -> None:
+        tables = (*believe_lines.SAYS.values(), *believe_lines.WORDS.values())
+        lines = [line for table in tables for line in table.values()]
+        self.assertGreater(len(lines), 300)
+        self.assertEqual([(line, broken) for line in lines for one in prose.sentences(line) for broken in prose.rules_broken(one)], [])
 
 
 class Believe(unittest.TestCase):
