@@ -29,6 +29,7 @@ from checks.proofs.believe_definitions import Definition, all_behind, definition
 from checks.proofs.believe_names import Place, Word
 from checks.proofs.believe_order import in_order
 from checks.proofs.believe_page import comment_of, is_plain, is_repeated, mark, places_in, region_in, region_of
+from checks.proofs.believe_types import is_type
 
 PAGE = TOP / 'docs' / 'BELIEVE.md'
 
@@ -40,6 +41,8 @@ CHECK = 'mcs_check/src/run.rt'
 WHY = 'mcs_check/src/why.rt'
 FOREVER = 'mcs_check_forever/src/run.rt'
 RUN = 'mcs_cli/src/streams.rt'
+WATCH = 'mcs_chain/src/watch.rt'
+TALLY = 'mcs_chain/src/tally.rt'
 
 
 def blamed(file: str, call: str) -> tuple[Clause, ...]:
@@ -101,6 +104,18 @@ ROOTS = (
     ), about='files and the clock'),
     # (its one clause has no name)
     Root('verdict', (Clause('mcs_verdict/src/all.rt', 'find_all', '', ('findings',)),)),
+    # (most clauses of a method have no name)
+    Root('chains', (
+        Clause(WATCH, 'Watch::new', '', ('watch_of',)),
+        Clause(WATCH, 'Watch::see', 'ok', ('watch_of',)),
+        Clause(WATCH, 'Watch::answered', '', ('origins',)),
+        Clause(WATCH, 'Watch::unanswered', '', ('origins',)),
+        Clause(WATCH, 'Watch::slow', '', ('slow',)),
+        Clause(WATCH, 'Watch::unanswered_at', '', ('unanswered',)),
+        Clause(TALLY, 'Tally::new', '', ('tally_with',)),
+        Clause(TALLY, 'Tally::see', '', ('tally_of',)),
+        Clause(TALLY, 'Tally::figures', '', ('figures_of',)),
+    )),
     Root('check', (Clause(CHECK, 'check', 'check', ('IsCheck',)), *blamed(CHECK, 'check'))),
     Root('why', (Clause(WHY, 'explain', 'explained', ('IsExplained',)), *blamed(WHY, 'explain'))),
     Root('forever', (
@@ -136,10 +151,11 @@ def part_of(root: Root, seen: dict[Place, Definition], said: set[Word], count: C
 
 
 def check_lines(definitions: Iterable[Definition], count: Count) -> None:
-    """Checks that each definition has a line, or a name that says enough."""
+    """Checks that each definition has a line, or a name that says enough. A type always has a line."""
     for definition in definitions:
         why = f'nothing says what {definition.place} is: SAYS of checks/proofs/believe_lines.py has no line for it'
-        count.expect(why, bool(comment_of(definition)) or is_plain(definition.place) or is_repeated(definition))
+        needs_none = not is_type(definition) and (is_plain(definition.place) or is_repeated(definition))
+        count.expect(why, bool(comment_of(definition)) or needs_none)
 
 
 def compare(page: str, part: Part, count: Count) -> None:

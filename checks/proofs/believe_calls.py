@@ -16,7 +16,7 @@ UNBROKEN = '\u00a0'
 
 
 class Clause(NamedTuple):
-    """A clause of the contract of a call, by the file and the name of the call, and the definitions that it has to cite."""
+    """A clause of the contract of a call, by the file and the name of the call (`Type::name` for a method), and the definitions that it has to cite."""
 
     file: str
     call: str
@@ -36,11 +36,18 @@ class Root(NamedTuple):
 
 def contract_of(clause: Clause) -> tuple[str, list[str]]:
     """The head of a call, up to its contract, and those clauses of this that matter: what it requires, and the one that is meant."""
-    found = re.search(rf'^pub fn {clause.call}\b(.*?)^\{{', read(clause.file), re.M | re.S)
+    owner, _, name = clause.call.rpartition('::')
+    text = textwrap.dedent(methods_of(owner, read(clause.file)) if owner else read(clause.file))
+    found = re.search(rf'^pub fn {name}\b(.*?)^\{{', text, re.M | re.S)
     if not found:
         return '', []
     head, *parts = re.split(r'^ *(?=(?:ensures|requires)\b)', found[1], flags=re.M)
     return head, [part.rstrip() for part in parts if part.startswith(('requires', f'ensures {clause.clause}'.rstrip() + ' '))]
+
+
+def methods_of(owner: str, text: str) -> str:
+    """The lines between the braces of the methods of a type."""
+    return '\n'.join(re.findall(rf'^impl {owner} \{{\n(.*?)^\}}', text, re.M | re.S))
 
 
 def begin_with(clause: Clause, count: Count) -> tuple[set[Place], set[Word]]:
@@ -51,7 +58,13 @@ def begin_with(clause: Clause, count: Count) -> tuple[set[Place], set[Word]]:
     places, words = cited_in(body, bound_in(body, (), None), names_in(text))
     missing = [name for name in clause.cites if name not in {place.name for place in places}]
     count.expect(f'the clause {clause.clause} of {clause.call} in crates/{clause.file} does not cite {", ".join(missing)}', not missing)
-    return places | types_in(clause.file, ' '.join(spoken_of(head, body))), words
+    return places | types_in(clause.file, ' '.join(spoken_of(with_owner(clause.call, head), body))), words
+
+
+def with_owner(call: str, head: str) -> str:
+    """The head of a method with the name of its type."""
+    owner = call.rpartition('::')[0]
+    return re.sub(r'(&(?:mut )?)self\b', rf'self: \1{owner}', head).replace('Self', owner) if owner else head
 
 
 def types_in(file: str, text: str) -> set[Place]:
@@ -128,9 +141,15 @@ def calls_of(root: Root) -> Iterator[tuple[str, str, str]]:
         yield file, call, f'{head_text(call, head)}\n{parts_text(those, root.about)}'
 
 
+def with_names(file: str, part: str) -> str:
+    """A clause in which each type has the name that it has where it is declared."""
+    here = {name: place.name for name, place in names_in(read(file)).places.items() if place.name != name and name[:1].isupper()}
+    return re.sub(r'(?<![\w.])\w+', lambda found: here.get(found[0], found[0]), part)
+
+
 def parts_text(clauses: Sequence[Clause], about: str) -> str:
     """The clauses of one call, each once, with what it speaks of."""
-    parts = dict.fromkeys(part for clause in clauses for part in contract_of(clause)[1])
+    parts = dict.fromkeys(with_names(clause.file, part) for clause in clauses for part in contract_of(clause)[1])
     lines = []
     for part in sorted(parts, key=lambda part: not part.startswith('requires')):
         if part.startswith('ensures'):

@@ -6,6 +6,57 @@ from __future__ import annotations
 
 # by file, from crates/ on, and name
 SAYS = {
+    'mcs_histogram/specs/stored/Fields.antt': {
+        'AreFields': 'the fields of a histogram: a bucket for each value up to the limit, and the count is the sum of the buckets',
+    },
+    'mcs_chain/specs/Answers.antt': {
+        'interrupts': "the number of interrupts of the chain's source",
+        'gone_after': 'how far each thread is after these rows',
+        'origins': 'the sets of origins after these rows',
+        'slow': 'the finding of a row that follows these rows: the earliest origin that it answers too late',
+        'unanswered_for': 'the finding at the horizon for this origin without an answer, if its deadline has passed',
+        'unanswered': 'the finding at the horizon: the earliest origin without an answer, if its deadline has passed',
+    },
+    'mcs_chain/specs/Moves.antt': {
+        'free': "the place of a thread's free set",
+        'all_bits': 'the places that are bits of a word',
+        'taking': 'how a thread takes what the wait at this step gives it',
+        'gives': 'the effect of a signal, which leaves this core if its notification is at home on another one',
+        'moves': 'the effect of a row on the sets of origins, if the threads are as far as given',
+        'moves_by': 'the effect of a row, by its event',
+    },
+    'mcs_chain/specs/Steps.antt': {
+        'is_given': 'the thread has gone through a wait that gave this word, which begins the round if it is the first',
+        'goes_by': 'how far a thread is after this row of it',
+        'one_goes': 'how far all threads are after a row, if it is a row of this thread',
+        'all_go': 'how far all threads are after a row',
+        'all_fresh': 'all threads are at the beginning of a round',
+        'gone_of': 'how far this thread is',
+        'behind': 'the step after this item',
+        'next_step': 'the first of these items that posts or takes and that the round does not pass over; it begins at this step',
+        'step_of': "the step of the thread's next row that posts or takes. If no step is left for the word, the thread is at its first wait again",
+    },
+    'mcs_chain/specs/Figures.antt': {
+        'tally_with': 'the tally of this number of interrupts, and of these latencies',
+        'tally_of': 'the tally of a chain after these rows',
+        'Tally': 'what a tally keeps: the number of interrupts, and figures of the latencies',
+        'figures_of': 'the figures of a chain after these rows',
+        'figures_with': 'the figures of a chain with this deadline, this number of interrupts and these latencies',
+    },
+    'mcs_chain/specs/Origins.antt': {
+        'Origins': "a chain's origins without an answer, by who has them",
+        'join_first': 'an origin joins a set; `rest` joins what follows it',
+        'no_origins': 'the sets before the first row',
+        'sent': 'an origin that a signal of this core and moment carries',
+        'sets_out': 'a signal to another core carries these origins',
+        'lands': 'the signal that this core made at this moment arrives, and posts its origins',
+        'holds': 'the notification holds the origins that were posted',
+        'gets': 'a thread takes the origins that the notification held',
+        'moved': 'the sets after a row with this effect',
+    },
+    'mcs_chain/specs/Watch.antt': {
+        'Watch': 'what a watch of a chain keeps: how far each thread is, and the sets of origins',
+    },
     'mcs_ticks/specs/Queue.antt': {
         'in_one_list': 'one list in order of entering, and the best is the first of maximum priority',
     },
@@ -17,6 +68,7 @@ SAYS = {
         'budget_ordered': 'an order at t sets this configuration',
         'budget_ready': 'a budget is ready once its first date has come; a slice always is',
         'amount_of': 'the amount of the head, or the rest of the slice',
+        'Context': 'a scheduling context: its configuration, its mode, and the budget that is left',
     },
     'mcs_script/specs/Script.antt': {
         'is_left_open': 'whether the item with this number is an `Enter` that is last or directly before a handler',
@@ -64,9 +116,10 @@ SAYS = {
         'chooses_of': 'if no thread runs, the best ready thread is chosen',
         'frees': 'a thread leaves a server, with its row',
         'turn_with': 'the whole turn of core c at moment t, with the mail that arrives',
-        'round_begun': 'a wait gives this word at t: as the first item it begins the round, whose word it then is',
+        'round_begun': 'a wait gives this word at t. If it is the first item, the round begins, and has the word',
         'leaves': 'the running thread, already charged k ticks, leaves the core and enters a queue by `enters`',
-        'after_count': 'after the count: the finished item takes effect; else only an exhausted head stops the thread',
+        'after_count': 'after the count: an item with no tick left is finished; else an exhausted head may stop the thread',
+        '◌followed_by◌': 'one part, and then another, which begins with the core that the first one leaves',
     },
     'mcs_core/specs/Clock.antt': {
         'turn_at_with': 'the turn of core c at moment t, with the signals that arrive there',
@@ -374,13 +427,14 @@ SAYS = {
 
 # by file, the definitions whose names say enough: they have no comment on the page
 PLAIN = {
+    'mcs_chain/specs/Answers.antt': 'is_interrupt'.split(),
     'mcs_check/specs/Fields.antt': 'response_of'.split(),
     'mcs_check/specs/Formats.antt': 'counts_line hint_line'.split(),
     'mcs_check/specs/Told.antt': 'is_miss'.split(),
     'mcs_check/specs/Why.antt': 'is_csv'.split(),
     'mcs_check_forever/specs/Foretold.antt': 'is_rows'.split(),
     'mcs_control/specs/Context.antt': (
-        'Context context_charged context_chosen context_ready context_unblocked context_woken '
+        'context_charged context_chosen context_ready context_unblocked context_woken '
         'head_amount head_moment left_shown max_refills_of moment_of refills_shown'
     ).split(),
     'mcs_control/specs/Control.antt': 'IsModeOf'.split(),
@@ -508,6 +562,7 @@ WORDS = {
         'position': 'the index of the first element for which this is `true`, or `None`',
         'Result': '`Ok x` or `Err e`',
         'set': '`set xs n a`: the list with `a` at index `n`',
+        'slice_set': '`slice_set xs n a`: the list with `a` at index `n`',
         'Some': 'this value',
         'string_bytes': 'the bytes of a text',
         'suc': 'the next number',

@@ -20,8 +20,12 @@ def comment_of(definition: Definition) -> tuple[str, ...]:
     if is_plain(definition.place):
         return ()
     said = said_of(definition.place)
+    if said is None and is_repeated(definition):
+        return ()
+    if said is None and max(map(len, definition.comment), default=0) <= WIDTH:
+        return definition.comment
     if said is None:
-        return () if is_repeated(definition) else definition.comment
+        said = ' '.join(line.strip(' -') for line in definition.comment)
     lead = '/// ' if is_source(definition.place) else ' ' * indent_of(definition.lines[0]) + '-- '
     return tuple(textwrap.wrap(said, WIDTH, initial_indent=lead, subsequent_indent=lead))
 
@@ -60,7 +64,7 @@ def lines_of(definition: Definition) -> int:
 
 
 def type_rows(definition: Definition) -> Iterator[str]:
-    said = ' '.join(line.strip().lstrip('/-').strip() for line in comment_of(definition))
+    said = ' '.join(re.sub(r'^ *(?:///|--)? *(?:- )?', '', line) for line in comment_of(definition))
     return believe_types.rows_of(definition, ' '.join(said.split()))
 
 

@@ -87,7 +87,9 @@ def promises(member: Member) -> bool:
 
 
 def sentence(text: str) -> str:
-    return text if not text or text.endswith('.') else f'{text}.'
+    """A text as a sentence."""
+    begun = text[:1].upper() + text[1:]
+    return begun if not text or text.endswith('.') else f'{begun}.'
 
 
 def split(definition: Definition) -> tuple[list[str], list[str]]:
@@ -136,8 +138,11 @@ def rows_of(definition: Definition, said: str) -> Iterator[str]:
     if kind == 'struct':
         fields = [member.text.removeprefix('pub ') for member in members]
         shape = f'{{ {", ".join(fields)} }}' if fields else rest.rstrip(';').replace('pub ', '')
-        told = ' '.join(f'{as_code(field.partition(":")[0])}: {sentence(small(member.said))}' for field, member in zip(fields, members) if member.said)
+        told = ' '.join(f'{as_code(field.partition(":")[0])}: {small(sentence(member.said))}' for field, member in zip(fields, members) if member.said)
         yield row(f'{link} {as_code(shape)}' if shape else link, f'{sentence(said)} {told}'.strip() + seen)
+        return
+    if kind == 'enum' and not any(member.said for member in members):
+        yield row(f'{link} {as_code(" | ".join(member.text for member in members))}', sentence(said) + seen)
         return
     yield row(link, sentence(said) + seen)
     for member in members:

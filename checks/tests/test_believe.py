@@ -214,7 +214,7 @@ class Believe(unittest.TestCase):
         self.claim('twice kind.Small')
         self.assert_passes('--write')
         page = self.page.read_text()
-        self.assertIn('| [`Kind`](../crates/mcs_low/src/kind.rt) | What is asked for. |\n| `Kind.Small` |', page)
+        self.assertIn('| [`Kind`](../crates/mcs_low/src/kind.rt) `Small` | What is asked for. |\n', page)
         self.assertNotIn('derive', page)
         self.assertIn('`kind.` precedes a variant of `Kind`', page)
 
@@ -347,13 +347,64 @@ pub record IsSmall (n : ℕ) : Type 0 where
         self.assert_passes('--write')
         page = self.page.read_text()
         for row in (
-            '| [`Pair`](../crates/mcs_low/specs/Rules.antt) `{ one: ℕ, two: List ℕ }` | two numbers. `one`: the first one. |',
-            '| [`Some`](../crates/mcs_low/specs/Rules.antt) | one number or none. |\n| `Some.Nothing` |  |\n| `Some.This(ℕ, List ℕ)` |  |',
+            '| [`Pair`](../crates/mcs_low/specs/Rules.antt) `{ one: ℕ, two: List ℕ }` | Two numbers. `one`: the first one. |',
+            '| [`Some`](../crates/mcs_low/specs/Rules.antt) `Nothing \\| This(ℕ, List ℕ)` | One number or none. |',
             '-- holds of small numbers\nrecord IsSmall (n : ℕ) : Type 0 where\n  small : n ≡ 0\n',
             'twice (p : Pair) (s : Some) (n : ℕ) (i : IsSmall) : ℕ = n + n\n',
-            '3 definitions and 2 types from 2 files: 11 lines.',
+            '3 definitions and 2 types from 2 files: 9 lines.',
         ):
             self.assertIn(row, page)
+
+    def test_a_type_needs_a_line(self) -> None:
+        self.put('crates/mcs_low/src/kind.rt', KIND.replace('/// What is asked for.\n', ''))
+        self.claim('twice kind.Small')
+        with mock.patch.object(believe_lines, 'PLAIN', {'mcs_low/src/kind.rt': ['Kind']}):
+            self.run_it('--write')
+            self.assert_fails('nothing says what Kind of crates/mcs_low/src/kind.rt is')
+
+    def test_a_comment_that_is_too_wide_is_wrapped(self) -> None:
+        words = 'twenty letters here. ' * 5
+        self.put('crates/mcs_low/specs/Rules.antt', RULES.replace('-- twice a number', f'-- {words.strip()}'))
+        self.assert_passes('--write')
+        self.assertIn(f'-- {"twenty letters here. " * 4}twenty\n-- letters here.\ntwice', self.page.read_text())
+
+    def test_a_method_is_a_call(self) -> None:
+        self.put('crates/mcs_high/src/lib.rt', """ghost use Rattle.std.specs.Prelude.{◌≡◌, ℕ};
+ghost use Rattle.mcs_low.specs.Rules.{twice};
+ghost use Rattle.mcs_low.specs.declared.kind.Kind.{Kind as TheKind};
+
+/// Another.
+pub struct Other(u64);
+
+/// Counts.
+pub struct Counter {
+    count: u64,
+}
+
+impl Other {
+    pub fn double(&self) -> u64
+        ensures { result ≡ 0 }
+    {
+        0
+    }
+}
+
+impl Counter {
+    /// Doubles.
+    pub fn double(&mut self, other: &Other) -> u64
+        ensures { (kind : TheKind) → result ≡ twice self.old }
+    {
+        self.count
+    }
+}
+""")
+        clause = Clause('mcs_high/src/lib.rt', 'Counter::double', '', ('twice',))
+        with mock.patch.object(believe, 'ROOTS', (Root('part', (clause,)),)):
+            self.assert_passes('--write')
+        page = self.page.read_text()
+        self.assertIn('| [`Counter`](../crates/mcs_high/src/lib.rt) `{ count: u64 }` | Counts. |', page)
+        self.assertIn('// crates/mcs_high/src/lib.rt\npub fn Counter::double(&mut self, other: &Other) -> u64\n    // about this call: result\n    ensures { (kind : Kind) → result ≡ twice self.old }\n```', page)
+        self.assertIn('No clause here speaks of [`Other`](../crates/mcs_high/src/lib.rt).', page)
 
     def test_a_type_of_which_no_clause_speaks_is_only_named(self) -> None:
         self.put('crates/mcs_high/src/lib.rt', CALL.replace('/// D', 'use mcs_low::kind::{Kind, Other};\n\n/// D').replace('n: u64)', 'n: u64, kind: &Kind)'))
@@ -543,7 +594,7 @@ class Types(unittest.TestCase):
     def test_each_variant_has_a_row(self) -> None:
         rows = self.rows('pub enum Kind {', '    /// None of them.', '    Nothing,', '    Some(u64, u8),', '    Named {', '        /// its name', '        name: Name,', '    },', '}')
         self.assertEqual(rows[1:], [
-            '| `Kind.Nothing` | None of them. |', '| `Kind.Some(u64, u8)` |  |', '| `Kind.Named { name: Name }` | its name. |',
+            '| `Kind.Nothing` | None of them. |', '| `Kind.Some(u64, u8)` |  |', '| `Kind.Named { name: Name }` | Its name. |',
         ])
 
     def test_a_view_is_a_sentence(self) -> None:
