@@ -16,7 +16,7 @@ from __future__ import annotations
 
 import pathlib
 import sys
-from collections.abc import Iterable, Iterator
+from collections.abc import Collection, Iterable, Iterator
 from typing import NamedTuple
 
 sys.dont_write_bytecode = True
@@ -172,12 +172,14 @@ def compare(page: str, part: Part, count: Count) -> None:
     count.expect(f'the part {mark} of {PAGE.name} is not what checks/proofs/believe.py --write writes', kept == part.region)
 
 
-def check_tables(seen: Iterable[Place], words: set[Word], count: Count) -> None:
+def check_tables(seen: Collection[Place], words: set[Word], count: Count) -> None:
     """Checks that each line for a definition or a word is of use, and that no word lacks one."""
     lines = {Place(file, name) for file, names in believe_lines.SAYS.items() for name in names}
     plain = {Place(file, name) for file, names in believe_lines.PLAIN.items() for name in names}
     spare = sorted((lines | plain) - set(seen))
     count.expect(f'lines for definitions that nothing cites: {", ".join(map(str, spare))}', not spare)
+    unseen = sorted(believe_lines.HEADS.keys() - {place.file for place in seen})
+    count.expect(f'lines for files that nothing cites: {", ".join(unseen)}', not unseen)
     count.expect(f'lines that repeat a name, which PLAIN could list: {", ".join(map(str, repeated()))}', not repeated())
     told = {Word(name, module) for module, names in believe_lines.WORDS.items() for name in names}
     for word in sorted(words - told):

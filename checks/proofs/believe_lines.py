@@ -1,10 +1,18 @@
-"""Lines of docs/BELIEVE.md: for definitions whose own comment says too little alone, and for the
-words of the toolchain's library.
+"""Lines of docs/BELIEVE.md: for files and definitions whose own comment says too little alone, or
+speaks of what is not on the page, and for the words of the toolchain's library.
 
 checks/proofs/believe.py uses these lines. It fails if one is missing or of no use."""
 from __future__ import annotations
 
-# by file, from crates/ on, and name
+# by file, from crates/ on
+HEADS = {
+    'mcs_ticks/specs/Queue.antt': (
+        'Queues of threads with their priorities: the ready threads of a core, and the waiters of a '
+        'notification.'
+    ),
+}
+
+# by file and name
 SAYS = {
     'mcs_histogram/specs/stored/Fields.antt': {
         'AreFields': 'the fields of a histogram: a bucket for each value up to the limit, and the count is the sum of the buckets',

@@ -7,7 +7,7 @@ from collections.abc import Collection, Iterable, Iterator, Sequence
 
 from checks.proofs import believe_lines, believe_text, believe_types
 from checks.proofs.believe_calls import Root, calls_of, silent_types
-from checks.proofs.believe_definitions import Definition, indent_of, is_source
+from checks.proofs.believe_definitions import Definition, definitions_of, indent_of, is_source
 from checks.proofs.believe_names import PRELUDE, Place, Word, names_in, read
 from checks.proofs.believe_text import WIDTH, together, written
 from checks.proofs.believe_types import is_type
@@ -85,8 +85,9 @@ def shown(word: Word) -> str:
 
 
 def head_of(file: str) -> str:
-    """What the first lines of a file of specs/ say of it all."""
-    lines = [line.removeprefix('--').strip() for line in read(file).partition('\nuse ')[0].splitlines()]
+    """What is said of a file of specs/: the line that HEADS has for it, or else its own first lines."""
+    own = [line.removeprefix('--').strip() for line in read(file).partition('\nuse ')[0].splitlines()]
+    lines = textwrap.wrap(believe_lines.HEADS.get(file, ''), WIDTH) or own
     return '\n' + '\n'.join(lines) + '\n'
 
 
@@ -100,8 +101,9 @@ def prefixes_of(file: str, piece: Sequence[Definition]) -> Iterator[str]:
 
 
 def twins_of(file: str, piece: Sequence[Definition], found: Iterable[Place]) -> Iterator[str]:
-    """Which of several definitions of one name a piece cites from another file."""
-    cited = {place for definition in piece for place in definition.cites if place.file != file}
+    """Which of several definitions of one name a piece cites from another file, without a prefix."""
+    own = definitions_of(file)
+    cited = {place for definition in piece for place in definition.cites if place.file != file and place.name not in own}
     for place in sorted(cited, key=lambda place: place.name):
         if any(other.name == place.name and other.file != place.file and is_source(other) == is_source(place) for other in found):
             yield f'`{place.name}` is from `{place.file}`'

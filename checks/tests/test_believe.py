@@ -1,8 +1,10 @@
 """The script that writes docs/BELIEVE.md, in a folder with two made-up crates: it has to see each way in which page and contracts differ."""
 import ast
+import collections
 import contextlib
 import io
 import pathlib
+import re
 import sys
 import tempfile
 import unittest
@@ -85,7 +87,7 @@ class Lines(unittest.TestCase):
 
     def test_lines_are_plain_english(self) -> None:
         tables = (*believe_lines.SAYS.values(), *believe_lines.WORDS.values())
-        lines = [line for table in tables for line in table.values()]
+        lines = [line for table in (*tables, believe_lines.HEADS) for line in table.values()]
         self.assertGreater(len(lines), 300)
         self.assertEqual([(line, broken) for line in lines for one in prose.sentences(line) for broken in prose.rules_broken(one)], [])
 
@@ -105,7 +107,7 @@ class Believe(unittest.TestCase):
         for module, name, value in (
             (believe, 'PAGE', self.page), (believe, 'ROOTS', ROOTS),
             (believe_names, 'CRATES', self.top / 'crates'), (believe_order, 'TOP', self.top),
-            (believe_lines, 'WORDS', WORDS), (believe_lines, 'SAYS', {}), (believe_lines, 'PLAIN', {}),
+            (believe_lines, 'WORDS', WORDS), (believe_lines, 'SAYS', {}), (believe_lines, 'PLAIN', {}), (believe_lines, 'HEADS', {}),
         ):
             patched = mock.patch.object(module, name, value)
             patched.start()
@@ -176,6 +178,16 @@ class Believe(unittest.TestCase):
         with mock.patch.object(believe_lines, 'SAYS', {'mcs_low/specs/Rules.antt': {'thrice': 'the triple'}}):
             self.assert_fails('lines for definitions that nothing cites: thrice of crates/mcs_low/specs/Rules.antt')
 
+    def test_a_line_for_a_file_stands_for_its_own(self) -> None:
+        with mock.patch.object(believe_lines, 'HEADS', {'mcs_low/specs/Rules.antt': 'Numbers, doubled.'}):
+            self.assert_passes('--write')
+        self.assertIn('### [mcs_low/specs/Rules.antt](../crates/mcs_low/specs/Rules.antt)\n\nNumbers, doubled.\n\n```', self.page.read_text())
+
+    def test_a_line_for_a_file_of_no_use_is_seen(self) -> None:
+        self.run_it('--write')
+        with mock.patch.object(believe_lines, 'HEADS', {'mcs_low/specs/Other.antt': 'Others.'}):
+            self.assert_fails('lines for files that nothing cites: mcs_low/specs/Other.antt')
+
     def test_a_word_without_a_line_is_seen(self) -> None:
         self.run_it('--write')
         with mock.patch.object(believe_lines, 'WORDS', {'std.Prelude': {'ℕ': 'a number', '◌≡◌': 'equal'}}):
@@ -217,6 +229,21 @@ class Believe(unittest.TestCase):
         self.assertIn('| [`Kind`](../crates/mcs_low/src/kind.rt) `Small` | What is asked for. |\n', page)
         self.assertNotIn('derive', page)
         self.assertIn('`kind.` precedes a variant of `Kind`', page)
+
+    def test_a_name_of_two_files_says_which_it_is(self) -> None:
+        other = RULES.replace('twice n = n + n', 'twice n = thrice n').replace('-- twice a number', '-- thrice, in fact')
+        self.put('crates/mcs_low/specs/Other.antt', other)
+        uses = 'use Rattle.mcs_low.specs.Rules.{twice, thrice}'
+        for imported, body, own, wanted in (
+            ('use Rattle.mcs_low.specs.Rules.{twice}\nuse Rattle.mcs_low.specs.Other.{thrice, twice as other}', 'twice (other n)', '', 'Here `twice` is from'),
+            ('use Rattle.mcs_low.specs.Rules as low', 'twice (low.twice n)', '\n-- n\nabbrev pub twice : ℕ → ℕ\ntwice n = n\n', 'Here `low.` precedes a name of `mcs_low/specs/Rules.antt`.\n'),
+        ):
+            with self.subTest(body):
+                self.claim(body)
+                text = (self.top / 'crates/mcs_high/specs/Claim.antt').read_text()
+                self.put('crates/mcs_high/specs/Claim.antt', text.replace(uses, imported) + own)
+                self.assert_passes('--write')
+                self.assertIn(f'A claim.\n\n{wanted}', self.page.read_text())
 
     def test_a_field_of_a_record_is_not_cited(self) -> None:
         for body in ('(record { thrice = twice n }).thrice', 'record { first = n; thrice = twice n }'):
@@ -580,6 +607,47 @@ module _ (n : ℕ) where
   four : Type 0 = (k : ℕ) → k ≡ n
 """
         self.assertEqual([*believe_text.names_on_page(block)], ['one', 'two', '◌>>=◌', 'IsIt', 'four'])
+
+
+class Specs(unittest.TestCase):
+    """All definitions of crates/: whatever the rules of the page do, they leave out and add nothing."""
+
+    def definitions(self) -> list[believe_definitions.Definition]:
+        crates = believe_names.CRATES
+        files = [str(path.relative_to(crates)) for path in sorted(crates.glob('*/specs/**/*.antt'))]
+        return [definition for file in files for definition in believe_definitions.definitions_of(file).values()]
+
+    def test_a_definition_has_the_words_of_its_file(self) -> None:
+        seen = 0
+        for definition in self.definitions():
+            code = ' '.join(line for line in definition.lines if not line.lstrip().startswith(('--', 'infix')))
+            own = collections.Counter(re.findall(r'\w+', code))
+            there = collections.Counter(re.findall(r'\w+', ' '.join(line for line in believe_text.written(definition) if not line.lstrip().startswith(('--', 'infix')))))
+            # these words are left out, and parameters, types and values that several clauses share stand once
+            self.assertEqual(own.keys() - there.keys() - {'abbrev', 'unfoldable', 'pub'}, set(), definition.place)
+            self.assertEqual(there - own, collections.Counter(), definition.place)
+            seen += 1
+        self.assertGreater(seen, 1000)
+
+    def test_each_value_stands_behind_its_arguments(self) -> None:
+        seen = 0
+        for definition in self.definitions():
+            clauses = [text for text, is_clause in believe_definitions.clauses_of(definition.lines) if is_clause]
+            shown = squeezed('\n'.join(believe_text.written(definition)))
+            for clause in clauses:
+                self.assertIn(f'={squeezed(believe_text.sides(clause)[1])}', shown, definition.place)
+                seen += 1
+        self.assertGreater(seen, 1500)
+
+    def test_the_page_names_each_definition(self) -> None:
+        for definition in self.definitions():
+            block = '\n'.join(believe_text.written(definition))
+            self.assertEqual([*believe_text.names_on_page(block)], [definition.place.name])
+
+
+def squeezed(text: str) -> str:
+    """A text without spaces, and without what may separate the last field of a record from its end."""
+    return re.sub(r';?}', '}', ''.join(text.split()))
 
 
 class Types(unittest.TestCase):
