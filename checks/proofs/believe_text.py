@@ -182,19 +182,25 @@ def or_pattern(first: str, second: str) -> str | None:
     if len(one) != len(other) or len(apart) != 1:
         return None
     at = apart[0]
-    parts = f'{without_enclosing(one[at])} | {without_enclosing(other[at])}'
-    return ' '.join([*one[:at], f'({parts})', *one[at + 1:]])
+    return ' '.join([*one[:at], f'({either(one[at], other[at])})', *one[at + 1:]])
 
 
-def alike(clauses: Sequence[str]) -> Iterator[str]:
-    """The clauses, with neighbours of one value as one, if that value has no name that only one of them binds."""
+def either(first: str, second: str) -> str:
+    """A pattern for what fits one of two: inside of the constructor, if both have the same one."""
+    one, other = without_enclosing(first), without_enclosing(second)
+    inner = or_pattern(one, other) if arguments(one)[0] == arguments(other)[0] else None
+    return inner or f'{one} | {other}'
+
+
+def alike(clauses: Sequence[str], room: int) -> Iterator[str]:
+    """The clauses. Neighbours of one value are one clause, if that value has no name that only one of them binds, and the left side fits."""
     here = ''
     for clause in clauses:
         left, value = sides(clause)
         before, same = sides(here)
         joined = or_pattern(before, left) if here and same == value else None
         own = set(re.findall(r'\w+', left)) ^ set(re.findall(r'\w+', before))
-        if joined is not None and not own & set(re.findall(r'\w+', value)):
+        if joined is not None and len(joined) <= room and not own & set(re.findall(r'\w+', value)):
             here = f'{joined} = {value}'
         else:
             if here:
@@ -224,7 +230,7 @@ def written(definition: Definition) -> list[str]:
     typed = typed_head(name, kind, clauses[0], constructors) if len(clauses) == 1 else None
     if typed is not None and indent + len(typed) + len(' =') <= WIDTH:
         return [*before, *with_value(typed, clauses[0], indent)]
-    shown = [line for clause in alike(clauses) for line in with_value(sides(clause)[0], clause, indent)]
+    shown = [line for clause in alike(clauses, WIDTH - indent - len(' =')) for line in with_value(sides(clause)[0], clause, indent)]
     return [*before, *on_one_line([f'{" " * indent}{name} : {kind}', *shown], indent)]
 
 

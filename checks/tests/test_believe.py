@@ -543,6 +543,8 @@ class Texts(unittest.TestCase):
             ('f (One a) n = n\nf (Two b c) n = n\nf Three n = n', 'f (One a | Two b c | Three) n = n'),
             ('f (One a) n = a\nf (Two a) n = a', 'f (One a | Two a) n = a'),
             ('f (Some (One a)) n = 0\nf None n = 0', 'f (Some (One a) | None) n = 0'),
+            ('f (Some (One a)) n = 0\nf (Some (Two b c)) n = 0\nf (Some Three) n = 0', 'f (Some (One a | Two b c | Three)) n = 0'),
+            ('f (Some (One a)) n = 0\nf (Same (One a)) n = 0', 'f (Some (One a) | Same (One a)) n = 0'),
             ('f ((One a) (Two b)) n = 0\nf None n = 0', 'f ((One a) (Two b) | None) n = 0'),
             # the first value is bound, the second is that of another definition
             ('f (One a) n = a\nf (Two b) n = a', 'f (One a) n = a;  f (Two b) n = a'),
@@ -551,6 +553,15 @@ class Texts(unittest.TestCase):
         ):
             with self.subTest(clauses):
                 self.assertEqual(self.written(f'abbrev pub f : A → ℕ → ℕ\n{clauses}'), [f'f : A → ℕ → ℕ;  {wanted}'])
+
+    def test_the_arguments_of_one_clause_fit(self) -> None:
+        # with 84 letters the left side of both and ` =` have 100 columns
+        for letters, wanted in (
+            (84, ['f : A → ℕ', f'f (One {"a" * 84} | Two) =', '    0']),
+            (85, ['f : A → ℕ', f'f (One {"a" * 85}) = 0', 'f Two = 0']),
+        ):
+            with self.subTest(letters):
+                self.assertEqual(self.written(f'abbrev pub f : A → ℕ\nf (One {"a" * letters}) = 0\nf Two = 0'), wanted)
 
     def test_clauses_are_one_line_if_they_fit(self) -> None:
         # the type and both clauses have 41, 29 and 30 columns; between two on a line there are 3
