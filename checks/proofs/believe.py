@@ -11,6 +11,7 @@ It fails in these cases:
 - a clause does not cite what it did
 - a definition is cited and not on the page, or on the page and not cited
 - nothing says what a definition or a word of the library is
+- the first part is too long to be read in two hours
 - the page differs from what --write writes"""
 from __future__ import annotations
 
@@ -28,10 +29,12 @@ from checks.proofs.believe_calls import Clause, Root, begin_with
 from checks.proofs.believe_definitions import Definition, all_behind, definition_of
 from checks.proofs.believe_names import Place, Word
 from checks.proofs.believe_order import in_order
-from checks.proofs.believe_page import comment_of, is_plain, is_repeated, mark, places_in, region_in, region_of
+from checks.proofs.believe_page import comment_of, is_plain, is_repeated, lines_of, mark, places_in, region_in, region_of
 from checks.proofs.believe_types import is_type
 
 PAGE = TOP / 'docs' / 'BELIEVE.md'
+# lines of the first part that an engineer reads in two hours, at 400 an hour
+MOST_LINES = 800
 
 WHOLE = 'mcs_team/src/whole.rt'
 TO_SINK = 'mcs_team/src/to_sink.rt'
@@ -158,6 +161,12 @@ def check_lines(definitions: Iterable[Definition], count: Count) -> None:
         count.expect(why, bool(comment_of(definition)) or needs_none)
 
 
+def check_length(part: Part, count: Count) -> None:
+    """Checks that the first part can be read at once."""
+    much = sum(map(lines_of, part.found.values()))
+    count.expect(f'the part {part.root.mark} has {much} lines, more than {MOST_LINES}', much <= MOST_LINES)
+
+
 def compare(page: str, part: Part, count: Count) -> None:
     """Checks that the page has the text of a part between its marks."""
     mark, kept = part.root.mark, region_in(page, part.root)
@@ -212,6 +221,7 @@ def main() -> None:
     count = Count()
     page = PAGE.read_text()
     made = [*parts(count)]
+    check_length(made[0], count)
     for part in made:
         begins = mark(part.root, 'begins')
         check_lines(part.found.values(), count)

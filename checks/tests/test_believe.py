@@ -206,6 +206,14 @@ class Believe(unittest.TestCase):
         self.put('crates/mcs_high/src/lib.rt', CALL.replace('IsAnswer n result }', 'result ≡ n }'))
         self.assert_fails('the clause value of double in crates/mcs_high/src/lib.rt does not cite IsAnswer')
 
+    def test_a_first_part_that_is_too_long_is_seen(self) -> None:
+        # each of the two definitions has a line, and one for its comment
+        for most, failed in ((4, 0), (3, 1)):
+            with self.subTest(most), mock.patch.object(believe, 'MOST_LINES', most):
+                said = self.run_it('--write')
+                self.assertEqual(common.last_tally(said).failed, failed)
+                self.assertEqual('failed: the part part has 4 lines, more than 3' in said, bool(failed))
+
     def test_a_page_without_marks_is_seen(self) -> None:
         self.page.write_text('Before.\n')
         self.assert_fails('BELIEVE.md has no marks for the part part')
