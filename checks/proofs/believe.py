@@ -111,6 +111,7 @@ ROOTS = (
     Root('chains', (
         Clause(WATCH, 'Watch::new', '', ('watch_of',)),
         Clause(WATCH, 'Watch::see', 'ok', ('watch_of',)),
+        Clause(WATCH, 'Watch::see', 'err', ()),
         Clause(WATCH, 'Watch::answered', '', ('origins',)),
         Clause(WATCH, 'Watch::unanswered', '', ('origins',)),
         Clause(WATCH, 'Watch::slow', '', ('slow',)),

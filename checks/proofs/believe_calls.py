@@ -104,7 +104,7 @@ def head_text(call: str, head: str) -> str:
 
 # what a clause says of the result of its call: of its value, or only that it succeeded
 OF_RESULT = re.compile(r'\b(?:IfOk|IfErr) result\s*\(λ (\w+)\.')
-ON_RESULT = re.compile(r'\b(?:IfOk|OnOk|IfErr) result\b')
+ON_RESULT = re.compile(r'\b(?:IfOk|OnOk|IfErr|OnErr) result\b')
 
 
 def values_in(part: str) -> list[str]:

@@ -66,7 +66,7 @@ SAYS = {
         'Watch': 'what a watch of a chain keeps: how far each thread is, and the sets of origins',
     },
     'mcs_ticks/specs/Queue.antt': {
-        'in_one_list': 'one list in order of entering, and the best is the first of maximum priority',
+        'in_one_list': 'what the clock uses: one list in order of entering, whose best is the first of maximum priority',
     },
     'mcs_control/specs/Context.antt': {
         'budget_charged': 'a charge of k ticks, by kind',
@@ -561,6 +561,7 @@ WORDS = {
         'None': 'no value',
         'not': 'the other of `true` and `false`',
         'Ok': 'the result of a call that succeeded',
+        'OnErr': '`OnErr result C`: if the call returns `Err`, `C` holds',
         'OnOk': '`OnOk result C`: if the call returns `Ok`, `C` holds',
         'Option': '`Some x` or `None`',
         'option_and_then': 'the result of this for the value, or `None`',

@@ -481,6 +481,7 @@ class Clauses(unittest.TestCase):
             ('ensures rows { IfOk result (λ whole. whole.rows ≡ schedule horizon) }', ['whole.rows']),
             ('ensures given { OnOk result (Given S.takes sink.old (schedule horizon) sink.new) }', ['sink.new']),
             ('ensures fault { IfErr result (IsFlowFault sink.old sink.new) }', ['sink.new', 'the fault']),
+            ('ensures err { OnErr result (self.new ≡ self.old) }', ['self.new']),
             ('ensures law { OnOk result (Headline horizon (schedule horizon)) }', []),
             ('ensures law { (system : System) → IsWellFormed system → Holds system }', []),
             ('ensures { result ≡ n }', ['result']),
