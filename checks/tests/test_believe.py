@@ -598,6 +598,36 @@ class Texts(unittest.TestCase):
             'f : R = record {', f'  a = {short}; b = 2;', f'  c = {long};', '  d = 4;', f'  e = {long} }}',
         ])
 
+    def test_a_record_closes_behind_its_last_field_if_it_fits(self) -> None:
+        # with two columns before it and ` }` behind it the last field has 100 columns, and 101
+        for letters, wanted in ((92, [f'  b = {"y" * 92} }}']), (93, [f'  b = {"y" * 93};', '}'])):
+            with self.subTest(letters):
+                text = f'abbrev pub f : R\nf =\n    record {{\n      a = {"x" * 40};\n      b = {"y" * letters};\n    }}'
+                self.assertEqual(self.written(text), ['f : R = record {', f'  a = {"x" * 40};', *wanted])
+
+    def test_a_record_that_does_not_end_the_value_keeps_its_lines(self) -> None:
+        fields = [f'      a = {"x" * 50};', f'      b = {"y" * 50};']
+        self.assertEqual(self.written('\n'.join(('abbrev pub f : List R', 'f =', '    record {', *fields, '    } ∷ []'))), [
+            'f : List R =', '    record {', *fields, '    } ∷ []',
+        ])
+
+    def test_a_record_in_a_record(self) -> None:
+        wide = 'x' * 90
+        for value, wanted in (
+            (f'a = record {{\n        b = {wide};\n        c = 3;\n      }};\n      d = 4;', ['  a = record {', f'    b = {wide};', '    c = 3;', '  };', '  d = 4 }']),
+            (f'a = record {{\n        b = 2;\n        c = 3;\n      }};\n      d = {wide};', ['  a = record { b = 2; c = 3 };', f'  d = {wide} }}']),
+        ):
+            with self.subTest(value):
+                self.assertEqual(self.written(f'abbrev pub f : R\nf =\n    record {{\n      {value}\n    }}'), ['f : R = record {', *wanted])
+
+    def test_a_comment_inside_stays(self) -> None:
+        for text, wanted in (
+            ('abbrev pub f : ℕ → ℕ\n-- nothing\nf a = 0', ['f : ℕ → ℕ', '-- nothing', 'f a = 0']),
+            ('pub record R (n : ℕ) : Type 0 where\n  -- nothing\n  pub none : n ≡ 0', ['record R (n : ℕ) : Type 0 where', '  -- nothing', '  none : n ≡ 0']),
+        ):
+            with self.subTest(text):
+                self.assertEqual(self.written(text), wanted)
+
     def test_a_choice_begins_behind_its_condition(self) -> None:
         condition, one, other = 'a' * 40, 'b' * 40, 'c' * 40
         self.assertEqual(self.written(f'abbrev pub f : ℕ\nf =\n    if {condition}\n    then {one}\n    else {other}'), [
