@@ -236,8 +236,6 @@ def written(definition: Definition) -> list[str]:
 
 def on_one_line(lines: Sequence[str], indent: int) -> Sequence[str]:
     """The type of a function and its clauses. The clauses are one line if they fit, and so is all of it."""
-    if any(indent_of(line) > indent for line in lines):
-        return lines
     clauses = ';  '.join(line.strip() for line in lines[1:])
     for shown in ([f'{lines[0]};  {clauses}'], [lines[0], ' ' * indent + clauses]):
         if max(map(len, shown)) <= WIDTH:

@@ -365,7 +365,7 @@ impl Model for Kind {
     def test_a_type_of_specs_is_a_row(self) -> None:
         self.put('crates/mcs_low/specs/Rules.antt', RULES.replace('-- twice', """-- two numbers
 pub record Pair : Type 0 where
-  -- The first one.
+  -- The first : one.
   pub one : ℕ
   pub two : List ℕ
 
@@ -382,7 +382,7 @@ pub record IsSmall (n : ℕ) : Type 0 where
         self.assert_passes('--write')
         page = self.page.read_text()
         for row in (
-            '| [`Pair`](../crates/mcs_low/specs/Rules.antt) `{ one: ℕ, two: List ℕ }` | Two numbers. `one`: the first one. |',
+            '| [`Pair`](../crates/mcs_low/specs/Rules.antt) `{ one: ℕ, two: List ℕ }` | Two numbers. `one`: the first : one. |',
             '| [`Some`](../crates/mcs_low/specs/Rules.antt) `Nothing \\| This(ℕ, List ℕ)` | One number or none. |',
             '-- holds of small numbers\nrecord IsSmall (n : ℕ) : Type 0 where\n  small : n ≡ 0\n',
             'twice (p : Pair) (s : Some) (n : ℕ) (i : IsSmall) : ℕ = n + n\n',
