@@ -159,12 +159,14 @@ def with_value(head: str, clause: str, indent: int) -> list[str]:
     """The lines of a clause with this left side."""
     edge = ' ' * indent
     value = sides(clause)[1]
-    if len(one := f'{edge}{head} = {one_line(value)}') <= WIDTH:
+    # steps end with their lines
+    has_steps = '←' in value
+    if not has_steps and len(one := f'{edge}{head} = {one_line(value)}') <= WIDTH:
         return [one]
     first, *others = value.split('\n')
     if len(f'{edge}{head} = {first}') <= WIDTH and first.strip():
         return [f'{edge}{head} = {first.strip()}', *side_by_side(others)]
-    if len(single := f'{edge}{" " * STEP}{one_line(value)}') <= WIDTH:
+    if not has_steps and len(single := f'{edge}{" " * STEP}{one_line(value)}') <= WIDTH:
         return [f'{edge}{head} =', single]
     lines = [*([f'{edge}{" " * STEP}{first.strip()}'] if first.strip() else []), *others]
     return with_record(head, lines, indent) or [f'{edge}{head} =', *with_choices(side_by_side(lines))]
@@ -236,6 +238,8 @@ def written(definition: Definition) -> list[str]:
 
 def on_one_line(lines: Sequence[str], indent: int) -> Sequence[str]:
     """The type of a function and its clauses. The clauses are one line if they fit, and so is all of it."""
+    if any(indent_of(line) > indent for line in lines):
+        return lines
     clauses = ';  '.join(line.strip() for line in lines[1:])
     for shown in ([f'{lines[0]};  {clauses}'], [lines[0], ' ' * indent + clauses]):
         if max(map(len, shown)) <= WIDTH:

@@ -620,6 +620,15 @@ class Texts(unittest.TestCase):
             with self.subTest(value):
                 self.assertEqual(self.written(f'abbrev pub f : R\nf =\n    record {{\n      {value}\n    }}'), ['f : R = record {', *wanted])
 
+    def test_steps_keep_their_lines(self) -> None:
+        for text, wanted in (
+            ('abbrev pub f : A → B\nf a = do\n  b ← g a\n  h b', ['f (a : A) : B = do', '  b ← g a', '  h b']),
+            ('abbrev pub f : A → B\nf a =\n    let c = a in do\n  b ← g c\n  h b', ['f (a : A) : B =', '    let c = a in do', '  b ← g c', '  h b']),
+            ('abbrev pub f : A → B\nf None = c\nf (Some a) = do\n  b ← g a\n  h b', ['f : A → B', 'f None = c', 'f (Some a) = do', '  b ← g a', '  h b']),
+        ):
+            with self.subTest(text):
+                self.assertEqual(self.written(text), wanted)
+
     def test_a_comment_inside_stays(self) -> None:
         for text, wanted in (
             ('abbrev pub f : ℕ → ℕ\n-- nothing\nf a = 0', ['f : ℕ → ℕ', '-- nothing', 'f a = 0']),
