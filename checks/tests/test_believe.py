@@ -692,9 +692,14 @@ class Specs(unittest.TestCase):
         seen = 0
         for definition in self.definitions():
             clauses = [text for text, is_clause in believe_definitions.clauses_of(definition.lines) if is_clause]
-            shown = squeezed('\n'.join(believe_text.written(definition)))
+            lines = believe_text.written(definition)
             for clause in clauses:
-                self.assertIn(f'={squeezed(believe_text.sides(clause)[1])}', shown, definition.place)
+                value = believe_text.sides(clause)[1]
+                self.assertIn(f'={squeezed(value)}', squeezed('\n'.join(lines)), definition.place)
+                if '←' in value:
+                    # a line ends a step; those that a semicolon ends are fields
+                    steps = {line.strip() for line in value.splitlines()[1:] if not line.endswith(';')}
+                    self.assertLessEqual(steps, {line.strip() for line in lines}, definition.place)
                 seen += 1
         self.assertGreater(seen, 1500)
 
