@@ -1,4 +1,4 @@
-"""Types and traits of src/, and the types of specs/, as rows of a table: one row for each type, each variant and each promise of a trait."""
+"""Types and traits of src/, and the types of specs/, as rows of a table: one row for each type, each variant of which something is said, and each promise of a trait."""
 from __future__ import annotations
 
 import re
@@ -141,14 +141,12 @@ def rows_of(definition: Definition, said: str) -> Iterator[str]:
         told = ' '.join(f'{as_code(field.partition(":")[0])}: {small(sentence(member.said))}' for field, member in zip(fields, members) if member.said)
         yield row(f'{link} {as_code(shape)}' if shape else link, f'{sentence(said)} {told}'.strip() + seen)
         return
-    if kind == 'enum' and not any(member.said for member in members):
-        yield row(f'{link} {as_code(" | ".join(member.text for member in members))}', sentence(said) + seen)
-        return
-    yield row(link, sentence(said) + seen)
+    silent = [member.text for member in members if kind == 'enum' and not member.said]
+    yield row(f'{link} {as_code(" | ".join(silent))}' if silent else link, sentence(said) + seen)
     for member in members:
-        if kind == 'enum':
+        if kind == 'enum' and member.said:
             yield row(as_code(f'{bare}.{member.text}'), sentence(member.said))
-        elif promises(member):
+        elif kind == 'trait' and promises(member):
             text = member.text.removeprefix('ghost ')
             told = member.said or 'A value for contracts: each type with this trait defines it.'
             yield row(as_code(f'{bare}: {text}'), sentence(told))

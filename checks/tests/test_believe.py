@@ -723,10 +723,11 @@ class Types(unittest.TestCase):
         row = self.rows('pub struct Kind {', '    /// The first of', '    /// two.', '    pub one: u64,', '    pub two: Vec<A | B>,', '}')
         self.assertEqual(row, ['| [`Kind`](../crates/mcs_low/src/kind.rt) `{ one: u64, two: Vec<A \\| B> }` | A kind. `one`: the first of two. |'])
 
-    def test_each_variant_has_a_row(self) -> None:
-        rows = self.rows('pub enum Kind {', '    /// None of them.', '    Nothing,', '    Some(u64, u8),', '    Named {', '        /// its name', '        name: Name,', '    },', '}')
-        self.assertEqual(rows[1:], [
-            '| `Kind.Nothing` | None of them. |', '| `Kind.Some(u64, u8)` |  |', '| `Kind.Named { name: Name }` | Its name. |',
+    def test_a_variant_of_which_something_is_said_has_a_row(self) -> None:
+        rows = self.rows('pub enum Kind {', '    /// None of them.', '    Nothing,', '    Some(u64, u8),', '    Named {', '        /// its name', '        name: Name,', '    },', '    More,', '}')
+        self.assertEqual(rows, [
+            '| [`Kind`](../crates/mcs_low/src/kind.rt) `Some(u64, u8) \\| More` | A kind. |',
+            '| `Kind.Nothing` | None of them. |', '| `Kind.Named { name: Name }` | Its name. |',
         ])
 
     def test_a_view_is_a_sentence(self) -> None:
