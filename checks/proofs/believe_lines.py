@@ -6,6 +6,19 @@ from __future__ import annotations
 
 # by file, from crates/ on
 HEADS = {
+    'mcs_team/specs/Headline.antt': (
+        'The headline: for every accepted system, every horizon and every number of workers, the '
+        "schedule and the reports are those of one clock that takes all cores' turns singly. At each "
+        "time every context's refills, with the ticks in use counted, sum to its budget and do not "
+        'overlap.\n\n'
+        'One clock takes turns by time, then core, and signals in order of making (`schedule`). The '
+        'premises:\n'
+        '- The system is accepted, that is, it is well formed (`System` holds no other).\n'
+        '- The horizon is at most 2^40, which is a condition of the calls.\n'
+        '- The call has returned, and with success.\n\n'
+        'Calls that start threads do not promise to return. Tests, and no clause, say that a call '
+        'fails only if memory runs out or, when rows go to a sink, if the sink refuses one.'
+    ),
     'mcs_ticks/specs/Queue.antt': (
         'Queues of threads with their priorities: the ready threads of a core, and the waiters of a '
         'notification.'

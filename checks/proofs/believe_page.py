@@ -87,7 +87,8 @@ def shown(word: Word) -> str:
 def head_of(file: str) -> str:
     """What is said of a file of specs/: the line that HEADS has for it, or else its own first lines."""
     own = [line.removeprefix('--').strip() for line in read(file).partition('\nuse ')[0].splitlines()]
-    lines = textwrap.wrap(believe_lines.HEADS.get(file, ''), WIDTH) or own
+    said = believe_lines.HEADS.get(file, '').splitlines()
+    lines = [part for line in said for part in textwrap.wrap(line, WIDTH) or ['']] or own
     return '\n' + '\n'.join(lines) + '\n'
 
 

@@ -258,7 +258,7 @@ def stem(word: str) -> str:
 
 def stems_in(text: str) -> set[str]:
     """The words of a text or of the names in it, without small ones."""
-    words = re.findall(r'[a-z]+', re.sub(r'(?<=[a-z])(?=[A-Z])', ' ', text).lower())
+    words = re.findall(r'[a-z]+|\d+', re.sub(r'(?<=[a-z])(?=[A-Z])', ' ', text).lower())
     return {stem(word) for word in words if word not in SMALL}
 
 

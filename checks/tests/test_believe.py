@@ -179,9 +179,9 @@ class Believe(unittest.TestCase):
             self.assert_fails('lines for definitions that nothing cites: thrice of crates/mcs_low/specs/Rules.antt')
 
     def test_a_line_for_a_file_stands_for_its_own(self) -> None:
-        with mock.patch.object(believe_lines, 'HEADS', {'mcs_low/specs/Rules.antt': 'Numbers, doubled.'}):
+        with mock.patch.object(believe_lines, 'HEADS', {'mcs_low/specs/Rules.antt': 'Numbers:\n\n- doubled'}):
             self.assert_passes('--write')
-        self.assertIn('### [mcs_low/specs/Rules.antt](../crates/mcs_low/specs/Rules.antt)\n\nNumbers, doubled.\n\n```', self.page.read_text())
+        self.assertIn('### [mcs_low/specs/Rules.antt](../crates/mcs_low/specs/Rules.antt)\n\nNumbers:\n\n- doubled\n\n```', self.page.read_text())
 
     def test_a_line_for_a_file_of_no_use_is_seen(self) -> None:
         self.run_it('--write')
@@ -356,6 +356,11 @@ impl Model for Kind {
         self.put('crates/mcs_low/specs/Rules.antt', RULES.replace('-- twice a number', '-- this one, twice').replace('twice n =', 'twice one =').replace('= n + n\n\n--', '= one + one\n\n--'))
         self.assert_passes('--write')
         self.assertIn('```\ntwice (one : ℕ) : ℕ = one + one\n```', self.page.read_text())
+
+    def test_a_comment_with_a_number_is_kept(self) -> None:
+        self.put('crates/mcs_low/specs/Rules.antt', RULES.replace('-- twice a number', '-- 2 of these'))
+        self.assert_passes('--write')
+        self.assertIn('-- 2 of these\ntwice', self.page.read_text())
 
     def test_a_line_that_repeats_the_name_is_seen(self) -> None:
         with mock.patch.object(believe_lines, 'SAYS', {'mcs_low/specs/Rules.antt': {'twice': 'twice that'}}):
