@@ -11,12 +11,13 @@ It fails in these cases:
 - a clause does not cite what it did
 - a definition is cited and not on the page, or on the page and not cited
 - nothing says what a definition or a word of the library is
+- the first part is too long to be read in two hours
 - the page differs from what --write writes"""
 from __future__ import annotations
 
 import pathlib
 import sys
-from collections.abc import Iterable, Iterator
+from collections.abc import Collection, Iterable, Iterator
 from typing import NamedTuple
 
 sys.dont_write_bytecode = True
@@ -25,12 +26,15 @@ from checks import common
 from checks.common import TOP, Count
 from checks.proofs import believe_lines
 from checks.proofs.believe_calls import Clause, Root, begin_with
-from checks.proofs.believe_definitions import Definition, all_behind
+from checks.proofs.believe_definitions import Definition, all_behind, definition_of
 from checks.proofs.believe_names import Place, Word
 from checks.proofs.believe_order import in_order
-from checks.proofs.believe_page import comment_of, is_plain, mark, places_in, region_in, region_of
+from checks.proofs.believe_page import comment_of, is_plain, is_repeated, lines_of, mark, places_in, region_in, region_of
+from checks.proofs.believe_types import is_type
 
 PAGE = TOP / 'docs' / 'BELIEVE.md'
+# lines of the first part that an engineer reads in two hours, at 400 an hour
+MOST_LINES = 800
 
 WHOLE = 'mcs_team/src/whole.rt'
 TO_SINK = 'mcs_team/src/to_sink.rt'
@@ -40,6 +44,8 @@ CHECK = 'mcs_check/src/run.rt'
 WHY = 'mcs_check/src/why.rt'
 FOREVER = 'mcs_check_forever/src/run.rt'
 RUN = 'mcs_cli/src/streams.rt'
+WATCH = 'mcs_chain/src/watch.rt'
+TALLY = 'mcs_chain/src/tally.rt'
 
 
 def blamed(file: str, call: str) -> tuple[Clause, ...]:
@@ -101,6 +107,19 @@ ROOTS = (
     ), about='files and the clock'),
     # (its one clause has no name)
     Root('verdict', (Clause('mcs_verdict/src/all.rt', 'find_all', '', ('findings',)),)),
+    # (most clauses of a method have no name)
+    Root('chains', (
+        Clause(WATCH, 'Watch::new', '', ('watch_of',)),
+        Clause(WATCH, 'Watch::see', 'ok', ('watch_of',)),
+        Clause(WATCH, 'Watch::see', 'err', ()),
+        Clause(WATCH, 'Watch::answered', '', ('origins',)),
+        Clause(WATCH, 'Watch::unanswered', '', ('origins',)),
+        Clause(WATCH, 'Watch::slow', '', ('slow',)),
+        Clause(WATCH, 'Watch::unanswered_at', '', ('unanswered',)),
+        Clause(TALLY, 'Tally::new', '', ('tally_with',)),
+        Clause(TALLY, 'Tally::see', '', ('tally_of',)),
+        Clause(TALLY, 'Tally::figures', '', ('figures_of',)),
+    )),
     Root('check', (Clause(CHECK, 'check', 'check', ('IsCheck',)), *blamed(CHECK, 'check'))),
     Root('why', (Clause(WHY, 'explain', 'explained', ('IsExplained',)), *blamed(WHY, 'explain'))),
     Root('forever', (
@@ -136,10 +155,17 @@ def part_of(root: Root, seen: dict[Place, Definition], said: set[Word], count: C
 
 
 def check_lines(definitions: Iterable[Definition], count: Count) -> None:
-    """Checks that each definition has a line, or a name that says enough."""
+    """Checks that each definition has a line, or a name that says enough. A type always has a line."""
     for definition in definitions:
         why = f'nothing says what {definition.place} is: SAYS of checks/proofs/believe_lines.py has no line for it'
-        count.expect(why, bool(comment_of(definition)) or is_plain(definition.place))
+        needs_none = not is_type(definition) and (is_plain(definition.place) or is_repeated(definition))
+        count.expect(why, bool(comment_of(definition)) or needs_none)
+
+
+def check_length(part: Part, count: Count) -> None:
+    """Checks that the first part can be read at once."""
+    much = sum(map(lines_of, part.found.values()))
+    count.expect(f'the part {part.root.mark} has {much} lines, more than {MOST_LINES}', much <= MOST_LINES)
 
 
 def compare(page: str, part: Part, count: Count) -> None:
@@ -156,17 +182,26 @@ def compare(page: str, part: Part, count: Count) -> None:
     count.expect(f'the part {mark} of {PAGE.name} is not what checks/proofs/believe.py --write writes', kept == part.region)
 
 
-def check_tables(seen: Iterable[Place], words: set[Word], count: Count) -> None:
+def check_tables(seen: Collection[Place], words: set[Word], count: Count) -> None:
     """Checks that each line for a definition or a word is of use, and that no word lacks one."""
     lines = {Place(file, name) for file, names in believe_lines.SAYS.items() for name in names}
     plain = {Place(file, name) for file, names in believe_lines.PLAIN.items() for name in names}
     spare = sorted((lines | plain) - set(seen))
     count.expect(f'lines for definitions that nothing cites: {", ".join(map(str, spare))}', not spare)
+    unseen = sorted(believe_lines.HEADS.keys() - {place.file for place in seen})
+    count.expect(f'lines for files that nothing cites: {", ".join(unseen)}', not unseen)
+    count.expect(f'lines that repeat a name, which PLAIN could list: {", ".join(map(str, repeated()))}', not repeated())
     told = {Word(name, module) for module, names in believe_lines.WORDS.items() for name in names}
     for word in sorted(words - told):
         count.expect(f'WORDS of checks/proofs/believe_lines.py does not say what {word} is', False)
     idle = sorted(told - words)
     count.expect(f'words that nothing uses: {", ".join(map(str, idle))}', not idle)
+
+
+def repeated() -> list[Place]:
+    """The definitions of which SAYS just repeats the head."""
+    found = (definition_of(Place(file, name)) for file, names in believe_lines.SAYS.items() for name in names)
+    return sorted(definition.place for definition in found if definition and is_repeated(definition))
 
 
 def parts(count: Count) -> Iterator[Part]:
@@ -187,6 +222,7 @@ def main() -> None:
     count = Count()
     page = PAGE.read_text()
     made = [*parts(count)]
+    check_length(made[0], count)
     for part in made:
         begins = mark(part.root, 'begins')
         check_lines(part.found.values(), count)

@@ -86,10 +86,9 @@ def goes_on(line: str, indent: int, name: str) -> bool:
     return indent_of(line) == indent and not HEAD.match(line) and not line.lstrip().startswith(('--', 'module')) and parts[0] in line.split()
 
 
-def clauses_of(block: Block) -> Iterator[tuple[str, bool]]:
-    """The type of a definition and each of its clauses, and whether it is such a clause. A record and a type are one text."""
-    indent = indent_of(block.lines[-1] if block.lines[0].lstrip().startswith('infix') else block.lines[0])
-    lines = [line for line in block.lines if not line.lstrip().startswith(('--', 'infix'))]
+def clauses_of(those: Sequence[str]) -> Iterator[tuple[str, bool]]:
+    """The type of a definition with these lines and each of its clauses, and whether it is such a clause. A record and a type are one text."""
+    lines = [line for line in those if not line.lstrip().startswith(('--', 'infix'))]
     if re.match(r' *(pub )?(record|data)', lines[0]):
         yield '\n'.join(lines), False
         return
@@ -123,7 +122,7 @@ def specs_of(file: str) -> dict[str, Definition]:
         held = bound_in(heads, (), None)
         fields = set(re.findall(r'^ *pub (\w+) :', '\n'.join(block.lines), re.M))
         places, words = cited_in(heads, held, names)
-        for chunk, is_clause in clauses_of(block):
+        for chunk, is_clause in clauses_of(block.lines):
             bound = held | fields | bound_in(chunk, patterns, block.name if is_clause else None)
             more_places, more_words = cited_in(chunk, bound, names)
             places |= more_places

@@ -1,11 +1,86 @@
-"""Lines of docs/BELIEVE.md: for definitions whose own comment says too little alone, and for the
-words of the toolchain's library.
+"""Lines of docs/BELIEVE.md: for files and definitions whose own comment says too little alone, or
+speaks of what is not on the page, and for the words of the toolchain's library.
 
 checks/proofs/believe.py uses these lines. It fails if one is missing or of no use."""
 from __future__ import annotations
 
-# by file, from crates/ on, and name
+# by file, from crates/ on
+HEADS = {
+    'mcs_team/specs/Headline.antt': (
+        'The headline: for every accepted system, every horizon and every number of workers, the '
+        "schedule and the reports are those of one clock that takes all cores' turns singly. At each "
+        "time every context's refills, with the ticks in use counted, sum to its budget and do not "
+        'overlap.\n\n'
+        'One clock takes turns by time, then core, and signals in order of making (`schedule`). The '
+        'premises:\n'
+        '- The system is accepted, that is, it is well formed (`System` holds no other).\n'
+        '- The horizon is at most 2^40, which is a condition of the calls.\n'
+        '- The call has returned, and with success.\n\n'
+        'Calls that start threads do not promise to return. Tests, and no clause, say that a call '
+        'fails only if memory runs out or, when rows go to a sink, if the sink refuses one.'
+    ),
+    'mcs_ticks/specs/Queue.antt': (
+        'Queues of threads with their priorities: the ready threads of a core, and the waiters of a '
+        'notification.'
+    ),
+}
+
+# by file and name
 SAYS = {
+    'mcs_histogram/specs/stored/Fields.antt': {
+        'AreFields': 'the fields of a histogram: a bucket for each value up to the limit, and the count is the sum of the buckets',
+    },
+    'mcs_chain/specs/Answers.antt': {
+        'interrupts': "the number of interrupts of the chain's source",
+        'gone_after': 'how far each thread is after these rows',
+        'origins': 'the sets of origins after these rows',
+        'slow': 'the finding of a row that follows these rows: the earliest origin that it answers too late',
+        'unanswered_for': 'the finding at the horizon for this origin without an answer, if its deadline has passed',
+        'unanswered': 'the finding at the horizon: the earliest origin without an answer, if its deadline has passed',
+    },
+    'mcs_chain/specs/Moves.antt': {
+        'free': "the place of a thread's free set",
+        'all_bits': 'the places that are bits of a word',
+        'taking': 'how a thread takes what the wait at this step gives it',
+        'gives': 'the effect of a signal, which leaves this core if its notification is at home on another one',
+        'moves': 'the effect of a row on the sets of origins, if the threads are as far as given',
+        'moves_by': 'the effect of a row, by its event',
+    },
+    'mcs_chain/specs/Steps.antt': {
+        'is_given': 'the thread has gone through a wait that gave this word, which begins the round if it is the first',
+        'goes_by': 'how far a thread is after this row of it',
+        'one_goes': 'how far all threads are after a row, if it is a row of this thread',
+        'all_go': 'how far all threads are after a row',
+        'all_fresh': 'all threads are at the beginning of a round',
+        'gone_of': 'how far this thread is',
+        'behind': 'the step after this item',
+        'next_step': 'the first of these items that posts or takes and that the round does not pass over; it begins at this step',
+        'step_of': "the step of the thread's next row that posts or takes. If no step is left for the word, the thread is at its first wait again",
+    },
+    'mcs_chain/specs/Figures.antt': {
+        'tally_with': 'the tally of this number of interrupts, and of these latencies',
+        'tally_of': 'the tally of a chain after these rows',
+        'Tally': 'what a tally keeps: the number of interrupts, and figures of the latencies',
+        'figures_of': 'the figures of a chain after these rows',
+        'figures_with': 'the figures of a chain with this deadline, this number of interrupts and these latencies',
+    },
+    'mcs_chain/specs/Origins.antt': {
+        'Origins': "a chain's origins without an answer, by who has them",
+        'join_first': 'an origin joins a set; `rest` joins what follows it',
+        'no_origins': 'the sets before the first row',
+        'sent': 'an origin that a signal of this core and moment carries',
+        'sets_out': 'a signal to another core carries these origins',
+        'lands': 'the signal that this core made at this moment arrives, and posts its origins',
+        'holds': 'the notification holds the origins that were posted',
+        'gets': 'a thread takes the origins that the notification held',
+        'moved': 'the sets after a row with this effect',
+    },
+    'mcs_chain/specs/Watch.antt': {
+        'Watch': 'what a watch of a chain keeps: how far each thread is, and the sets of origins',
+    },
+    'mcs_ticks/specs/Queue.antt': {
+        'in_one_list': 'what the clock uses: one list in order of entering, whose best is the first of maximum priority',
+    },
     'mcs_control/specs/Context.antt': {
         'budget_charged': 'a charge of k ticks, by kind',
         'budget_unblocked': 'unblocking at t moves dates; a slice does not change',
@@ -14,16 +89,17 @@ SAYS = {
         'budget_ordered': 'an order at t sets this configuration',
         'budget_ready': 'a budget is ready once its first date has come; a slice always is',
         'amount_of': 'the amount of the head, or the rest of the slice',
-        'context_woken': 'the thread is woken at t',
-        'context_chosen': 'the thread is chosen at t',
+        'Context': 'a scheduling context: its configuration, its mode, and the budget that is left',
     },
     'mcs_script/specs/Script.antt': {
         'is_left_open': 'whether the item with this number is an `Enter` that is last or directly before a handler',
         'first_to_look_at': 'the first of several items may be such a wait',
         'AreNotBare': 'no other item before the n-th is such a wait',
+        'passes_after': 'whether a thread skips what follows this item: at the start of a handler its badges decide',
     },
     'mcs_notify/specs/Note.antt': {
         'Note': 'a notification: its word, and its waiters in the order in which they began to wait',
+        'posted_by': 'a post wakes the first waiter of maximum priority, or ORs the badge into the word',
     },
     'mcs_system/specs/Names.antt': {
         'is_name_byte': 'A-Z a-z 0-9 _ -',
@@ -45,6 +121,7 @@ SAYS = {
         'is_at_home': 'whether the source of these dates posts on a notification of core c',
         'alarms_of': 'the initial alarms of core c, in file order',
         'past': 'the alarms after moment t: those that rang have their next dates',
+        'alarm_of': 'the initial alarm of a beat: `left` dates come after the first, without end if `count` is 0',
     },
     'mcs_core/specs/Turn.antt': {
         'says': 'a part with one row',
@@ -53,13 +130,17 @@ SAYS = {
         'waits_as': 'a wait takes the word and the thread moves on, or the thread joins the waiters',
         'posts_as': 'a post wakes a thread, or the notification holds the badge',
         'after_move': 'the thread ends after its last item, or else this follows',
-        'after_item': 'what follows this item: the thread goes on, ends, blocks or yields',
+        'after_item': 'what follows an item: the thread continues, ends, blocks or yields',
         'tick_of': 'part 1 of a turn: the end of the tick; the running thread has used one tick more',
         'orders_running': 'part 3: if the thread of the context runs, it is charged by the old configuration and stops',
-        'obeys': 'an order, with its row',
         'preempts_by': 'part 5: a running thread is charged and preempted by one of higher priority',
         'chooses_of': 'if no thread runs, the best ready thread is chosen',
         'frees': 'a thread leaves a server, with its row',
+        'turn_with': 'the whole turn of core c at moment t, with the mail that arrives',
+        'round_begun': 'a wait gives this word at t. If it is the first item, the round begins, and has the word',
+        'leaves': 'the running thread, already charged k ticks, leaves the core and enters a queue by `enters`',
+        'after_count': 'after the count: an item with no tick left is finished; else an exhausted head may stop the thread',
+        '◌followed_by◌': 'one part, and then another, which begins with the core that the first one leaves',
     },
     'mcs_core/specs/Clock.antt': {
         'turn_at_with': 'the turn of core c at moment t, with the signals that arrive there',
@@ -76,6 +157,7 @@ SAYS = {
     },
     'mcs_report/specs/Reports.antt': {
         'wait_in': 'how long the thread waits after this row, if its head is exhausted, up to the horizon',
+        'wait_until': 'ticks from this time until the date for which a thread waits, at most until the horizon',
     },
     'mcs_ticks/specs/Given.antt': {
         'Given': 'the sink took all of these rows, in order',
@@ -83,7 +165,7 @@ SAYS = {
     'mcs_script/specs/Raw.antt': {
         'Raw': 'an item as it is written: with the names of notifications and servers, not their numbers',
         'is_empty': 'whether a text has no byte',
-        'is_numeral': 'whether a text is a numeral: decimal digits, of which the first is not 0',
+        'is_numeral': 'whether a text is a numeral: decimal digits, the first of them not 0',
         'value_of': 'the number that decimal digits say',
         'compute_of': 'what follows the word compute: ticks, 1 to 2^40',
         'signal_of': 'what follows the word signal: a name, and a badge from 1 to 2^32 - 1',
@@ -99,7 +181,7 @@ SAYS = {
         'read_new_as': 'the item that a text says in a file of version 3, or what is wrong with it',
     },
     'mcs_load/specs/Keys.antt': {
-        'key_name': 'the name of a key as it stands in a file',
+        'key_name': 'the name of a key in a file',
     },
     'mcs_load/specs/Checks.antt': {
         'answer': 'the system that was read, or the fault of the first test that fails',
@@ -112,47 +194,46 @@ SAYS = {
         'has_only': 'whether a table has no other keys than these',
         'only_keys': 'the test that a table has no other keys than these',
         'is_in_range': 'whether an integer lies in this range',
-        'number_or': 'the number, or its default where there is none',
+        'number_or': 'the number, or its default if there is no number',
         'number': 'the tests of a whole number: it is an integer, and lies in its range',
-        'whole_number': 'the same of one that has to be there',
-        'number_with_default': 'the same of one that has a default',
-        'bytes_or_none': 'the bytes of a text, or none where it is not there',
+        'whole_number': 'the tests of a whole number that must be there',
+        'number_with_default': 'the tests of a whole number that has a default',
+        'bytes_or_none': 'the bytes of a text, or none if there is no text',
         'text': 'the tests of a text: it is there, and it is a text',
         'is_among': 'whether a name is among others',
-        'items_or_none': 'the values of an array, or none where it is not there',
+        'items_or_none': 'the values of an array, or none if there is no array',
         'item_count': 'how many values an array has',
         'array_at': 'the place of a whole section',
         'rows': 'the tests of an array of tables: it is an array, of at most 4,096 values',
-        'members_or_none': 'the keys of a table, or none where it is not there',
+        'members_or_none': 'the keys of a table, or none if there is no table',
         'row_table': 'the test that a row is a table',
         'each': 'each value of an array in order, read by a step that may name what was read before it',
         'each_from': 'each value of an array in order, read by a step that continues what was read before it',
         'row': 'a row is a table, and is read as such a part',
     },
     'mcs_load/specs/Dates.antt': {
-        'least_after': 'the least that the next number may be: one more than the last of these, and 0 if there is none',
+        'least_after': 'the minimum of the next number: one more than the last of these, or 0 if there is none',
         'items_or_zero': 'the values of `at`, or 0 alone if it is absent',
         'few_offsets': 'the test of how many numbers `at` has: at most 1,024, and at most 4,096 with those of the sources before',
         'at_values': 'the tests of the array `at`: it is an array, and has a value',
         'read_values': 'the tests of the values of `at`: they are not too many, and each is an integer, above the one before and below the period',
     },
     'mcs_load/specs/Script.antt': {
-        'said': 'what the text of an item says, where it says something',
+        'said': 'the item that a text says, if it says one',
         'place_or_first': 'the place that was found, or 0',
         'core_of': 'the core of a notification',
         'server_at': 'the server with this number',
-        'no_items_yet': 'a script of which nothing is read yet',
-        'begins_handler': 'whether the item begins a handler',
+        'no_items_yet': 'a script before its first item is read',
         'hears': 'the test that the item may stand there',
         'note_names': 'the names of the notifications',
-        'server_names': "the names of the servers that may be called: all of the file, or in a server's script those that stand before it",
-        'named': "an item with numbers in place of names: what it names is there, and a wait and a call name something on the script's own core",
+        'server_names': "the names of the servers that may be called: all of the file, or in a server's script the servers before it",
+        'named': "an item with numbers for its names: what it names is there, and a wait and a call name something on the script's own core",
         'read_item': 'the tests of an item: it is a text, it says an item, and what it names is there',
         'first_step': 'the first step of an item: the item itself, or for a call the step that enters the server',
         'steps_of': 'all steps of an item: the item itself, or those that a call becomes',
         'with_item': 'what is read of a script, with one more item',
         'heard_item': 'the tests of the next item: that it is one, and that it may stand there',
-        'next_item': 'the tests of the next item, the last of which is that the steps so far are at most 1,024',
+        'next_item': 'the tests of the next item; the last one is that all steps so far are at most 1,024',
         'no_bare_wait': 'the test that there is no such wait; it fails at the item with this number',
         'texts': 'the tests of the array of a script: it is there, it is an array, of 1 to 1,024 values',
         'body': 'the tests of the array of a script and of each item',
@@ -171,9 +252,6 @@ SAYS = {
         'note': 'the tests of a notification: its keys, name, core and first word',
         'is_two_or_three': 'whether the integer is there, and is 2 or 3',
         'is_three': 'whether the integer is there, and is 3',
-        'is_version_2_or_3': 'whether a file is of version 2 or 3',
-        'is_version_3': 'whether a file is of version 3',
-        'contexts': 'all contexts of a file',
         'notes': 'all notifications of a file',
         'server': 'the tests of a server: its keys, name, core, priority and script. No notification and no earlier server has its name',
         'servers': 'all servers of a file, at most 4,096 with its notifications',
@@ -182,19 +260,14 @@ SAYS = {
         'part_at': 'the context with this number',
         'times': 'the start, the rounds and the deadline of a thread',
         'thread': "the tests of a thread: its keys, name, context, priority, times and script. Its core is its context's",
-        'threads': 'all threads of a file',
         'is_same_kind': 'whether both kinds are the same',
         'order': 'the tests of an order: its keys, moment, context, configuration, and that the kind stays. Two orders may name one context',
-        'orders': 'all orders of a file',
         'link': 'the tests of a link: it goes to another core, and no earlier row goes from the same to the same',
-        'links': 'all links of a file',
         'source': 'the tests of a source: its keys, name, notification, badge and dates',
-        'sources': 'all sources of a file',
         'script_of': 'the steps of the thread with this number',
         'waits': "the test that a chain's thread has a wait among its steps",
         'waits_first': "the test that a chain's thread begins with a wait if the chain asks for badges",
         'chain': 'the tests of a chain: its keys, name, source, thread, badges and deadline, and then these two',
-        'chains': 'all chains of a file',
         'top': 'the place of the numbers at the top',
         'top_keys': 'the keys at the top of a file of version 1',
         'listed_keys': 'the keys at the top of a file: in versions 2 and 3 also links, and in version 3 also chains, sources and servers',
@@ -206,50 +279,45 @@ SAYS = {
     },
     'mcs_text/specs/Text.antt': {
         'why_word': 'the word of a stop',
-        'until_words': 'the words of the date until which a thread waits, where there is one',
-        'thread_name': 'the name of a thread',
+        'until_words': 'the words of the date until which a thread waits, if there is one',
         'note_name': 'the name of a notification or a server',
-        'context_name': 'the name of a context',
         'words_of': 'the words of a row, behind its moment and its core',
         'schedule_text': 'the lines of all rows',
-        'thread_line': 'the line of a thread: its report',
-        'core_line': 'the line of a core: its report',
-        'source_name': 'the name of a source',
     },
     'mcs_cli/specs/Run.antt': {
-        'IsRun': 'what a run does: all of the output for the bytes that were read; or it fails, and tells why',
+        'IsRun': 'the effect of a run: it writes all output for the bytes that it read, or fails with a fault that says why',
     },
     'mcs_verdict/specs/Findings.antt': {
-        'found_at': 'the finding of a row, with its moment and its core, where it has one',
+        'found_at': 'the finding of a row, if it has one, with its moment and its core',
     },
     'mcs_verdict/specs/Words.antt': {
         'no_word': 'a word that nothing has set',
-        'lost': 'what a signal tells that was held: that it is lost, where the word was what it is',
-        'merges': 'whether a row tells of a signal that is merged',
-        'heard_at': 'of words of the notification the badges that leave something to do to a thread that waits first for it; none: each word does',
+        'lost': 'the finding of a signal that found no waiter: it is lost if it left the word unchanged',
+        'merges': 'whether a row reports a signal that is coalesced',
+        'heard_at': 'the badges that, in a word of the notification, leave something to do to a thread that waits first for it; `None` if every word does',
         'firsts_of': 'the words that the notifications hold at first',
     },
     'mcs_verdict/specs/Misses.antt': {
-        'is_reached': 'whether so many ticks are a deadline or more; the deadline 0 is none',
-        'miss': "what a `round` row tells: a miss, where the response from the round's activation is above the thread's deadline",
+        'is_reached': 'whether a number of ticks reaches the deadline; the deadline 0 means none',
+        'miss': "the finding of a `round` row: a miss, if the response from the job's activation exceeds the thread's deadline",
         'first_word': "the word for which the thread's script waits first",
-        'overdue': 'what is found at the horizon of the round that is under way, or of one that is activated and yet to begin',
-        'never': 'what is found at the horizon of a thread that was not activated once',
+        'overdue': 'what is found at the horizon of the job that is under way, or of an activated one that has not begun',
+        'never': 'what is found at the horizon of a thread that was never activated',
         'first_of': 'the first of two findings, if there is one',
     },
     'mcs_verdict/specs/Jobs.antt': {
-        'preemptions_of': 'how often the round of a thread of the system that is under way was preempted, 0 where none is',
+        'preemptions_of': "the number of preemptions of a thread's current job, or 0 without one",
     },
     'mcs_verdict/specs/Calls.antt': {
         'waited_on': 'the notification on which an item waits, if it is a wait',
-        'bits_of': "of words of the thread's first wait the badges that leave something to do; none: each word does",
+        'bits_of': "the badges that, in a word of the thread's first wait, leave something to do; `None` if every word does",
     },
     'mcs_verdict/specs/Rounds.antt': {
-        'begun_of': 'when the round of a thread of the system that is under way began, if one is',
-        'called_of': 'when the latest round of a thread of the system that a word began was activated, if there was one',
+        'begun_of': "when the thread's current job began, if there is one",
+        'called_of': "when the thread's latest job that a word began was activated, if there was one",
     },
     'mcs_verdict/specs/Standing.antt': {
-        'settled': 'a standing, where what comes next tells more of a thread that was woken',
+        'settled': 'a standing, after the next row says more about a thread that was woken',
     },
     'mcs_verdict/specs/Stood.antt': {
         'no_ticks': 'no tick in any standing',
@@ -263,14 +331,13 @@ SAYS = {
     'mcs_hints/specs/Contexts.antt': {
         'unbound': 'the hint of a context without a thread',
         'share': "what a configuration grants of its core's time, in millionths",
-        'part_where': 'that part, where the context counts',
+        'part_where': 'the exact utilisation of a context, if it has a thread and is sporadic',
     },
     'mcs_hints/specs/Cores.antt': {
         'overcommitted': 'the hint of a core that grants more than all of its time',
         'parts_of': "the parts of its time that a core's contexts with threads are granted",
     },
     'mcs_check/specs/Told.antt': {
-        'is_miss': 'whether a finding is a miss',
         'is_overdue': 'whether a finding is that a round is overdue',
         'is_never': 'whether a finding is that a thread was never activated',
         'is_lost': 'whether a finding is a lost signal',
@@ -278,76 +345,72 @@ SAYS = {
     'mcs_fields/specs/Fields.antt': {
         'below_text': 'a number below 0, with its sign',
         'Text': 'bytes',
-        'members_of': 'those of these fields',
+        'members_of': 'the members of a JSON object with these fields',
     },
     'mcs_check/specs/Fields.antt': {
         'Fields': 'values, each with its name before it',
         'note_of': 'the notification of a lost signal',
-        'word_of': 'and the word that it left as it was',
+        'word_of': 'the word that a lost signal left unchanged',
         'number_of': 'the number of a round that missed its deadline',
-        'response_of': 'and its response',
-        'deadline_of': 'the deadline of what is late, or never came',
+        'deadline_of': 'the deadline that was missed, or that a thread without a job has',
     },
     'mcs_check/specs/Formats.antt': {
         'found_line': 'the line of a finding',
         'job_line': 'the line of a round that ended',
-        'hint_line': 'the line of a hint',
-        'counts_line': 'the line of counts',
         'row_line': 'the line of a row of the schedule',
     },
     'mcs_check_words/specs/CommandLine.antt': {
         'question_texts': 'the texts of a question: of the thread and of the round',
     },
     'mcs_check/specs/RowFields.antt': {
-        'charged_of': 'what the context of a thread that stops is charged',
-        'until_of': 'and when it is released, if it enters the release queue',
+        'charged_of': 'the charge of a thread that stops',
+        'until_of': 'the date of a thread that stops and enters the release queue',
         'maker_of': 'the core that made a signal which arrives',
         'response_of': 'the response of a round that ended',
-        'of_note': 'the value, where the note is a notification',
+        'of_note': 'the value, if the note is a notification and no server',
         'server_of': 'the server of a row, if it has one',
     },
     'mcs_check/specs/Why.antt': {
-        'span_fields': 'that, with the thread',
-        'span_text': 'the same as words',
-        'span_line': 'the same as a text or an object',
+        'span_fields': 'the fields of a job that `--why` explains',
+        'span_text': 'the line of such a job in words',
+        'span_line': 'the line of such a job, in words or as a JSON object',
         'told_ran': 'the line of how long a thread ran',
-        'ran_line': 'that line; none, where it did not run',
+        'ran_line': 'the line of how long a thread ran; none if it did not run',
         'idle_line': 'the line of how long the core was idle',
-        'is_there': 'whether a round is there',
-        'why_text': 'what is written of the round that is asked about',
-        'is_csv': 'whether this is CSV',
+        'is_there': 'whether the job that is asked about is there',
+        'why_text': 'the text about the job that is asked about',
     },
     'mcs_why/specs/Running.antt': {
         'is_thread': 'whether it is this thread that runs',
-        'is_nobody': 'whether none does',
-        'idle_in': 'for how many ticks of [from, to) none ran on the core',
+        'is_nobody': 'whether no thread runs',
+        'idle_in': 'the ticks of [from, to) in which no thread ran on the core',
     },
     'mcs_why/specs/Waits.antt': {
         'stopped': 'when the thread stopped last, by all rows',
-        'waited_of': 'the same of a thread of a system',
+        'waited_of': 'when the thread began to wait for the word that began its latest job, if it waited',
         'free': "when the thread's latest round ended, or else when it starts",
     },
     'mcs_why/specs/Spans.antt': {
-        'span_if': 'the span of a round that ended, where it is the one that is sought',
-        'or_later': 'the first that there is',
-        'ended': "the number of the thread's latest round that ended, by all rows; 0 where none did",
-        'sought_by': 'a round that ended, or else one that did not, or how many there are',
+        'span_if': 'the span of a job that ended, if it is the one that is sought',
+        'or_later': 'the first span, or else the second',
+        'ended': "the number of the thread's latest job that ended, or 0 if none did",
+        'sought_by': 'a job that ended, or else one that did not, or the number of jobs',
     },
     'mcs_table/specs/Figures.antt': {
-        'figures_of': 'all that the table tells of a thread',
+        'figures_of': 'all figures of a thread in the table',
     },
     'mcs_table/specs/Signals.antt': {
         'is_note': 'whether it is this notification',
-        'merged_note': 'the notification of a signal, where it is merged',
-        'merged_by': 'the notification at which a row after these merges a signal',
+        'merged_note': 'the notification of a signal, if it is coalesced',
+        'merged_by': 'the notification on which this row, after those before it, coalesces a signal',
     },
     'mcs_check/specs/Figures.antt': {
-        'merged_value': 'how many signals were merged, where the script begins with a wait',
-        'thread_fields': "a thread's figures, with its name",
-        'thread_text': "the line of a thread's figures as words",
-        'context_text': 'the line of the budget that a context never used as words',
-        'thread_line': "the line of a thread's figures, as a text, a row of CSV or an object",
-        'context_line': 'that of a context, which CSV leaves out',
+        'merged_value': 'the number of coalesced signals, if the script begins with a wait',
+        'thread_fields': "the fields of a thread's figures, with its name",
+        'thread_text': "the line of a thread's figures in words",
+        'context_text': 'the line of the budget that a context never used, in words',
+        'thread_line': "the line of a thread's figures, in words, as a row of CSV or as a JSON object",
+        'context_line': 'the line of the budget that a context never used; CSV leaves it out',
     },
     'mcs_server_laws/specs/Nesting.antt': {
         'inside': 'the servers that a script is in before this item, the last one first',
@@ -357,9 +420,6 @@ SAYS = {
     },
     'mcs_check_forever/specs/Verdict.antt': {
         'findings': 'the findings of all sets',
-    },
-    'mcs_forever_text/specs/Lines.antt': {
-        'words_text': 'a line as words',
     },
     'mcs_outlook/specs/Outlook.antt': {
         'NeverLoses': 'no schedule coalesces a signal of this notification',
@@ -384,22 +444,26 @@ SAYS = {
     'mcs_forever/specs/Later.antt': {
         'RoundKeepsUp': 'the thread runs further by as many ticks as the clock',
     },
-    'mcs_forever/specs/Recurs.antt': {
-        'shift_of': 'the shift of one core',
-    },
 }
 
 # by file, the definitions whose names say enough: they have no comment on the page
 PLAIN = {
+    'mcs_chain/specs/Answers.antt': 'is_interrupt'.split(),
+    'mcs_check/specs/Fields.antt': 'response_of'.split(),
+    'mcs_check/specs/Formats.antt': 'counts_line hint_line'.split(),
+    'mcs_check/specs/Told.antt': 'is_miss'.split(),
+    'mcs_check/specs/Why.antt': 'is_csv'.split(),
     'mcs_check_forever/specs/Foretold.antt': 'is_rows'.split(),
     'mcs_control/specs/Context.antt': (
-        'Context context_charged context_ready context_unblocked head_amount head_moment '
-        'left_shown max_refills_of moment_of refills_shown'
+        'context_charged context_chosen context_ready context_unblocked context_woken '
+        'head_amount head_moment left_shown max_refills_of moment_of refills_shown'
     ).split(),
     'mcs_control/specs/Control.antt': 'IsModeOf'.split(),
     'mcs_control/specs/laws/Shown.antt': 'ShowsBudget ShowsBudgetOf'.split(),
     'mcs_core/specs/Alarms.antt': 'alarms_at has_come later_by ringing rings'.split(),
-    'mcs_core/specs/Clock.antt': 'arrives_at core_at core_shown opening_world schedule_with world'.split(),
+    'mcs_core/specs/Clock.antt': (
+        'arrives_at core_at core_shown opening_world schedule_with world'
+    ).split(),
     'mcs_core/specs/Contexts.antt': 'held'.split(),
     'mcs_core/specs/Core.antt': (
         'context_of note_of off opening_core opening_note stands thread_of with_context with_note '
@@ -408,16 +472,22 @@ PLAIN = {
     'mcs_core/specs/Orders.antt': 'is_for_core is_of'.split(),
     'mcs_core/specs/Turn.antt': (
         'after_entered after_waited applied chooses given is_for_now item_of its_context move_of '
-        'moves moves_on part_of posts preempts silent stamped tick with_chosen_context '
+        'moves moves_on obeys part_of posts preempts queued silent stamped tick with_chosen_context '
         'with_its_context with_woken_context'
     ).split(),
     'mcs_forever/specs/Later.antt': (
         'IsSporadic later_budget later_context later_dated later_dates later_mail later_place '
         'later_thread'
     ).split(),
+    'mcs_forever/specs/Recurs.antt': 'shift_of'.split(),
     'mcs_forever_text/specs/Fields.antt': 'Fields cores_field note_field thread_field'.split(),
+    'mcs_forever_text/specs/Lines.antt': 'words_text'.split(),
     'mcs_laws/specs/Histories.antt': 'charges_told home_of is_order_for'.split(),
     'mcs_laws/specs/Slices.antt': 'charges_in'.split(),
+    'mcs_load/specs/Script.antt': 'begins_handler'.split(),
+    'mcs_load/specs/Walk.antt': (
+        'chains contexts is_version_2_or_3 is_version_3 links orders sources threads'
+    ).split(),
     'mcs_notify/specs/Note.antt': 'after_post after_wait posted quiet_note'.split(),
     'mcs_outlook/specs/Lines.antt': (
         'count_lines end_line end_lines is_own_note losses_of misses_of of_notes thread_lines '
@@ -435,16 +505,25 @@ PLAIN = {
         'waits'
     ).split(),
     'mcs_report/specs/Tally.antt': 'no_report'.split(),
-    'mcs_script/specs/Script.antt': 'badges_in cost cost_at is_enter is_wait move_after next_of'.split(),
+    'mcs_script/specs/Script.antt': (
+        'badges_in cost cost_at is_enter is_wait move_after next_of'
+    ).split(),
     'mcs_server_laws/specs/Ceiling.antt': 'place_of priority_of script_of'.split(),
     'mcs_server_laws/specs/Exclusion.antt': 'home_of is_done word_of'.split(),
-    'mcs_server_laws/specs/Interrupts.antt': 'ArePosted InterruptsArePosted dates_to is_interrupt_of'.split(),
+    'mcs_server_laws/specs/Interrupts.antt': (
+        'ArePosted InterruptsArePosted dates_to is_interrupt_of'
+    ).split(),
     'mcs_server_laws/specs/Nesting.antt': 'ScriptsNest are_none last_is nests without_last'.split(),
     'mcs_system/specs/System.antt': (
         'System context_part core_of no_note no_source no_thread note_part source_part '
         'thread_part'
     ).split(),
-    'mcs_system/specs/WellFormed.antt': 'AreChains AreSources IsNotification IsServer IsSource'.split(),
+    'mcs_system/specs/WellFormed.antt': (
+        'AreChains AreSources IsNotification IsServer IsSource'
+    ).split(),
+    'mcs_text/specs/Text.antt': (
+        'context_name core_line source_name thread_line thread_name'
+    ).split(),
     'mcs_ticks/specs/Capped.antt': 'one_more'.split(),
     'mcs_ticks/specs/Queue.antt': 'first_of_greatest'.split(),
     'mcs_verdict/specs/Account.antt': 'is_about is_some_of since_of'.split(),
@@ -495,6 +574,7 @@ WORDS = {
         'None': 'no value',
         'not': 'the other of `true` and `false`',
         'Ok': 'the result of a call that succeeded',
+        'OnErr': '`OnErr result C`: if the call returns `Err`, `C` holds',
         'OnOk': '`OnOk result C`: if the call returns `Ok`, `C` holds',
         'Option': '`Some x` or `None`',
         'option_and_then': 'the result of this for the value, or `None`',
@@ -504,6 +584,7 @@ WORDS = {
         'position': 'the index of the first element for which this is `true`, or `None`',
         'Result': '`Ok x` or `Err e`',
         'set': '`set xs n a`: the list with `a` at index `n`',
+        'slice_set': '`slice_set xs n a`: the list with `a` at index `n`',
         'Some': 'this value',
         'string_bytes': 'the bytes of a text',
         'suc': 'the next number',

@@ -3,27 +3,41 @@ from __future__ import annotations
 
 import re
 import textwrap
-from collections.abc import Iterable, Iterator, Sequence
+from collections.abc import Collection, Iterable, Iterator, Sequence
 
-from checks.proofs import believe_lines, believe_types
-from checks.proofs.believe_calls import Root, calls_of
-from checks.proofs.believe_definitions import Definition, blocks_of, indent_of, is_source
+from checks.proofs import believe_lines, believe_text, believe_types
+from checks.proofs.believe_calls import Root, calls_of, silent_types
+from checks.proofs.believe_definitions import Definition, definitions_of, indent_of, is_source
 from checks.proofs.believe_names import PRELUDE, Place, Word, names_in, read
+from checks.proofs.believe_text import WIDTH, together, written
+from checks.proofs.believe_types import is_type
 
-# columns of a line that is written
-WIDTH = 100
 Pieces = Sequence[Sequence[Definition]]
 
 
 def comment_of(definition: Definition) -> tuple[str, ...]:
-    """What is said of a definition: the line that SAYS has for it, or else its own comment."""
+    """What is said of a definition: the line that SAYS has for it, or else its own comment, if that does not just repeat its head."""
     if is_plain(definition.place):
         return ()
-    said = believe_lines.SAYS.get(definition.place.file, {}).get(definition.place.name)
-    if said is None:
+    said = said_of(definition.place)
+    if said is None and is_repeated(definition):
+        return ()
+    if said is None and max(map(len, definition.comment), default=0) <= WIDTH:
         return definition.comment
+    if said is None:
+        said = ' '.join(line.strip(' -') for line in definition.comment)
     lead = '/// ' if is_source(definition.place) else ' ' * indent_of(definition.lines[0]) + '-- '
     return tuple(textwrap.wrap(said, WIDTH, initial_indent=lead, subsequent_indent=lead))
+
+
+def said_of(place: Place) -> str | None:
+    return believe_lines.SAYS.get(place.file, {}).get(place.name)
+
+
+def is_repeated(definition: Definition) -> bool:
+    """Whether a definition has a comment that just repeats its head."""
+    said = said_of(definition.place) or ' '.join(definition.comment)
+    return bool(said) and not is_type(definition) and believe_text.repeats(said, definition)
 
 
 def is_plain(place: Place) -> bool:
@@ -32,26 +46,25 @@ def is_plain(place: Place) -> bool:
 
 
 def text_of(piece: Sequence[Definition]) -> str:
-    """The definitions of a piece as they stand in their file."""
-    parts: list[str] = []
+    """The definitions of a piece, under the heads of their modules."""
+    parts: list[Sequence[str]] = []
     modules: tuple[str, ...] = ()
     for definition in piece:
-        opened = [module for depth, module in enumerate(definition.modules) if definition.modules[:depth + 1] != modules[:depth + 1]]
+        parts += [[module] for depth, module in enumerate(definition.modules) if definition.modules[:depth + 1] != modules[:depth + 1]]
         modules = definition.modules
-        parts.append('\n'.join((*opened, *comment_of(definition), *definition.lines)))
-    return '\n\n'.join(parts)
+        parts.append([*comment_of(definition), *written(definition)])
+    return together(parts)
 
 
 def lines_of(definition: Definition) -> int:
     """The lines of a definition: for a type those of the table."""
-    if is_source(definition.place):
+    if is_type(definition):
         return len([*type_rows(definition)])
-    return len(comment_of(definition)) + len(definition.lines)
+    return len(comment_of(definition)) + len(written(definition))
 
 
 def type_rows(definition: Definition) -> Iterator[str]:
-    lines = (line.strip(' /') for line in comment_of(definition))
-    said = ' '.join(line.removeprefix('- ') for line in lines)
+    said = ' '.join(re.sub(r'^ *(?:///|--)? *(?:- )?', '', line) for line in comment_of(definition))
     return believe_types.rows_of(definition, ' '.join(said.split()))
 
 
@@ -72,8 +85,10 @@ def shown(word: Word) -> str:
 
 
 def head_of(file: str) -> str:
-    """What the first lines of a file of specs/ say of it all."""
-    lines = [line.removeprefix('--').strip() for line in read(file).partition('\nuse ')[0].splitlines()]
+    """What is said of a file of specs/: the line that HEADS has for it, or else its own first lines."""
+    own = [line.removeprefix('--').strip() for line in read(file).partition('\nuse ')[0].splitlines()]
+    said = believe_lines.HEADS.get(file, '').splitlines()
+    lines = [part for line in said for part in textwrap.wrap(line, WIDTH) or ['']] or own
     return '\n' + '\n'.join(lines) + '\n'
 
 
@@ -87,8 +102,9 @@ def prefixes_of(file: str, piece: Sequence[Definition]) -> Iterator[str]:
 
 
 def twins_of(file: str, piece: Sequence[Definition], found: Iterable[Place]) -> Iterator[str]:
-    """Which of several definitions of one name a piece cites from another file."""
-    cited = {place for definition in piece for place in definition.cites if place.file != file}
+    """Which of several definitions of one name a piece cites from another file, without a prefix."""
+    own = definitions_of(file)
+    cited = {place for definition in piece for place in definition.cites if place.file != file and place.name not in own}
     for place in sorted(cited, key=lambda place: place.name):
         if any(other.name == place.name and other.file != place.file and is_source(other) == is_source(place) for other in found):
             yield f'`{place.name}` is from `{place.file}`'
@@ -102,7 +118,7 @@ def notes_of(file: str, piece: Sequence[Definition], known: Iterable[Place]) -> 
 def of_specs(pieces: Pieces) -> Iterator[list[Definition]]:
     """The pieces without the types of src/; neighbours from one file are one piece."""
     here: list[Definition] = []
-    for definition in (definition for piece in pieces for definition in piece if not is_source(definition.place)):
+    for definition in (definition for piece in pieces for definition in piece if not is_type(definition)):
         if here and here[-1].place.file != definition.place.file:
             yield here
             here = []
@@ -123,10 +139,13 @@ def specs_text(pieces: Pieces, known: Iterable[Place]) -> str:
     return text
 
 
-def calls_text(root: Root) -> str:
-    """The calls with which a part begins."""
+def calls_text(root: Root, known: Collection[Place]) -> str:
+    """The calls with which a part begins, and the types that only their heads name."""
     parts = [f'// crates/{file}\n{text}' for file, _, text in calls_of(root)]
-    return '\n### Calls\n\n```\n' + '\n\n'.join(parts) + '\n```\n'
+    text = '\n### Calls\n\n```\n' + '\n\n'.join(parts) + '\n```\n'
+    if silent := [f'[`{place.name}`](../crates/{place.file})' for place in silent_types(root, known)]:
+        text += f'\nNo clause here speaks of {", ".join(silent)}.\n'
+    return text
 
 
 def counted(number: int, name: str) -> str:
@@ -135,23 +154,23 @@ def counted(number: int, name: str) -> str:
 
 def counts_text(definitions: Sequence[Definition]) -> str:
     """How much a part has."""
-    types = [definition for definition in definitions if is_source(definition.place)]
+    types = [definition for definition in definitions if is_type(definition)]
     files = {definition.place.file for definition in definitions}
     much = sum(map(lines_of, definitions))
     said = f'{counted(len(definitions) - len(types), "definition")} and {counted(len(types), "type")}'
     return f'{said} from {counted(len(files), "file")}: {counted(much, "line")}.\n'
 
 
-def region_of(root: Root, pieces: Pieces, words: Iterable[Word], known: Iterable[Place]) -> str:
+def region_of(root: Root, pieces: Pieces, words: Iterable[Word], known: Collection[Place]) -> str:
     """What the script writes between the marks of a part."""
     definitions = [definition for piece in pieces for definition in piece]
     text = counts_text(definitions)
     if words:
         text += f'\nWords of the toolchain\'s library in this part:\n\n{words_table(words)}'
-    types = [definition for definition in definitions if is_source(definition.place)]
+    types = [definition for definition in definitions if is_type(definition)]
     if types:
         text += f'\nTypes in this part:\n\n{types_table(types)}'
-    return text + specs_text(pieces, known) + calls_text(root)
+    return text + specs_text(pieces, known) + calls_text(root, known)
 
 
 def mark(root: Root, word: str) -> str:
@@ -169,5 +188,5 @@ def places_in(region: str) -> set[Place]:
     """The definitions that a region shows."""
     there = {Place(file, name) for file, name in believe_types.types_in(region)}
     for file, block in re.findall(r'^### \[(.*?)\].*?^```\n(.*?)^```$', region, re.M | re.S):
-        there.update(Place(file, one.name) for one in blocks_of(block))
+        there.update(Place(file, name) for name in believe_text.names_on_page(block))
     return there

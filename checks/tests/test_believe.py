@@ -1,16 +1,19 @@
 """The script that writes docs/BELIEVE.md, in a folder with two made-up crates: it has to see each way in which page and contracts differ."""
 import ast
+import collections
 import contextlib
 import io
 import pathlib
+import re
 import sys
 import tempfile
 import unittest
 from unittest import mock
 
 from checks import common
+from checks.pages import prose
 from checks.proofs import (
-    believe, believe_calls, believe_definitions, believe_lines, believe_names, believe_order, believe_types,
+    believe, believe_calls, believe_definitions, believe_lines, believe_names, believe_order, believe_text, believe_types,
 )
 from checks.proofs.believe_calls import Clause, Root
 
@@ -69,7 +72,7 @@ WORDS = {'std.Prelude': {'ℕ': 'a number', '◌+◌': 'sum', '◌≡◌': 'equa
 ROOTS = (Root('part', (Clause('mcs_high/src/lib.rt', 'double', 'value', ('IsAnswer',)),)),)
 CACHED = (
     believe_definitions.definitions_of, believe_definitions.types_in, believe_names.handed_on_by,
-    believe_names.constructors_in, believe_order.floors,
+    believe_names.constructors_in, believe_order.floors, believe_text.names_in_file,
 )
 
 
@@ -80,6 +83,13 @@ class Lines(unittest.TestCase):
         keys = [[ast.literal_eval(key) for key in table.keys if key] for table in tables]
         self.assertGreater(sum(map(len, keys)), 400)
         self.assertEqual([key for own in keys for key in set(own) if own.count(key) > 1], [])
+
+
+    def test_lines_are_plain_english(self) -> None:
+        tables = (*believe_lines.SAYS.values(), *believe_lines.WORDS.values())
+        lines = [line for table in (*tables, believe_lines.HEADS) for line in table.values()]
+        self.assertGreater(len(lines), 300)
+        self.assertEqual([(line, broken) for line in lines for one in prose.sentences(line) for broken in prose.rules_broken(one)], [])
 
 
 class Believe(unittest.TestCase):
@@ -97,7 +107,7 @@ class Believe(unittest.TestCase):
         for module, name, value in (
             (believe, 'PAGE', self.page), (believe, 'ROOTS', ROOTS),
             (believe_names, 'CRATES', self.top / 'crates'), (believe_order, 'TOP', self.top),
-            (believe_lines, 'WORDS', WORDS), (believe_lines, 'SAYS', {}), (believe_lines, 'PLAIN', {}),
+            (believe_lines, 'WORDS', WORDS), (believe_lines, 'SAYS', {}), (believe_lines, 'PLAIN', {}), (believe_lines, 'HEADS', {}),
         ):
             patched = mock.patch.object(module, name, value)
             patched.start()
@@ -132,7 +142,7 @@ class Believe(unittest.TestCase):
         self.assert_passes('--write')
         page = self.page.read_text()
         self.assertTrue(page.startswith('Before.\n') and page.endswith('After.\n'))
-        self.assertLess(page.index('-- twice a number\nabbrev pub twice'), page.index('abbrev pub IsAnswer'))
+        self.assertLess(page.index('-- twice a number\ntwice (n : ℕ) : ℕ = n + n\n'), page.index('IsAnswer (n answer : ℕ) : Type 0 = answer ≡ twice n\n'))
         self.assertNotIn('thrice', page)
         call = 'pub fn double(n: u64) -> u64\n    requires { n ≤ 9 }\n    // about this call: result\n    ensures value { IsAnswer n result }'
         self.assertIn(call, page)
@@ -161,12 +171,22 @@ class Believe(unittest.TestCase):
     def test_a_line_of_the_table_stands_for_the_comment(self) -> None:
         with mock.patch.object(believe_lines, 'SAYS', {'mcs_low/specs/Rules.antt': {'twice': 'the double'}}):
             self.assert_passes('--write')
-        self.assertIn('-- the double\nabbrev pub twice', self.page.read_text())
+        self.assertIn('-- the double\ntwice (n : ℕ)', self.page.read_text())
 
     def test_a_line_of_no_use_is_seen(self) -> None:
         self.run_it('--write')
         with mock.patch.object(believe_lines, 'SAYS', {'mcs_low/specs/Rules.antt': {'thrice': 'the triple'}}):
             self.assert_fails('lines for definitions that nothing cites: thrice of crates/mcs_low/specs/Rules.antt')
+
+    def test_a_line_for_a_file_stands_for_its_own(self) -> None:
+        with mock.patch.object(believe_lines, 'HEADS', {'mcs_low/specs/Rules.antt': 'Numbers:\n\n- doubled'}):
+            self.assert_passes('--write')
+        self.assertIn('### [mcs_low/specs/Rules.antt](../crates/mcs_low/specs/Rules.antt)\n\nNumbers:\n\n- doubled\n\n```', self.page.read_text())
+
+    def test_a_line_for_a_file_of_no_use_is_seen(self) -> None:
+        self.run_it('--write')
+        with mock.patch.object(believe_lines, 'HEADS', {'mcs_low/specs/Other.antt': 'Others.'}):
+            self.assert_fails('lines for files that nothing cites: mcs_low/specs/Other.antt')
 
     def test_a_word_without_a_line_is_seen(self) -> None:
         self.run_it('--write')
@@ -185,6 +205,14 @@ class Believe(unittest.TestCase):
         self.run_it('--write')
         self.put('crates/mcs_high/src/lib.rt', CALL.replace('IsAnswer n result }', 'result ≡ n }'))
         self.assert_fails('the clause value of double in crates/mcs_high/src/lib.rt does not cite IsAnswer')
+
+    def test_a_first_part_that_is_too_long_is_seen(self) -> None:
+        # each of the two definitions has a line, and one for its comment
+        for most, failed in ((4, 0), (3, 1)):
+            with self.subTest(most), mock.patch.object(believe, 'MOST_LINES', most):
+                said = self.run_it('--write')
+                self.assertEqual(common.last_tally(said).failed, failed)
+                self.assertEqual('failed: the part part has 4 lines, more than 3' in said, bool(failed))
 
     def test_a_page_without_marks_is_seen(self) -> None:
         self.page.write_text('Before.\n')
@@ -206,9 +234,24 @@ class Believe(unittest.TestCase):
         self.claim('twice kind.Small')
         self.assert_passes('--write')
         page = self.page.read_text()
-        self.assertIn('| [`Kind`](../crates/mcs_low/src/kind.rt) | What is asked for. |\n| `Kind.Small` |', page)
+        self.assertIn('| [`Kind`](../crates/mcs_low/src/kind.rt) `Small` | What is asked for. |\n', page)
         self.assertNotIn('derive', page)
         self.assertIn('`kind.` precedes a variant of `Kind`', page)
+
+    def test_a_name_of_two_files_says_which_it_is(self) -> None:
+        other = RULES.replace('twice n = n + n', 'twice n = thrice n').replace('-- twice a number', '-- thrice, in fact')
+        self.put('crates/mcs_low/specs/Other.antt', other)
+        uses = 'use Rattle.mcs_low.specs.Rules.{twice, thrice}'
+        for imported, body, own, wanted in (
+            ('use Rattle.mcs_low.specs.Rules.{twice}\nuse Rattle.mcs_low.specs.Other.{thrice, twice as other}', 'twice (other n)', '', 'Here `twice` is from'),
+            ('use Rattle.mcs_low.specs.Rules as low', 'twice (low.twice n)', '\n-- n\nabbrev pub twice : ℕ → ℕ\ntwice n = n\n', 'Here `low.` precedes a name of `mcs_low/specs/Rules.antt`.\n'),
+        ):
+            with self.subTest(body):
+                self.claim(body)
+                text = (self.top / 'crates/mcs_high/specs/Claim.antt').read_text()
+                self.put('crates/mcs_high/specs/Claim.antt', text.replace(uses, imported) + own)
+                self.assert_passes('--write')
+                self.assertIn(f'A claim.\n\n{wanted}', self.page.read_text())
 
     def test_a_field_of_a_record_is_not_cited(self) -> None:
         for body in ('(record { thrice = twice n }).thrice', 'record { first = n; thrice = twice n }'):
@@ -245,7 +288,7 @@ impl Model for Kind {
 
     def test_what_a_trait_declares_is_not_cited(self) -> None:
         self.put('crates/mcs_low/src/ask.rt', TRAIT)
-        self.put('crates/mcs_high/src/lib.rt', CALL.replace('/// D', 'use mcs_low::Ask;\n\n/// D').replace('double(', 'double<A: Ask>('))
+        self.put('crates/mcs_high/src/lib.rt', CALL.replace('/// D', 'use mcs_low::Ask;\n\n/// D').replace('double(n: u64)', 'double<A: Ask>(n: A)'))
         self.claim('n')
         with mock.patch.object(believe_lines, 'WORDS', {'std.Prelude': {'ℕ': 'a number', '◌≡◌': 'equal'}}):
             self.assert_passes('--write')
@@ -296,18 +339,121 @@ impl Model for Kind {
         self.put('crates/mcs_high/specs/Claim.antt', CLAIM.replace('answer ≡ BODY', 'answer ≡ record {\n  first = twice n;\n} thrice n'))
         self.assert_passes('--write')
         page = self.page.read_text()
-        self.assertIn('  first = twice n;\n} thrice n\n```', page)
+        self.assertIn('answer ≡ record { first = twice n } thrice n\n```', page)
         self.assertIn('three times a number', page)
 
     def test_a_plain_name_needs_no_line_and_has_none(self) -> None:
         with mock.patch.object(believe_lines, 'PLAIN', {'mcs_low/specs/Rules.antt': ['twice']}):
             self.assert_passes('--write')
-        self.assertIn('```\nabbrev pub twice', self.page.read_text())
+        self.assertIn('```\ntwice (n : ℕ)', self.page.read_text())
 
     def test_a_plain_name_of_no_use_is_seen(self) -> None:
         self.run_it('--write')
         with mock.patch.object(believe_lines, 'PLAIN', {'mcs_low/specs/Rules.antt': ['thrice']}):
             self.assert_fails('lines for definitions that nothing cites: thrice of crates/mcs_low/specs/Rules.antt')
+
+    def test_a_comment_that_repeats_the_name_is_left_out(self) -> None:
+        self.put('crates/mcs_low/specs/Rules.antt', RULES.replace('-- twice a number', '-- this one, twice').replace('twice n =', 'twice one =').replace('= n + n\n\n--', '= one + one\n\n--'))
+        self.assert_passes('--write')
+        self.assertIn('```\ntwice (one : ℕ) : ℕ = one + one\n```', self.page.read_text())
+
+    def test_a_comment_with_a_number_is_kept(self) -> None:
+        self.put('crates/mcs_low/specs/Rules.antt', RULES.replace('-- twice a number', '-- 2 of these'))
+        self.assert_passes('--write')
+        self.assertIn('-- 2 of these\ntwice', self.page.read_text())
+
+    def test_a_line_that_repeats_the_name_is_seen(self) -> None:
+        with mock.patch.object(believe_lines, 'SAYS', {'mcs_low/specs/Rules.antt': {'twice': 'twice that'}}):
+            self.run_it('--write')
+            self.assert_fails('lines that repeat a name, which PLAIN could list: twice of crates/mcs_low/specs/Rules.antt')
+
+    def test_a_type_of_specs_is_a_row(self) -> None:
+        self.put('crates/mcs_low/specs/Rules.antt', RULES.replace('-- twice', """-- two numbers
+pub record Pair : Type 0 where
+  -- The first : one.
+  pub one : ℕ
+  pub two : List ℕ
+
+-- one number or none
+pub data Some : Type 0 where
+  Nothing : Some
+  This : ℕ → List ℕ → Some
+
+-- holds of small numbers
+pub record IsSmall (n : ℕ) : Type 0 where
+  pub small : n ≡ 0
+
+-- twice""", 1).replace('twice : ℕ → ℕ', 'twice : Pair → Some → ℕ → IsSmall → ℕ').replace('twice n =', 'twice p s n i ='))
+        self.assert_passes('--write')
+        page = self.page.read_text()
+        for row in (
+            '| [`Pair`](../crates/mcs_low/specs/Rules.antt) `{ one: ℕ, two: List ℕ }` | Two numbers. `one`: the first : one. |',
+            '| [`Some`](../crates/mcs_low/specs/Rules.antt) `Nothing \\| This(ℕ, List ℕ)` | One number or none. |',
+            '-- holds of small numbers\nrecord IsSmall (n : ℕ) : Type 0 where\n  small : n ≡ 0\n',
+            'twice (p : Pair) (s : Some) (n : ℕ) (i : IsSmall) : ℕ = n + n\n',
+            '3 definitions and 2 types from 2 files: 9 lines.',
+        ):
+            self.assertIn(row, page)
+
+    def test_a_type_needs_a_line(self) -> None:
+        self.put('crates/mcs_low/src/kind.rt', KIND.replace('/// What is asked for.\n', ''))
+        self.claim('twice kind.Small')
+        with mock.patch.object(believe_lines, 'PLAIN', {'mcs_low/src/kind.rt': ['Kind']}):
+            self.run_it('--write')
+            self.assert_fails('nothing says what Kind of crates/mcs_low/src/kind.rt is')
+
+    def test_a_comment_that_is_too_wide_is_wrapped(self) -> None:
+        words = 'twenty letters here. ' * 5
+        self.put('crates/mcs_low/specs/Rules.antt', RULES.replace('-- twice a number', f'-- {words.strip()}'))
+        self.assert_passes('--write')
+        self.assertIn(f'-- {"twenty letters here. " * 4}twenty\n-- letters here.\ntwice', self.page.read_text())
+
+    def test_a_method_is_a_call(self) -> None:
+        self.put('crates/mcs_high/src/lib.rt', """ghost use Rattle.std.specs.Prelude.{◌≡◌, ℕ};
+ghost use Rattle.mcs_low.specs.Rules.{twice};
+ghost use Rattle.mcs_low.specs.declared.kind.Kind.{Kind as TheKind};
+
+/// Another.
+pub struct Other(u64);
+
+/// Counts.
+pub struct Counter {
+    count: u64,
+}
+
+impl Other {
+    pub fn double(&self) -> u64
+        ensures { result ≡ 0 }
+    {
+        0
+    }
+}
+
+impl Counter {
+    /// Doubles.
+    pub fn double(&mut self, other: &Other) -> u64
+        ensures { (kind : TheKind) → result ≡ twice self.old }
+    {
+        self.count
+    }
+}
+""")
+        clause = Clause('mcs_high/src/lib.rt', 'Counter::double', '', ('twice',))
+        with mock.patch.object(believe, 'ROOTS', (Root('part', (clause,)),)):
+            self.assert_passes('--write')
+        page = self.page.read_text()
+        self.assertIn('| [`Counter`](../crates/mcs_high/src/lib.rt) `{ count: u64 }` | Counts. |', page)
+        self.assertIn('// crates/mcs_high/src/lib.rt\npub fn Counter::double(&mut self, other: &Other) -> u64\n    // about this call: result\n    ensures { (kind : Kind) → result ≡ twice self.old }\n```', page)
+        self.assertIn('No clause here speaks of [`Other`](../crates/mcs_high/src/lib.rt).', page)
+
+    def test_a_type_of_which_no_clause_speaks_is_only_named(self) -> None:
+        self.put('crates/mcs_high/src/lib.rt', CALL.replace('/// D', 'use mcs_low::kind::{Kind, Other};\n\n/// D').replace('n: u64)', 'n: u64, kind: &Kind)'))
+        self.put('crates/mcs_high/src/kind.rt', KIND)
+        self.put('crates/mcs_low/src/lib.rt', 'pub use kind::Kind;\n')
+        self.assert_passes('--write')
+        page = self.page.read_text()
+        self.assertIn('```\n\nNo clause here speaks of [`Kind`](../crates/mcs_low/src/kind.rt).\n<!-- part: ends -->', page)
+        self.assertNotIn('What is asked for.', page)
 
     def test_an_invariant_may_be_left_to_the_next_part(self) -> None:
         self.put('crates/mcs_low/src/kind.rt', """ghost use Rattle.mcs_low.specs.Rules.{thrice};
@@ -340,6 +486,7 @@ class Clauses(unittest.TestCase):
             ('ensures rows { IfOk result (λ whole. whole.rows ≡ schedule horizon) }', ['whole.rows']),
             ('ensures given { OnOk result (Given S.takes sink.old (schedule horizon) sink.new) }', ['sink.new']),
             ('ensures fault { IfErr result (IsFlowFault sink.old sink.new) }', ['sink.new', 'the fault']),
+            ('ensures err { OnErr result (self.new ≡ self.old) }', ['self.new']),
             ('ensures law { OnOk result (Headline horizon (schedule horizon)) }', []),
             ('ensures law { (system : System) → IsWellFormed system → Holds system }', []),
             ('ensures { result ≡ n }', ['result']),
@@ -355,6 +502,223 @@ class Clauses(unittest.TestCase):
         ])
 
 
+    def test_a_head_gives_types_to_what_clauses_speak_of(self) -> None:
+        head = '<R: Threads, S: Sink + Sync>(rt: &R, system: Arc<System>, sink: &mut S) -> Result<Whole, Fault>\n'
+        for body, wanted in (
+            ('ensures { IfOk result (λ whole. whole ≡ f (arc_value system)) }', ['Arc[System]', 'Whole']),
+            ('ensures { OnOk result (Given sink.old sink.new) }', ['&mut S', 'Sink + Sync']),
+            ('ensures { IfErr result (λ f. f ≡ None) }', ['Fault']),
+            ('ensures { result ≡ Ok None }', ['Result<Whole, Fault>']),
+            ('ensures { x.system ≡ y }', []),
+        ):
+            with self.subTest(body):
+                self.assertEqual([*believe_calls.spoken_of(head, body)], wanted)
+
+    def test_a_head_without_parameters_gives_none(self) -> None:
+        self.assertEqual([*believe_calls.spoken_of('()\n', 'ensures { Holds }')], [])
+
+
+class Texts(unittest.TestCase):
+    def setUp(self) -> None:
+        # of the words that files may bring in, `zero` is a pattern, and `item` is not
+        names = believe_names.Names({}, {'zero': believe_names.Word('zero', 'std.Prelude')}, {})
+        patched = mock.patch.object(believe_text, 'names_in_file', lambda file: names)
+        patched.start()
+        self.addCleanup(patched.stop)
+
+    def written(self, text: str) -> list[str]:
+        place = believe_names.Place('mcs_low/specs/Rules.antt', text.split()[2].removeprefix('pub'))
+        definition = believe_definitions.Definition(place, (), tuple(text.splitlines()), (), frozenset(), frozenset())
+        return [*believe_text.written(definition)]
+
+    def test_one_clause_has_the_types_of_its_parameters(self) -> None:
+        for text, wanted in (
+            ('abbrev pub f : ℕ → ℕ → (ℕ → List ℕ) → Bool\nf a item g =\n    g a == item ∷ []', 'f (a item : ℕ) (g : ℕ → List ℕ) : Bool = g a == item ∷ []'),
+            ('unfoldable pub f : {A : Type 0} → List A → List A → ℕ\nf xs _ = length xs', 'f {A : Type 0} (xs _ : List A) : ℕ = length xs'),
+            ('abbrev f : ℕ → Core → Turn\nf a = says a', 'f (a : ℕ) : Core → Turn = says a'),
+            ('abbrev pub f :\n    ℕ\nf = 1', 'f : ℕ = 1'),
+            ('abbrev pub f : (A → B) × (B → A) → ℕ\nf p = 0', 'f (p : (A → B) × (B → A)) : ℕ = 0'),
+        ):
+            with self.subTest(text):
+                self.assertEqual(self.written(text), [wanted])
+
+    def test_other_clauses_keep_the_type_apart(self) -> None:
+        for text, wanted in (
+            ('abbrev pub f : ℕ → ℕ\nf zero = 1', 'f : ℕ → ℕ;  f zero = 1'),
+            ('abbrev pub f : (n : ℕ) → Fin n → ℕ\nf m i = m', 'f : (n : ℕ) → Fin n → ℕ;  f m i = m'),
+            ('abbrev pub f : ℕ → Fin m\nf m = m', 'f : ℕ → Fin m;  f m = m'),
+            ('abbrev pub f : N\nf a = a', 'f : N;  f a = a'),
+        ):
+            with self.subTest(text):
+                self.assertEqual(self.written(text), [wanted])
+
+    def test_neighbours_of_one_value_are_one_clause(self) -> None:
+        for clauses, wanted in (
+            ('f (One a) n = n\nf (Two b c) n = n\nf Three n = n', 'f (One a | Two b c | Three) n = n'),
+            ('f (One a) n = a\nf (Two a) n = a', 'f (One a | Two a) n = a'),
+            ('f (Some (One a)) n = 0\nf None n = 0', 'f (Some (One a) | None) n = 0'),
+            ('f (Some (One a)) n = 0\nf (Some (Two b c)) n = 0\nf (Some Three) n = 0', 'f (Some (One a | Two b c | Three)) n = 0'),
+            ('f (Some (One a)) n = 0\nf (Same (One a)) n = 0', 'f (Some (One a) | Same (One a)) n = 0'),
+            ('f ((One a) (Two b)) n = 0\nf None n = 0', 'f ((One a) (Two b) | None) n = 0'),
+            # the first value is bound, the second is that of another definition
+            ('f (One a) n = a\nf (Two b) n = a', 'f (One a) n = a;  f (Two b) n = a'),
+            ('f One m = 0\nf Two n = 0', 'f One m = 0;  f Two n = 0'),
+            ('f One n = 0\nf Two n = n\nf Six n = 0', 'f One n = 0;  f Two n = n;  f Six n = 0'),
+        ):
+            with self.subTest(clauses):
+                self.assertEqual(self.written(f'abbrev pub f : A → ℕ → ℕ\n{clauses}'), [f'f : A → ℕ → ℕ;  {wanted}'])
+
+    def test_the_arguments_of_one_clause_fit(self) -> None:
+        # with 84 letters the left side of both and ` =` have 100 columns
+        for letters, wanted in (
+            (84, ['f : A → ℕ', f'f (One {"a" * 84} | Two) =', '    0']),
+            (85, ['f : A → ℕ', f'f (One {"a" * 85}) = 0', 'f Two = 0']),
+        ):
+            with self.subTest(letters):
+                self.assertEqual(self.written(f'abbrev pub f : A → ℕ\nf (One {"a" * letters}) = 0\nf Two = 0'), wanted)
+
+    def test_clauses_are_one_line_if_they_fit(self) -> None:
+        # the type and both clauses have 41, 29 and 30 columns; between two on a line there are 3
+        kind = 'f : List ℕ → List ℕ → List ℕ → List ℕ → ℕ'
+        first, second = f'f [] = {"a" * 22}', f'f (x ∷ xs) = {"b" * 17}'
+        for more, wanted in (
+            (0, [kind, f'{first};  {second}']),
+            (38, [kind, f'{first};  {second}{"b" * 38}']),
+            (39, [kind, first, f'{second}{"b" * 39}']),
+        ):
+            with self.subTest(more):
+                self.assertEqual(self.written(f'abbrev pub {kind}\n{first}\n{second}{"b" * more}'), wanted)
+
+    def test_a_head_that_is_too_wide_stays_apart(self) -> None:
+        kinds = [f'Type{letter}OfManyLetters' for letter in 'ABCD']
+        names = ['one', 'two', 'three', 'four']
+        self.assertEqual(self.written(f'abbrev pub f : {" → ".join(kinds)} → ℕ\nf {" ".join(names)} = 0'), [
+            f'f : {" → ".join(kinds)} → ℕ', 'f one two three four = 0',
+        ])
+
+    def test_short_fields_stand_side_by_side(self) -> None:
+        # with their names and semicolons these have 40 and 41 columns
+        short, long = 'x' * 35, 'x' * 36
+        self.assertEqual(self.written(f'abbrev pub f : R\nf =\n    record {{\n      a = {short};\n      b = 2;\n      c = {long};\n      d = 4;\n      e = {long};\n    }}'), [
+            'f : R = record {', f'  a = {short}; b = 2;', f'  c = {long};', '  d = 4;', f'  e = {long} }}',
+        ])
+
+    def test_a_record_closes_behind_its_last_field_if_it_fits(self) -> None:
+        # with two columns before it and ` }` behind it the last field has 100 columns, and 101
+        for letters, wanted in ((92, [f'  b = {"y" * 92} }}']), (93, [f'  b = {"y" * 93};', '}'])):
+            with self.subTest(letters):
+                text = f'abbrev pub f : R\nf =\n    record {{\n      a = {"x" * 40};\n      b = {"y" * letters};\n    }}'
+                self.assertEqual(self.written(text), ['f : R = record {', f'  a = {"x" * 40};', *wanted])
+
+    def test_a_record_that_does_not_end_the_value_keeps_its_lines(self) -> None:
+        fields = [f'      a = {"x" * 50};', f'      b = {"y" * 50};']
+        self.assertEqual(self.written('\n'.join(('abbrev pub f : List R', 'f =', '    record {', *fields, '    } ∷ []'))), [
+            'f : List R =', '    record {', *fields, '    } ∷ []',
+        ])
+
+    def test_a_record_in_a_record(self) -> None:
+        wide = 'x' * 90
+        for value, wanted in (
+            (f'a = record {{\n        b = {wide};\n        c = 3;\n      }};\n      d = 4;', ['  a = record {', f'    b = {wide};', '    c = 3;', '  };', '  d = 4 }']),
+            (f'a = record {{\n        b = 2;\n        c = 3;\n      }};\n      d = {wide};', ['  a = record { b = 2; c = 3 };', f'  d = {wide} }}']),
+        ):
+            with self.subTest(value):
+                self.assertEqual(self.written(f'abbrev pub f : R\nf =\n    record {{\n      {value}\n    }}'), ['f : R = record {', *wanted])
+
+    def test_steps_keep_their_lines(self) -> None:
+        for text, wanted in (
+            ('abbrev pub f : A → B\nf a = do\n  b ← g a\n  h b', ['f (a : A) : B = do', '  b ← g a', '  h b']),
+            ('abbrev pub f : A → B\nf a =\n    let c = a in do\n  b ← g c\n  h b', ['f (a : A) : B =', '    let c = a in do', '  b ← g c', '  h b']),
+            ('abbrev pub f : A → B\nf None = c\nf (Some a) = do\n  b ← g a\n  h b', ['f : A → B', 'f None = c', 'f (Some a) = do', '  b ← g a', '  h b']),
+        ):
+            with self.subTest(text):
+                self.assertEqual(self.written(text), wanted)
+
+    def test_a_comment_inside_stays(self) -> None:
+        for text, wanted in (
+            ('abbrev pub f : ℕ → ℕ\n-- nothing\nf a = 0', ['f : ℕ → ℕ', '-- nothing', 'f a = 0']),
+            ('pub record R (n : ℕ) : Type 0 where\n  -- nothing\n  pub none : n ≡ 0', ['record R (n : ℕ) : Type 0 where', '  -- nothing', '  none : n ≡ 0']),
+        ):
+            with self.subTest(text):
+                self.assertEqual(self.written(text), wanted)
+
+    def test_a_choice_begins_behind_its_condition(self) -> None:
+        condition, one, other = 'a' * 40, 'b' * 40, 'c' * 40
+        self.assertEqual(self.written(f'abbrev pub f : ℕ\nf =\n    if {condition}\n    then {one}\n    else {other}'), [
+            'f : ℕ =', f'    if {condition} then {one}', f'    else {other}',
+        ])
+
+    def test_lines_and_heads_of_modules_have_no_empty_line_between(self) -> None:
+        module, one, two = ['module _ (n : ℕ) where'], ['  f : ℕ = n'], ['  -- twice', '  g : ℕ = n + n']
+        self.assertEqual(believe_text.together([['a : ℕ = 1'], ['b : ℕ = 2'], module, one, one, two, one, module, two]).splitlines(), [
+            'a : ℕ = 1', 'b : ℕ = 2', '', *module, *one, *one, '', *two, '', *one, '', *module, *two,
+        ])
+
+    def test_the_names_of_a_block(self) -> None:
+        block = """-- a comment : with a colon
+one (n : ℕ) (f : (ℕ → ℕ) → ℕ) : ℕ = f n
+
+two : ℕ → ℕ;  two zero = 1;  two (suc n) = n
+infixl 4 ◌>>=◌
+◌>>=◌ : A → B → C
+a >>= b =
+    three : x
+
+module _ (n : ℕ) where
+  record IsIt : Type 0 where
+    field : n ≡ 1
+
+  four : Type 0 = (k : ℕ) → k ≡ n
+"""
+        self.assertEqual([*believe_text.names_on_page(block)], ['one', 'two', '◌>>=◌', 'IsIt', 'four'])
+
+
+class Specs(unittest.TestCase):
+    """All definitions of crates/: whatever the rules of the page do, they leave out and add nothing."""
+
+    def definitions(self) -> list[believe_definitions.Definition]:
+        crates = believe_names.CRATES
+        files = [str(path.relative_to(crates)) for path in sorted(crates.glob('*/specs/**/*.antt'))]
+        return [definition for file in files for definition in believe_definitions.definitions_of(file).values()]
+
+    def test_a_definition_has_the_words_of_its_file(self) -> None:
+        seen = 0
+        for definition in self.definitions():
+            code = ' '.join(line for line in definition.lines if not line.lstrip().startswith(('--', 'infix')))
+            own = collections.Counter(re.findall(r'\w+', code))
+            there = collections.Counter(re.findall(r'\w+', ' '.join(line for line in believe_text.written(definition) if not line.lstrip().startswith(('--', 'infix')))))
+            # these words are left out, and parameters, types and values that several clauses share stand once
+            self.assertEqual(own.keys() - there.keys() - {'abbrev', 'unfoldable', 'pub'}, set(), definition.place)
+            self.assertEqual(there - own, collections.Counter(), definition.place)
+            seen += 1
+        self.assertGreater(seen, 1000)
+
+    def test_each_value_stands_behind_its_arguments(self) -> None:
+        seen = 0
+        for definition in self.definitions():
+            clauses = [text for text, is_clause in believe_definitions.clauses_of(definition.lines) if is_clause]
+            lines = believe_text.written(definition)
+            for clause in clauses:
+                value = believe_text.sides(clause)[1]
+                self.assertIn(f'={squeezed(value)}', squeezed('\n'.join(lines)), definition.place)
+                if '←' in value:
+                    # a line ends a step; those that a semicolon ends are fields
+                    steps = {line.strip() for line in value.splitlines()[1:] if not line.endswith(';')}
+                    self.assertLessEqual(steps, {line.strip() for line in lines}, definition.place)
+                seen += 1
+        self.assertGreater(seen, 1500)
+
+    def test_the_page_names_each_definition(self) -> None:
+        for definition in self.definitions():
+            block = '\n'.join(believe_text.written(definition))
+            self.assertEqual([*believe_text.names_on_page(block)], [definition.place.name])
+
+
+def squeezed(text: str) -> str:
+    """A text without spaces, and without what may separate the last field of a record from its end."""
+    return re.sub(r';?}', '}', ''.join(text.split()))
+
+
 class Types(unittest.TestCase):
     def rows(self, *lines: str) -> list[str]:
         place = believe_names.Place('mcs_low/src/kind.rt', 'Kind')
@@ -364,10 +728,11 @@ class Types(unittest.TestCase):
         row = self.rows('pub struct Kind {', '    /// The first of', '    /// two.', '    pub one: u64,', '    pub two: Vec<A | B>,', '}')
         self.assertEqual(row, ['| [`Kind`](../crates/mcs_low/src/kind.rt) `{ one: u64, two: Vec<A \\| B> }` | A kind. `one`: the first of two. |'])
 
-    def test_each_variant_has_a_row(self) -> None:
-        rows = self.rows('pub enum Kind {', '    /// None of them.', '    Nothing,', '    Some(u64, u8),', '    Named {', '        /// its name', '        name: Name,', '    },', '}')
-        self.assertEqual(rows[1:], [
-            '| `Kind.Nothing` | None of them. |', '| `Kind.Some(u64, u8)` |  |', '| `Kind.Named { name: Name }` | its name. |',
+    def test_a_variant_of_which_something_is_said_has_a_row(self) -> None:
+        rows = self.rows('pub enum Kind {', '    /// None of them.', '    Nothing,', '    Some(u64, u8),', '    Named {', '        /// its name', '        name: Name,', '    },', '    More,', '}')
+        self.assertEqual(rows, [
+            '| [`Kind`](../crates/mcs_low/src/kind.rt) `Some(u64, u8) \\| More` | A kind. |',
+            '| `Kind.Nothing` | None of them. |', '| `Kind.Named { name: Name }` | Its name. |',
         ])
 
     def test_a_view_is_a_sentence(self) -> None:
