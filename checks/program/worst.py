@@ -33,7 +33,7 @@ from mcsim_tools import climbing, ranges, tasks, workers, worst
 from mcsim_tools.climbing import Climb, Point
 from mcsim_tools.ranges import Space
 from mcsim_tools.tasks import Form
-from mcsim_tools.trying import Question
+from mcsim_tools.trying import Responses
 
 RUNS = 500
 WANTED = 0.95
@@ -67,7 +67,7 @@ class Found(NamedTuple):
 
 def searched(checker: str, trial: Trial, batches: climbing.Batches) -> Found:
     """Runs a search until it finds the bound, if there is one, or to its end."""
-    question = Question(checker, trial.thread, trial.horizon)
+    question = Responses(checker, trial.thread, trial.horizon)
     best = runs = 0
 
     def values(batch: list[Point]) -> list[climbing.Value]:

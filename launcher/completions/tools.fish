@@ -102,7 +102,7 @@ complete -c mcsim-waves -s o -l output -r -d 'where the waves go (default: stand
 complete -c mcsim-waves -l save -r -d 'writes to FILE a view of GTKWave of all waves'
 complete -c mcsim-worst -s h -l help -d 'show this help message and exit'
 complete -c mcsim-worst -l version -d 'say with which program it comes'
-complete -c mcsim-worst -l of -x -d 'whose response is to be the worst'
+complete -c mcsim-worst -l of -x -d 'whose response or latency is to be the worst; chain.NAME if a thread has the same name'
 complete -c mcsim-worst -l vary -x -d 'what is left open; may be given several times'
 complete -c mcsim-worst -l ranges -r -d 'what is left open, as a table'
 complete -c mcsim-worst -l phases -d 'leaves open when each source and each thread begins'
