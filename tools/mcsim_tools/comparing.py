@@ -256,6 +256,30 @@ def first_parting(system: System, ours: Side, theirs: Side, tolerance: float, un
     return min((one for one in found if one), default=None)
 
 
+def differing(ours: Sequence[Spell], theirs: Sequence[Spell], begin: float, end: float, least: float) -> list[tuple[float, float]]:
+    """From when to when a core does not run the same thread in both, for longer than `least`."""
+    edges = sorted({begin, end, *(time for spell in (*ours, *theirs) for time in (spell.begin, spell.end) if begin < time < end)})
+    found: list[tuple[float, float]] = []
+    running = [runs_at(spells, edges) for spells in (ours, theirs)]
+    for at, after, our, their in zip(edges, edges[1:], *running):
+        if our == their:
+            continue
+        if found and found[-1][1] == at:
+            found[-1] = found[-1][0], after
+        else:
+            found.append((at, after))
+    return [one for one in found if one[1] - one[0] > least]
+
+
+def runs_at(spells: Sequence[Spell], times: Iterable[float]) -> Iterator[str]:
+    """Who runs from each of these times on, which rise; an empty name if nobody does."""
+    place = 0
+    for time in times:
+        while place < len(spells) and spells[place].end <= time:
+            place += 1
+        yield spells[place].name if place < len(spells) and spells[place].begin <= time else ''
+
+
 # ---- jobs
 
 
