@@ -7,15 +7,15 @@ from dataclasses import dataclass
 
 from . import comparing, style
 from .comparing import Side, Spell
-from .compare import Beside, fit_said, parting_of
+from .compare import POOR, Beside, fit_said, parting_of
 from .drawing import LETTER, Picture, escaped, number
 from .measured import Trace
 from .reading import Post, Stood
 from .scene import Shown
 from .style import BETWEEN, CORE, TRACE
 
-# pixels below which spells that follow each other are not drawn singly
-FINE = 0.5
+# pixels below which spells that follow each other are not drawn singly, and of what differs at least
+FINE, LEAST = 0.5, 1.5
 
 
 class Both(Shown):
@@ -96,7 +96,7 @@ class Traced:
         for begin, end in comparing.differing(ours, theirs, max(found.begin, 0), found.until, found.fit.tolerance):
             if picture.is_seen(begin, end):
                 said = f'core {core} does not run the same thread in both from {begin:.1f} to {end:.1f}'
-                parts.append(picture.bar('differs', begin, end, top - BETWEEN + 2, BETWEEN - 4, said))
+                parts.append(picture.bar('differs', begin, max(end, begin + LEAST / picture.scale.tick), top - BETWEEN + 2, BETWEEN - 4, said))
         return parts
 
     def part(self, picture: Picture) -> None:
@@ -113,6 +113,8 @@ class Traced:
     def heading(self, wide: float) -> str:
         """The line above the lanes that says where both part; the first half of it if it is too long."""
         said, parted = fit_said(self.found, self.trace), parting_of(self.found)[0]
+        if self.found.fit.matched < POOR:
+            parted = f'few runs agree, so --unit or --offset may be wrong; {parted}'
         short = parted if LETTER * len(parted) < wide else parted.partition(': ')[0]
         look = 'small' if self.found.is_same else 'badtext'
         return f'<text class="{look}" x="8" y="50"><title>{escaped(parted)}; {escaped(said)}</title>{escaped(short)}</text>'

@@ -253,6 +253,11 @@ class Pictures(Case):
         svg = self.drawn([(0.0, 1.0, 'A'), (1.0, 2.0, 'B'), (10.0, 15.0, 'A'), (15.0, 23.0, 'B')])
         self.assertEqual((self.bars(svg, 'differs'), self.bars(svg, 'traced c0')), ([], [(0, 1), (10, 15)]))
 
+    def test_a_fit_of_few_runs(self) -> None:
+        # none of four runs begins where one of the schedule does
+        svg = self.drawn([(3.0, 4.5, 'A'), (5.5, 7.0, 'B'), (17.0, 18.5, 'A'), (19.5, 23.0, 'B')])
+        self.assertIn('few runs agree, so --unit or --offset may be wrong', ''.join(svg.itertext()))
+
     def test_a_page_has_no_trace(self) -> None:
         trace = self.folder / 'trace.csv'
         trace.write_text(trace_text(self.LONGER))
