@@ -173,7 +173,8 @@ class Fitting:
         return found
 
     def begun(self, unit: Optional[float], offset: Optional[float]) -> tuple[float, float]:
-        """The unit and the offset under which the first runs of a few threads agree best."""
+        """The unit and the offset under which the first runs of a few threads agree best. If all is
+        periodic, several offsets agree alike, but for noise: the one nearest to the trace's first row."""
         names = sorted(self.names, key=lambda name: -len(self.theirs[name]))[:THREADS]
         first = Fitting({name: self.ours[name] for name in names}, {name: self.theirs[name][:TRIED] for name in names})
         tried = [
@@ -181,7 +182,7 @@ class Fitting:
             for one in (units_of(first.ours, first.theirs) if unit is None else [unit])
             for name in names for tick in self.ours[name][:TRIED]
         ]
-        return max(tried, key=lambda one: (first.score(*one), -abs(one[1])))
+        return max(tried, key=lambda one: (round(first.score(*one), 1), -abs(one[1])))
 
     def score(self, unit: float, offset: float) -> float:
         pairs = self.pairs(unit, offset, LEAST_TOLERANCE)
