@@ -65,7 +65,7 @@ CHECKS = (
     Check('program', 'readers', 5),
     Check('program', 'ways', 10),
     Check('program', 'analyses', 20),
-    Check('program', 'worst', 30),
+    Check('program', 'worst', 45),
     Check('program', 'compare', 30),
     Check('program', 'engines', 10),
     Check('program', 'refused_runs', 10, needs='`cc`'),

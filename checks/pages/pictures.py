@@ -19,8 +19,9 @@ sys.path[0] = str(pathlib.Path(__file__).resolve().parents[2])
 from checks import common
 from checks.common import TOP, Count
 
-VIEWER = TOP / 'docs' / 'VIEWER.md'
-PAGES = [TOP / 'README.md', VIEWER, TOP / 'docs' / 'MODELLING.md', *sorted((TOP / 'examples').glob('*.md'))]
+DOCS = TOP / 'docs'
+VIEWER = DOCS / 'VIEWER.md'
+PAGES = [TOP / 'README.md', VIEWER, DOCS / 'MODELLING.md', DOCS / 'WORST.md', *sorted((TOP / 'examples').glob('*.md'))]
 BLOCK = re.compile(r'^```sh\n(.*?)^```', re.M | re.S)
 NOT_RUN = ('gtkwave ', 'tools/live ')
 COMMAND = re.compile(r'`(tools/view [^`\n]* -o (examples/pictures/[^`\s]+\.svg))`')

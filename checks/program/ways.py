@@ -2,7 +2,8 @@
 """Compares what the tools read off rows of chains with a second reading, on random systems.
 
 Behind the ways and latencies of a page is tools/mcsim_tools/chains.py, and the second reading is checks/program/chain_reading.py. Both say which
-interrupts of a chain got a first answer, and when, which answers came too late, and which interrupt has none. The way of each answer is one: it begins
+interrupts of a chain got a first answer, and when, which answers came too late, and which interrupt has none. The latency that tools/worst looks at is
+the greatest one, or the age of an interrupt without an answer if that is more. The way of each answer is one: it begins
 with the interrupt, each piece goes on where the one before ended, and it ends with the thread of the chain. What was seen nowhere is a failure: a test
 that sees nothing of it tells nothing."""
 from __future__ import annotations
@@ -27,11 +28,15 @@ sys.path.insert(1, str(TOP / 'tools'))
 from mcsim_tools import chains as chain_ways
 from mcsim_tools import system as systems
 from mcsim_tools.chains import Answer
+from mcsim_tools.latency import Latencies
 from mcsim_tools.reading import Listener, Reading
-from mcsim_tools.system import System
+from mcsim_tools.settings import Tables
+from mcsim_tools.system import Chain, System
+from mcsim_tools.trying import Seen
 
 HORIZONS = (60, 200, 400, 400)
-SEEN = ('answers', 'slow', 'unanswered', 'over two cores', 'many pieces', 'answered together', 'badges', 'two chains of one source', 'in a server')
+SEEN = ('answers', 'slow', 'unanswered', 'over two cores', 'many pieces', 'answered together', 'badges', 'two chains of one source', 'in a server',
+        'the age is the latency')
 
 
 class Heard(Listener):
@@ -77,6 +82,7 @@ class Trial:
         for chain in tables.get('chain', []):
             second = chain_reading.read_chain(tables, chain, rows)
             wrong += self.differing(reading, [answer for answer in heard.answers if answer.chain.name == chain['name']], second, horizon)
+            wrong += self.worst(tables, system.chains[chain['name']], second, horizon)
         self.tell(system, heard.answers)
         if wrong:
             file = pathlib.Path(tempfile.gettempdir(), f'ways-{name}.toml')
@@ -105,6 +111,16 @@ class Trial:
         for what, one, two in pairs:
             if one != two:
                 yield f'{what}: {one}, and not {two}'
+
+    def worst(self, tables: Tables, chain: Chain, second: chain_reading.ChainReading, horizon: int) -> Iterator[str]:
+        """What tools/worst takes for the latency of a chain, if it is another one."""
+        greatest = max((answer.latency for answer in second.answers), default=None)
+        age = horizon - min(second.unanswered, default=horizon)
+        expected = Seen(age, is_open=True) if age > (greatest or 0) else Seen(greatest)
+        found = Latencies(str(self.program), chain, horizon).seen(tables)
+        self.seen['the age is the latency'] += expected.is_open
+        if found != expected:
+            yield f'{chain.name} latency: {found}, and not {expected}'
 
     def tell(self, system: System, answers: list[Answer]) -> None:
         """Counts what was seen."""

@@ -10,7 +10,7 @@ _mcsim_tools() {
         mcsim-sweep) words='--help --version --set --least --greatest --of --horizon --jobs --emit --run --again --collect --program --checker --output' ;;
         mcsim-tasks) words='--help --version --priorities --clocks --random --utilisation --seed --periods --list --analyse --horizon --program --output' ;;
         mcsim-trace) words='--help --version --horizon --program --rows --tick-ns --budgets --output' ;;
-        mcsim-view) words='--help --version --horizon --program --rows --from --to --tick-us --budgets --threads --cores --lanes --most --width --theme --output' ;;
+        mcsim-view) words='--help --version --horizon --program --rows --from --to --tick-us --budgets --threads --cores --lanes --most --width --theme --trace --time --core --thread --event --events --name --idle --unit --offset --tolerance --output' ;;
         mcsim-waves) words='--help --version --horizon --program --rows --tick-ns --output --save' ;;
         mcsim-worst) words='--help --version --of --vary --ranges --phases --times --horizon --runs --all --seed --jobs --program --checker --output' ;;
     esac

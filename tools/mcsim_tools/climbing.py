@@ -23,11 +23,11 @@ BATCH = 8
 # batches in a row without a new point, after which all points are taken to be known
 STALE = 200
 # parts of all tries that are starting points at most, random points, and at the end of the search
-STARTS, DRAWN, LAST = 8, 10, 3
+STARTS, DRAWN, LAST = 8, 3, 3
 # points of a batch that are around the best one at the end
 AROUND = 6
 # the number of best points from which steps are made
-ELITE = 12
+ELITE = 6
 # shares of steps that mix two points, and that change one coordinate; the others change 2 to FEW
 MIXED, SINGLE, FEW = 0.2, 0.5, 3
 # half, for a choice of two, and the share of changes that take an end

@@ -58,6 +58,8 @@ class Beside:
     fit: Fit
     ours: Side
     theirs: Side
+    # from when to when both have something
+    begin: float
     until: float
     parting: Optional[Parting]
     compared: Sequence[Compared]
@@ -81,21 +83,24 @@ def beside(known: System, ours: Side, trace: Trace, given: tuple[Optional[float]
     names = [name for name in known.threads if any(name in jobs for jobs in both)]
     compared = [comparing.compared(name, both[0].get(name, []), both[1].get(name, []), fit.tolerance, share) for name in names]
     parting = comparing.first_parting(known, ours, theirs, fit.tolerance, until - fit.tolerance)
-    return Beside(known, fit, ours, theirs, until, parting, compared, has_wakes)
+    return Beside(known, fit, ours, theirs, begin, until, parting, compared, has_wakes)
 
 
 # ---- what is told
 
 
 def lines_of(found: Beside, trace: Trace) -> list[str]:
-    fit = found.fit
-    zero = trace.first + decimal.Decimal(fit.offset)
-    near = f'within {comparing.LEAST_TOLERANCE:g} tick of the schedule\'s'
-    lines = [f'a tick is {fit.unit:.6g} units of the trace, and tick 0 is at {zero:.1f}; {fit.matched:.1%} of its runs begin {near}']
-    if fit.matched < POOR:
+    lines = [fit_said(found, trace)]
+    if found.fit.matched < POOR:
         lines.append('few runs agree, so this fit may be wrong: --unit and --offset give another one')
     lines += ['', *table_of(found), '']
     return [*lines, *parting_of(found)]
+
+
+def fit_said(found: Beside, trace: Trace) -> str:
+    """How the trace's times become ticks."""
+    zero, near = trace.first + decimal.Decimal(found.fit.offset), f'within {comparing.LEAST_TOLERANCE:g} tick of the schedule\'s'
+    return f'a tick is {found.fit.unit:.6g} units of the trace, and tick 0 is at {zero:.1f}; {found.fit.matched:.1%} of its runs begin {near}'
 
 
 def number(value: Optional[float]) -> str:
@@ -198,11 +203,8 @@ def positive(text: str) -> float:
     return found
 
 
-def asked() -> argparse.Namespace:
-    words = Options(__doc__)
-    words.reads('system', metavar='SYSTEM', help='the file of the system')
-    words.reads('trace', metavar='TRACE.csv', help='the measured trace, - for standard input')
-    words.add_argument('-n', '--horizon', type=source.moment, default=source.HORIZON, metavar='N', help='the last time of the schedule (default: %(default)s)')
+def add_trace(words: Options) -> None:
+    """The options that say how a trace is read and fitted."""
     for column in Columns._fields:
         words.add_argument(f'--{column}', default=column, metavar='COLUMN', help=f'the column of the {column} (default: {column})')
     words.add_argument('--events', action='append', default=[], metavar='KIND=WORD', help=f'the word of the trace for an event: {", ".join(measured.KINDS)}')
@@ -211,6 +213,29 @@ def asked() -> argparse.Namespace:
     words.add_argument('--unit', type=positive, metavar='U', help='how many units of the trace a tick is (default: fitted)')
     words.add_argument('--offset', type=exact, metavar='T', help='the time of tick 0 in the trace (default: fitted)')
     words.add_argument('--tolerance', type=positive, metavar='TICKS', help='times as far apart are the same (default: fitted, and 1 at least)')
+
+
+def found_beside(words: argparse.Namespace, known: System, ours: Side, share: float) -> tuple[Beside, Trace]:
+    """The trace of the options, fitted to a schedule."""
+    if not ours.spells:
+        raise Fault(f'{words.system}: no thread runs up to the horizon')
+    columns = Columns(*(getattr(words, column) for column in Columns._fields))
+    trace = measured.Reader(words.trace, known, measured.words_of(columns, words.events, words.name, words.idle, known)).read()
+    offset = None if words.offset is None else float(words.offset - trace.first)
+    if not ours.begins().keys() & comparing.side_of(trace).begins().keys():
+        raise Fault(f'{words.trace}: no thread runs for some time both in it and in the schedule')
+    found = beside(known, ours, trace, (words.unit, offset, words.tolerance), share)
+    for what, many in trace.passed_over.items():
+        frame.say(f'{words.trace}: {what or "an empty one"} is not of the system, {many} rows')
+    return found, trace
+
+
+def asked() -> argparse.Namespace:
+    words = Options(__doc__)
+    words.reads('system', metavar='SYSTEM', help='the file of the system')
+    words.reads('trace', metavar='TRACE.csv', help='the measured trace, - for standard input')
+    words.add_argument('-n', '--horizon', type=source.moment, default=source.HORIZON, metavar='N', help='the last time of the schedule (default: %(default)s)')
+    add_trace(words)
     words.add_argument('--percent', type=positive, default=PERCENT, metavar='P', help='run times whose means are as close are the same (default: %(default)s)')
     words.add_argument('--program', default=source.default_program(), metavar='PATH', help='the program to run (default: %(default)s)')
     words.writes('--take', metavar='FILE', help='where the times that the trace saw go')
@@ -223,17 +248,7 @@ def main() -> int:
     with source.run(words.program, words.system, text, words.horizon) as told:
         listener = comparing.Ran()
         read(told, listener)
-    known, ours = told.system, listener.side
-    if not ours.spells:
-        raise Fault(f'{words.system}: no thread runs up to {words.horizon}')
-    columns = Columns(*(getattr(words, column) for column in Columns._fields))
-    trace = measured.Reader(words.trace, known, measured.words_of(columns, words.events, words.name, words.idle, known)).read()
-    offset = None if words.offset is None else float(words.offset - trace.first)
-    if not ours.begins().keys() & comparing.side_of(trace).begins().keys():
-        raise Fault(f'{words.trace}: no thread runs for some time both in it and in the schedule')
-    found = beside(known, ours, trace, (words.unit, offset, words.tolerance), words.percent / 100)
-    for what, many in trace.passed_over.items():
-        frame.say(f'{words.trace}: {what or "an empty one"} is not of the system, {many} rows')
+    found, trace = found_beside(words, told.system, listener.side, words.percent / 100)
     print('\n'.join(lines_of(found, trace)))
     if words.take:
         output.write(words.take, taken(found, trace, tables.read(text)))

@@ -173,7 +173,8 @@ class Fitting:
         return found
 
     def begun(self, unit: Optional[float], offset: Optional[float]) -> tuple[float, float]:
-        """The unit and the offset under which the first runs of a few threads agree best."""
+        """The unit and the offset under which the first runs of a few threads agree best. If all is
+        periodic, several offsets agree alike, but for noise: the one nearest to the trace's first row."""
         names = sorted(self.names, key=lambda name: -len(self.theirs[name]))[:THREADS]
         first = Fitting({name: self.ours[name] for name in names}, {name: self.theirs[name][:TRIED] for name in names})
         tried = [
@@ -181,7 +182,7 @@ class Fitting:
             for one in (units_of(first.ours, first.theirs) if unit is None else [unit])
             for name in names for tick in self.ours[name][:TRIED]
         ]
-        return max(tried, key=lambda one: (first.score(*one), -abs(one[1])))
+        return max(tried, key=lambda one: (round(first.score(*one), 1), -abs(one[1])))
 
     def score(self, unit: float, offset: float) -> float:
         pairs = self.pairs(unit, offset, LEAST_TOLERANCE)
@@ -254,6 +255,30 @@ def cut(side: Side, begin: float, end: float) -> Side:
 def first_parting(system: System, ours: Side, theirs: Side, tolerance: float, until: float) -> Optional[Parting]:
     found = [parting(core, ours.spells.get(core, []), theirs.spells.get(core, []), tolerance, until) for core in range(system.cores)]
     return min((one for one in found if one), default=None)
+
+
+def differing(ours: Sequence[Spell], theirs: Sequence[Spell], begin: float, end: float, least: float) -> list[tuple[float, float]]:
+    """From when to when a core does not run the same thread in both, for longer than `least`."""
+    edges = sorted({begin, end, *(time for spell in (*ours, *theirs) for time in (spell.begin, spell.end) if begin < time < end)})
+    found: list[tuple[float, float]] = []
+    running = [runs_at(spells, edges) for spells in (ours, theirs)]
+    for at, after, our, their in zip(edges, edges[1:], *running):
+        if our == their:
+            continue
+        if found and found[-1][1] == at:
+            found[-1] = found[-1][0], after
+        else:
+            found.append((at, after))
+    return [one for one in found if one[1] - one[0] > least]
+
+
+def runs_at(spells: Sequence[Spell], times: Iterable[float]) -> Iterator[str]:
+    """Who runs from each of these times on, which rise; an empty name if nobody does."""
+    place = 0
+    for time in times:
+        while place < len(spells) and spells[place].end <= time:
+            place += 1
+        yield spells[place].name if place < len(spells) and spells[place].begin <= time else ''
 
 
 # ---- jobs

@@ -8,12 +8,12 @@ from dataclasses import dataclass
 from typing import Optional
 
 from . import legend, style
-from .lanes import TOP, Lanes
+from .lanes import Lanes
 from .locks import locks_of
 from .reading import BLOCKED, HELD, LOST, MERGED, READY, RUNNING, STANDINGS, THROTTLED, WOKE, Post, Round, Stood
 from .scale import TICKS, Scale, Unit
 from .scene import LOSSES, MISSED, ROUNDS, Columns, Held, Scene, Stay, others_on
-from .style import BAR, CORE, HEAD, PLOT, Theme
+from .style import BAR, CORE, HEAD, PLOT, TRACE, Theme
 from .system import System, Thread
 from .tally import NEVER, OVERDUE, Finding
 
@@ -95,7 +95,7 @@ class Picture:
         said = f'prio {thread.priority}, {unit.short(thread.context.budget)}/{unit.short(thread.context.period)}{name}'
         return said + (f', due {unit.short(thread.deadline)}{name}' if thread.deadline else '')
 
-    def bar(self, kind: str, begin: int, end: int, top: float, height: float, said: str = '', more: str = '') -> str:
+    def bar(self, kind: str, begin: float, end: float, top: float, height: float, said: str = '', more: str = '') -> str:
         """A rectangle from one moment to another, within the window."""
         self.drawn[kind.split()[0]] += 1
         begin, end = max(begin, self.begin), min(end, self.end)
@@ -103,7 +103,7 @@ class Picture:
         wide = max((end - begin) * self.scale.tick, .05)
         return f'<rect class="{kind}" x="{number(self.scale.x(begin))}" y="{number(top)}" width="{number(wide)}" height="{number(height)}"{more}>{title}'
 
-    def is_seen(self, begin: int, end: int) -> bool:
+    def is_seen(self, begin: float, end: float) -> bool:
         return begin < self.end and end > self.begin and begin < end
 
     def mark(self, thread: str, sign: str, look: str, moment: int, said: str) -> None:
@@ -233,6 +233,9 @@ class Picture:
             self.order_lines.append(f'<use class="orderline" href="#ol{core}" x="{number(self.scale.x(moment))}" y="{self.lanes.core_at[core]}"/>')
         self.order_forms = ''.join(f'<path id="ol{core}" d="M0 0V{height}"/>' for core, height in heights.items())
 
+    # more lines above the lanes, and from when to when there is a trace
+    more = ''
+    traced = (0.0, 0.0)
     order_forms = ''
     locks: Collection[str] = ()
 
@@ -342,7 +345,10 @@ class Picture:
 
     def background(self) -> str:
         parts = [self.bar('core', self.begin, self.end, top, CORE) for top in self.lanes.core_at.values()]
+        # a strip is as long as its trace
+        parts += [self.bar('core', *self.traced, top, CORE) for top in self.lanes.trace_core_at.values()]
         parts += [self.bar('core', self.begin, self.end, top, BAR + 5) for top in self.lanes.server_at.values()]
+        parts += [self.bar('lane', *self.traced, top, TRACE) for top in self.lanes.trace_at.values()]
         for thread in self.lanes.shown:
             top, name = self.lanes.base[thread.name] - BAR - HEAD, f' data-name="{escaped(thread.name)}"'
             parts.append(self.bar('lane', self.begin, self.end, top, HEAD + BAR + 8, more=name))
@@ -352,6 +358,8 @@ class Picture:
 
     def lane_names(self) -> str:
         parts = [f'<text class="b" x="8" y="{top + 14}">core {core}</text>' for core, top in self.lanes.core_at.items()]
+        parts += [f'<text x="17" y="{top + 14}">in the trace</text>' for top in self.lanes.trace_core_at.values()]
+        parts += [f'<text class="small" x="{self.left - 8}" y="{top + 9}" text-anchor="end">trace</text>' for top in self.lanes.trace_at.values()]
         parts += [f'<text x="17" y="{top + 12}">server {escaped(server)}</text>' for server, top in self.lanes.server_at.items()]
         for thread in self.lanes.shown:
             base, colour = self.lanes.base[thread.name], self.lanes.colour[thread.name]
@@ -369,8 +377,8 @@ class Picture:
         parts = []
         for moment in self.scale.moments():
             x, text = number(self.scale.x(moment)), self.text(moment)
-            parts.append(f'<path class="grid" d="M{x} {TOP - 6}V{self.lanes.bottom}"/>')
-            parts += [f'<text class="small" x="{x}" y="{y}" text-anchor="middle">{text}</text>' for y in (TOP - 10, self.lanes.bottom + 12)]
+            parts.append(f'<path class="grid" d="M{x} {self.lanes.top - 6}V{self.lanes.bottom}"/>')
+            parts += [f'<text class="small" x="{x}" y="{y}" text-anchor="middle">{text}</text>' for y in (self.lanes.top - 10, self.lanes.bottom + 12)]
         return ''.join(parts)
 
     def is_crowded(self, marks: list[Mark]) -> bool:
@@ -402,14 +410,14 @@ class Picture:
         back, signs = self.background(), self.signs()
         explained, high = legend.legend(self.drawn, self.column_width, self.lanes.bottom + 30, self.left + self.scale.wide + RIGHT)
         wide, tall = number(self.left + self.scale.wide + RIGHT), self.lanes.bottom + 30 + high
-        clip = f'<rect x="{self.left - 6}" y="{TOP - 8}" width="{number(self.scale.wide + 12)}" height="{self.lanes.bottom - TOP + 12}"/>'
+        clip = f'<rect x="{self.left - 6}" y="{self.lanes.top - 8}" width="{number(self.scale.wide + 12)}" height="{self.lanes.bottom - self.lanes.top + 12}"/>'
         return '\n'.join([
             f'<svg xmlns="http://www.w3.org/2000/svg" width="{wide}" height="{tall}" viewBox="0 0 {wide} {tall}" role="img">',
             f'<title>{escaped(self.heading)}: {escaped(self.under)}</title>',
-            f'<style>{style.style(self.frame.theme)}</style>',
+            f'<style>{style.style(self.frame.theme, bool(self.lanes.trace_core_at))}</style>',
             f'<defs>{style.SIGNS}{style.patterns(self.lanes.colour.values())}{self.order_forms}<clipPath id="plot">{clip}</clipPath></defs>',
             f'<rect class="bg" width="100%" height="100%"/><text class="h" x="8" y="20">{escaped(self.heading)}</text>',
-            f'<text class="small" x="8" y="35">{escaped(self.under)}</text>',
+            f'<text class="small" x="8" y="35">{escaped(self.under)}</text>{self.more}',
             f'<g clip-path="url(#plot)"><g>{back}</g></g><g id="axis">{self.axis()}</g>',
             f'<g clip-path="url(#plot)"><g>{"".join(self.bars)}</g><g id="joins">{"".join(joins)}</g>',
             f'<g id="marks">{"".join(self.order_lines)}{signs}</g><g id="labels">{"".join(self.labels)}</g></g>',

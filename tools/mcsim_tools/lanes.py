@@ -23,20 +23,29 @@ class Lanes:
     plot_at: dict[str, int] = field(default_factory=dict)
     server_at: dict[str, int] = field(default_factory=dict)
     colour: dict[str, int] = field(default_factory=dict)
+    # of a measured trace: the strip of each core, and that of each thread
+    trace_core_at: dict[int, int] = field(default_factory=dict)
+    trace_at: dict[str, int] = field(default_factory=dict)
+    top: int = TOP
     bottom: int = TOP
 
     def on(self, core: int) -> list[Thread]:
         return [thread for thread in self.shown if thread.core == core]
 
 
-def lanes_of(system: System, threads: Collection[str], plotted: Collection[str], servers: Mapping[str, int]) -> Lanes:
-    """Returns the places of the lanes of threads, and of servers on these cores."""
-    lanes, at = Lanes(), TOP
+def lanes_of(system: System, threads: Collection[str], plotted: Collection[str], servers: Mapping[str, int], has_trace: bool = False) -> Lanes:
+    """Returns the places of the lanes of threads, and of servers on these cores; each core and each
+    thread has a strip for a trace, if there is one."""
+    lanes = Lanes(top=TOP + style.LINE * has_trace)
+    at = lanes.top
     for core, own in system.by_core().items():
         here = [thread for thread in own if thread.name in threads]
         if not here:
             continue
         lanes.core_at[core] = at
+        if has_trace:
+            at += style.CORE + style.BETWEEN
+            lanes.trace_core_at[core] = at
         at += style.CORE + 5
         for server, home in servers.items():
             if home == core:
@@ -46,6 +55,9 @@ def lanes_of(system: System, threads: Collection[str], plotted: Collection[str],
             lanes.colour[thread.name] = len(lanes.colour) % style.LOOKS_OF_THREADS
             lanes.base[thread.name] = at + style.HEAD + style.BAR
             at += style.LANE
+            if has_trace:
+                lanes.trace_at[thread.name] = at
+                at += style.TRACE + 7
             if thread.name in plotted:
                 lanes.plot_at[thread.name] = at + 1
                 at += style.PLOT + 7

@@ -79,6 +79,9 @@ def items(drawn: Mapping[str, int], column_width: Optional[int]) -> list[Item]:
         (drawn.get('order'), Item('reconfiguration (order) by SchedControl', sign('order', 'order', BAR - 1))),
         (drawn.get('inside'), Item('a server: who is inside, and below who waits', both(box('on c0', BAR, up=2), box('waits c1', 5, up=-8)))),
         (drawn.get('plot'), Item('budget: usable now, replenished later' + ('; pale in columns: not all the time' if drawn.get('levels') else ''), both(box('use c0', 7, up=-3), box('come1', 7, up=4)))),
+        (drawn.get('traced'), Item('below a lane: runs in the trace', box('traced c0', 10))),
+        (drawn.get('differs'), Item('the core does not run the same thread in the trace', box('differs', 3))),
+        (drawn.get('part'), Item('where both part', lambda x, y: f'<path class="part" d="M{x + 9} {y - 11}V{y + 3}"/>')),
         (not is_single, Item(f'each column is {column_width:,} ticks, and shows shares of them' if column_width else '', lambda x, y: '')),
     ]
     return [item for is_there, item in known if is_there]

@@ -382,9 +382,12 @@ class Space:
         return tuple(itertools.chain.from_iterable(parts))
 
 
-def known_thread(name: str, tables: Tables) -> None:
-    names = [row['name'] for row in tables.get('thread', [])]
-    if name not in names and name in [row['name'] for row in tables.get('chain', [])]:
-        raise Fault(f'--of {name}: a chain: mcscheck does not report latencies, so only threads are searched')
-    if name not in names:
-        raise Fault(f'--of {name}: there is no thread {name!r}: {named.known(name, names)}')
+def known_chain(name: str, tables: Tables) -> Optional[str]:
+    """The chain that a name means, None if it means a thread; `chain.NAME` is always a chain."""
+    threads, chains = ([row['name'] for row in tables.get(section, [])] for section in ('thread', 'chain'))
+    wanted = name.removeprefix('chain.')
+    if name not in threads and wanted in chains:
+        return wanted
+    if name not in threads:
+        raise Fault(f'--of {name}: there is no thread and no chain {name!r}: {named.known(name, [*threads, *chains])}')
+    return None

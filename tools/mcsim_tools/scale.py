@@ -86,7 +86,7 @@ class Scale:
     def tick(self) -> float:
         return self.wide / max(1, self.end - self.begin)
 
-    def x(self, moment: int) -> float:
+    def x(self, moment: float) -> float:
         return self.left + (moment - self.begin) * self.tick
 
     def moments(self) -> range:

@@ -10,6 +10,8 @@ from collections.abc import Iterable
 from typing import Optional
 
 BAR, HEAD, LANE, CORE, PLOT, SERVER = 14, 10, 33, 20, 22, 24
+# of a measured trace: the strip of a thread, what lies between both strips of a core, and a line above
+TRACE, BETWEEN, LINE = 10, 7, 15
 # of each thread of a core in turn: the colour in the light, in the dark, and of a name on it
 COLOURS = (
     ('#0072B2', '#1f77bd', '#fff'), ('#E69F00', '#E69F00', '#000'), ('#009E73', '#0fa57c', '#000'), ('#CC79A7', '#CC79A7', '#000'),
@@ -38,6 +40,8 @@ text{fill:#e6edf3}.small{fill:#9aa4af}.bg{fill:#12161b}.lane{fill:#1a2027}.core{
 .ink{fill:#e6edf3;stroke:#e6edf3}.resp,.queued{fill:#b1bac4}.soft,.order{fill:#12161b;stroke:#e6edf3}.join{stroke:#b1bac4}.orderline{stroke:#e6edf3}
 .hl{stroke:#9aa4af}.other{fill:#4b5663}.ql{stroke:#12161b}text.nq{fill:#fff;stroke:#12161b}.late{fill:@RED@}.bad{fill:@RED@;stroke:@RED@}.badtext{fill:@RED@}
 """
+# of a measured trace, in the light and in the dark
+TRACED = '.differs{fill:@RED@}.part{stroke:@RED@;stroke-width:1.4;stroke-dasharray:4 3}'
 # after the colours of threads: what is hatched or grey whoever stands so
 AFTER = ''.join(f'.c{number}{{fill:url(#q{number})}}' for number in range(len(COLOURS), LOOKS_OF_THREADS)) + '.throttled{fill:url(#hatch)}.blocked{fill:#8c959f}'
 # yellow is faint on white
@@ -89,10 +93,11 @@ def colours(place: int) -> str:
     return ''.join(f'.c{number}{{fill:{colour[place]}}}text.n{number}{{fill:{colour[2]}}}' for number, colour in enumerate(COLOURS))
 
 
-def style(theme: Theme) -> str:
+def style(theme: Theme, has_trace: bool = False) -> str:
     """The style sheet of a picture."""
-    light = LIGHT.replace('@RED@', RED) + colours(0) + YELLOW_EDGE
-    dark = DARK.replace('@RED@', RED_IN_DARK) + colours(1)
+    traced = TRACED if has_trace else ''
+    light = (LIGHT + traced).replace('@RED@', RED) + colours(0) + YELLOW_EDGE
+    dark = (DARK + traced).replace('@RED@', RED_IN_DARK) + colours(1)
     if theme is Theme.DARK:
         return light + dark + AFTER
     return light + (f'@media (prefers-color-scheme:dark){{{dark}}}' if theme is Theme.AUTO else '') + AFTER

@@ -1,12 +1,13 @@
-"""Runs of a search: the maximum response of a thread in each, by mcscheck, on several processors."""
+"""Runs of a search, on several processors: the maximum response of a thread in each, by mcscheck."""
 from __future__ import annotations
 
+import abc
 import contextlib
 import json
 import subprocess
 from collections.abc import Callable, Iterator, Sequence
 from dataclasses import dataclass
-from typing import Any, Optional
+from typing import Any, NamedTuple, Optional
 
 from . import identity, verdict, writing
 from .climbing import Point, Value
@@ -49,35 +50,86 @@ def program_of(checker: str) -> str:
     return next((str(place) for place in places if place.is_file() and identity.of_file(place) == digest), checker)
 
 
+class Case(NamedTuple):
+    """What has the worst value, in words, from when to when it was if it ended, and the options with
+    which mcscheck shows why, if it does."""
+
+    said: str
+    span: Optional[tuple[int, int]] = None
+    asked: Optional[str] = ''
+
+
+def lines_of(program: str, text: bytes, asked: Sequence[str]) -> tuple[int, list[str], str]:
+    """The exit code of a program, if that is an answer, its lines and what it says of a refusal."""
+    try:
+        ended = subprocess.run([program, *asked], input=text, capture_output=True, check=False)
+    except OSError as error:
+        raise why(program, error) from None
+    said = ended.stderr.decode(errors='replace')
+    if ended.returncode not in (NOTHING, REFUSED, FOUND):
+        raise verdict.failure(program, ended.returncode, said)
+    fault = printable(first_line(said).removeprefix('mcscheck: ').removeprefix('mcsim: '), verdict.LONGEST_FAULT)
+    return ended.returncode, ended.stdout.decode(errors='replace').splitlines(), fault
+
+
+class Question(abc.ABC):
+    """What is to be the worst, up to a horizon."""
+
+    # how the value is called
+    what: str
+    name: str
+    horizon: int
+
+    @property
+    @abc.abstractmethod
+    def key(self) -> str:
+        """What a journal calls it."""
+
+    @abc.abstractmethod
+    def seen(self, tables: Tables) -> Seen:
+        """Runs a system."""
+
+    @abc.abstractmethod
+    def case(self, tables: Tables, seen: Seen) -> Case:
+        """What has the value that was seen."""
+
+    @abc.abstractmethod
+    def nothing(self) -> str:
+        """What no run had if none has a value."""
+
+    def notes(self) -> list[str]:
+        """What a reader has to know of the value."""
+        return []
+
+
 @dataclass(frozen=True)
-class Question:
-    """The maximum response of a thread up to a horizon.
+class Responses(Question):
+    """The maximum response of a thread.
 
     The system is asked with one deadline, that of the thread, which is `least`: so mcscheck writes
     little, and a job that has not ended is told once it has this age."""
 
+    what = 'response'
     checker: str
-    thread: str
+    name: str
     horizon: int
     least: int = 1
 
+    @property
+    def key(self) -> str:
+        return self.name
+
+    def nothing(self) -> str:
+        return f'no job of it was activated in any run up to {self.horizon}'
+
     def text(self, tables: Tables) -> bytes:
         rows = [{key: value for key, value in row.items() if key != 'deadline'} for row in tables['thread']]
-        rows = [{**row, 'deadline': max(1, self.least)} if row['name'] == self.thread else row for row in rows]
+        rows = [{**row, 'deadline': max(1, self.least)} if row['name'] == self.name else row for row in rows]
         kept = {key: value for key, value in tables.items() if key != 'chain'}
         return writing.system_text({**kept, 'thread': rows}).encode()
 
     def run(self, text: bytes, asked: Sequence[str]) -> tuple[int, list[str], str]:
-        """The exit code of mcscheck, which is an answer, its lines and what it says of a refusal."""
-        try:
-            ended = subprocess.run([self.checker, '--horizon', str(self.horizon), *asked], input=text, capture_output=True, check=False)
-        except OSError as error:
-            raise why(self.checker, error) from None
-        said = ended.stderr.decode(errors='replace')
-        if ended.returncode not in (NOTHING, REFUSED, FOUND):
-            raise verdict.failure(self.checker, ended.returncode, said)
-        fault = printable(first_line(said).removeprefix('mcscheck: '), verdict.LONGEST_FAULT)
-        return ended.returncode, ended.stdout.decode(errors='replace').splitlines(), fault
+        return lines_of(self.checker, text, ['--horizon', str(self.horizon), *asked])
 
     def seen(self, tables: Tables) -> Seen:
         allowed = [f'--allow-lost={row["name"]}' for row in tables.get('note', [])]
@@ -86,7 +138,7 @@ class Question:
             return Seen(fault=fault or 'it is refused')
         row = self.row_of(lines, 'thread')
         if row is None:
-            raise Fault(f'{self.checker} has no line of {self.thread}')
+            raise Fault(f'{self.checker} has no line of {self.name}')
         ended: Value = row.get('greatest')
         overdue = self.row_of(lines, 'overdue')
         age = None if overdue is None else self.horizon - int(overdue['activated'])
@@ -96,17 +148,21 @@ class Question:
 
     def row_of(self, lines: Sequence[str], kind: str) -> Optional[dict[str, Any]]:
         """The line of a kind that is of the thread."""
-        wanted = f'"kind":"{kind}","thread":"{self.thread}"'
+        wanted = f'"kind":"{kind}","thread":"{self.name}"'
         found = next((line for line in reversed(lines) if wanted in line), None)
         return json.loads(found) if found else None
 
-    def job(self, text: bytes, response: int) -> Optional[tuple[int, int, int]]:
-        """The first job of the thread with this response: its number, its activation, its end."""
-        _, lines, _ = self.run(text, ['--show', 'jobs', '--format', 'csv'])
+    def case(self, tables: Tables, seen: Seen) -> Case:
+        """The first job of the thread with this response, as mcscheck confirms it."""
+        if seen.is_open:
+            return Case('the job had not ended at the horizon')
+        _, lines, _ = self.run(writing.system_text(tables).encode(), ['--show', 'jobs', '--format', 'csv'])
         for cells in (line.split(',') for line in lines[1:]):
-            if cells[3] == self.thread and cells[7] == str(response):
-                return int(cells[4]), int(cells[5]), int(cells[0])
-        return None
+            if cells[3] == self.name and cells[7] == str(seen.value):
+                number, activated, end = cells[4], int(cells[5]), int(cells[0])
+                said = f'job {number}, activated {activated}, ended {end}'
+                return Case(said, (activated, end), f' --why {self.name} {number}')
+        raise Fault(f'{self.checker} has no job of {self.name} with the response {seen.value}, which it told before')
 
 
 class Seeking(Progress):

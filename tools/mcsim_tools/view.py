@@ -16,8 +16,9 @@ from collections.abc import Callable, Iterable, Iterator
 from dataclasses import dataclass
 from typing import NamedTuple, Optional
 
-from . import lanes, options, output, packing, rendering, source
+from . import compare, lanes, options, output, packing, rendering, source
 from .changes import Verdict, verdict_of
+from .comparing import Ran
 from .drawing import Frame, Picture
 from .faults import Fault
 from .packing import Packed
@@ -29,6 +30,7 @@ from .scene import Shown
 from .source import Told, Words, moment
 from .style import Theme
 from .tally import Tally
+from .traced import Both, Traced
 
 # takes marks along the lines that a reading reads
 Marker = Callable[[Iterable[str], Reading, Packed], Iterator[str]]
@@ -98,19 +100,25 @@ def draw(told: Told, words: argparse.Namespace, window: Window, is_page: bool) -
 def draw_picture(told: Told, words: argparse.Namespace, window: Window) -> str:
     system, plotted = told.system, lanes.choose_budgets(told.system, words.budgets)
     asked = lanes.asked(system, words.threads, words.cores)
-    shown = Shown(system, frozenset(asked), window.begin, window.end, words.most or MOST, plotted)
+    has_trace = getattr(words, 'trace', None) is not None
+    shown = (Both if has_trace else Shown)(system, frozenset(asked), window.begin, window.end, words.most or MOST, plotted)
+    if isinstance(shown, Both):
+        shown.ran = Ran()
     reading = read(told, shown)
     shown.close(reading, window.end)
+    traced = Traced(*compare.found_beside(words, system, shown.ran.side, compare.PERCENT / 100)) if isinstance(shown, Both) else None
     choice, unit = lanes.Choice.of(asked, shown.findings, words.lanes or LANES), Clock(words.tick_us).unit(reading.end)
     begin, end = shown.scene.begin, shown.scene.last
     under = said_of(shown, reading, unit, begin, end)
     under += f' (no lanes for {choice.left_out:,} threads: --threads, --cores, --lanes)' if choice.left_out else ''
-    own = lanes.lanes_of(system, choice.threads, plotted if shown.is_single else (), {stay.server: stay.thread.core for stay in shown.scene.stays})
+    own = lanes.lanes_of(system, choice.threads, plotted if shown.is_single else (), {stay.server: stay.thread.core for stay in shown.scene.stays}, has_trace)
     picture = Picture(system, own, begin, end, Frame(words.width, Theme(words.theme), unit), printable(words.system.stem), under)
     if shown.is_single:
         picture.draw_scene(shown.scene, shown.findings)
     else:
         picture.draw_columns(shown.columns, shown.overdue, shown.findings)
+    if traced:
+        traced.draw(picture)
     return picture.svg()
 
 
@@ -150,11 +158,15 @@ def draw_page(told: Told, words: argparse.Namespace, window: Window, live: Optio
 def main() -> None:
     words = Words(__doc__).takes_rows()
     add_looks(words)
+    words.reads('--trace', metavar='TRACE.csv', help='draws a measured trace below the schedule, in a picture; the other options of a trace are those of tools/compare')
+    compare.add_trace(words)
     words.writes('-o', '--output', required=True, metavar='FILE', help='a .svg or a .html, or a .png or a .pdf where there is a browser')
     asked = words.asked()
     kind = asked.output.suffix
     if kind not in ('.svg', '.html', *rendering.KINDS):
         raise Fault(f'{asked.output} is no .svg, .html, .png or .pdf')
+    if asked.trace and kind == '.html':
+        raise Fault(f'{asked.output}: --trace draws a picture, a .svg, .png or .pdf, and no page')
     window = window_of(asked, asked.rows is not None)
     with source.told(asked, window.horizon) as told:
         text = draw(told, asked, window, kind == '.html')

@@ -1,13 +1,17 @@
-"""worst SYSTEM --of THREAD --vary PLACE=RANGE .. --horizon N [--runs N] [-o FILE]
-worst SYSTEM --of THREAD --ranges FILE --horizon N [--all]
-worst SYSTEM --of THREAD --phases [--times PERCENT] --horizon N
+"""worst SYSTEM --of THREAD|CHAIN --vary PLACE=RANGE .. --horizon N [--runs N] [-o FILE]
+worst SYSTEM --of THREAD|CHAIN --ranges FILE --horizon N [--all]
+worst SYSTEM --of THREAD|CHAIN --phases [--times PERCENT] --horizon N
 
-Searches for the worst response time of a thread over what you leave open in a system: offsets and
-phases, execution times, bursts and jitter of interrupts. The search begins with the critical
-instant and the ends of all ranges, then tries random points, and then changes one value or a few of
-the best points. It reports the worst response found, the values that give it, and the command that
-shows why; -o writes the system with these values. The response is that of a run: the worst case is
-this or more. Only --all covers every combination, and then no response up to N is longer.
+Searches for the worst response time of a thread, or the worst latency of a chain, over what you
+leave open in a system: offsets and phases, execution times, bursts and jitter of interrupts. The
+search begins with the critical instant and the ends of all ranges, then tries random points, and
+then changes one value or a few of the best points. It reports the worst value found, what gives it,
+and the command that shows why; -o writes the system with these values. The value is that of a run:
+the worst case is this or more. Only --all covers every combination, and then none up to N is more.
+
+The latency of a chain is the greatest of an answer: from an interrupt of its source to the end of
+the first job that answers it. An interrupt without an answer at N counts with its age, if that is
+more.
 
 A PLACE is one of `tools/sweep`, such as thread.NAME.script.K, source.NAME.start or
 thread.NAME.start. A RANGE is A..B, A..B:STEP, or a list with commas. source.NAME.at takes
@@ -19,8 +23,8 @@ open the start of each source, and of each thread that waits for nothing first, 
 Equal options give equal answers, and --jobs changes nothing. If a search with -o was interrupted,
 the same command continues it: FILE.part keeps the runs until all are done.
 
-The exit code is 5 if the worst response is above the deadline of the thread, or if no job of it
-was activated."""
+The exit code is 5 if the worst value is above the deadline of the thread or the chain, or if no job
+was activated or no interrupt came."""
 from __future__ import annotations
 
 import argparse
@@ -36,10 +40,11 @@ from .bounding import NoBound
 from .climbing import Climb, Point
 from .faults import Fault
 from .journal import Journal
+from .latency import Latencies
 from .options import Options
 from .ranges import Space
 from .settings import Tables
-from .trying import Question, Seeking, Seen, Trials, program_of, team
+from .trying import Case, Question, Responses, Seeking, Seen, Trials, program_of, team
 from .verdict import FOUND, Programs
 
 RUNS = 500
@@ -90,7 +95,7 @@ class Search:
         """Makes the runs."""
         progress = Seeking(self.count)
         with team(self.seen, min(jobs, self.count)) as run, progress:
-            trials = Trials(self.question.thread, run, journal, progress)
+            trials = Trials(self.question.name, run, journal, progress)
 
             def values(batch: list[Point]) -> list[climbing.Value]:
                 found = trials.values(batch)
@@ -123,15 +128,11 @@ class Answer:
 
     def __init__(self, search: Search, trials: Trials, deadline: int, path: Optional[pathlib.Path]) -> None:
         self.search, self.trials, self.deadline, self.path = search, trials, deadline, path
-        self.thread, self.horizon = search.question.thread, search.question.horizon
-        point = trials.point
-        self.tables = None if point is None else search.space.tables_of(point)
-        text = '' if point is None else search.space.text_of(point, self.head())
-        self.text = text
-        is_ended = point is not None and not trials.best.is_open
-        self.job = search.question.job(text.encode(), trials.best.value or 0) if is_ended else None
-        if is_ended and self.job is None:
-            raise Fault(f'{search.question.checker} has no job of {self.thread} with the response {trials.best.value}, which it told before')
+        self.question, self.name = search.question, search.question.name
+        self.text, self.case = '', Case('')
+        if trials.point is not None:
+            self.text = search.space.text_of(trials.point, self.head())
+            self.case = self.question.case(search.space.tables_of(trials.point), trials.best)
 
     @property
     def is_late(self) -> bool:
@@ -148,7 +149,7 @@ class Answer:
     def head(self) -> list[str]:
         """The comments of the file."""
         assert self.trials.point is not None
-        found = f'The worst response of {self.thread} that tools/worst found up to {self.horizon}: {self.value_text()}. {self.tried()}.'
+        found = f'The worst {self.question.what} of {self.name} that tools/worst found up to {self.question.horizon}: {self.value_text()}. {self.tried()}.'
         return [found, *self.search.space.said(self.trials.point)]
 
     def tried(self) -> str:
@@ -160,12 +161,12 @@ class Answer:
     def lines(self) -> list[str]:
         best = self.trials.best
         if self.trials.point is None:
-            return [f'{self.thread}: no job of it was activated in any run up to {self.horizon}', f'{self.tried()}{self.refused()}']
+            return [f'{self.name}: {self.question.nothing()}', f'{self.tried()}{self.refused()}']
         late = f', deadline {self.deadline}, slack {self.deadline - (best.value or 0)}' if self.deadline else ''
-        lines = [f'{self.thread}: worst response found {self.value_text()}{late} (as the file stands: {self.as_in_file()})']
+        lines = [f'{self.name}: worst {self.question.what} found {self.value_text()}{late} (as the file stands: {self.as_in_file()})']
         lines.append(f'with {" ".join(self.search.space.said(self.trials.point))}')
         lines.append(f'{self.tried()}{self.refused()}: {self.worth()}')
-        return [*lines, self.analysed(), *self.shown()]
+        return [*lines, self.analysed(), *self.question.notes(), *self.shown()]
 
     def as_in_file(self) -> str:
         base = self.search.base
@@ -181,7 +182,7 @@ class Answer:
         """What the answer is worth."""
         search = self.search
         if search.is_whole and self.trials.done == search.count:
-            return f'exhaustive, so no response of these systems up to {self.horizon} is longer'
+            return f'exhaustive, so no {self.question.what} of these systems up to {self.question.horizon} is longer'
         return 'no bound, so the worst case is this or more'
 
     def analysed(self) -> str:
@@ -196,16 +197,13 @@ class Answer:
 
     def shown(self) -> list[str]:
         """How to see why."""
-        if self.job is None:
-            job, why, span = 'the job had not ended at the horizon', '', ''
-        else:
-            number, activated, end = self.job
-            job, why = f'job {number}, activated {activated}, ended {end}', f' --why {self.thread} {number}'
-            span = f' --from {activated} --to {end}'
-        if self.path is None:
-            return [f'{job}; -o FILE writes this system']
-        asked = f'{self.path} --horizon {self.horizon}'
-        return [f'{job}: mcscheck {asked}{why}', f'picture: tools/view {asked}{span} -o {self.path.with_suffix(".html")}']
+        case, path = self.case, self.path
+        if path is None:
+            return [f'{case.said}; -o FILE writes this system']
+        asked = f'{path} --horizon {self.question.horizon}'
+        span = f' --from {case.span[0]} --to {case.span[1]}' if case.span else ''
+        why = '' if case.asked is None else f': mcscheck {asked}{case.asked}'
+        return [f'{case.said}{why}', f'picture: tools/view {asked}{span} -o {path.with_suffix(".html")}']
 
 
 # ---- options
@@ -214,7 +212,7 @@ class Answer:
 def asked() -> argparse.Namespace:
     words = Options(__doc__)
     words.reads('system', metavar='SYSTEM', help='the file of the system')
-    words.add_argument('--of', required=True, metavar='THREAD', help='whose response is to be the worst')
+    words.add_argument('--of', required=True, metavar='THREAD|CHAIN', help='whose response or latency is to be the worst; chain.NAME if a thread has the same name')
     words.add_argument('--vary', action='append', default=[], metavar='PLACE=RANGE', help='what is left open; may be given several times')
     words.reads('--ranges', metavar='FILE', help='what is left open, as a table')
     words.add_argument('--phases', action='store_true', help='leaves open when each source and each thread begins')
@@ -261,17 +259,29 @@ def bound_of(space: Space, thread: str) -> tuple[Optional[int], str]:
         return None, str(reason)
 
 
+def question_of(words: argparse.Namespace, tables: Tables, programs: Programs) -> Question:
+    """What is to be the worst: the response of a thread, or the latency of a chain."""
+    name = ranges.known_chain(words.of, tables)
+    if name is None:
+        return Responses(program_of(programs.checker), words.of, words.horizon)
+    chain = system.system_of(tables).chains[name]
+    return Latencies(program_of(programs.program), chain, words.horizon)
+
+
 def search_of(words: argparse.Namespace, text: bytes, programs: Programs) -> Search:
     """The search that is asked for."""
     tables = system.tables_of(words.system, text)
-    ranges.known_thread(words.of, tables)
+    question = question_of(words, tables, programs)
     space = Space(tables, [ranges.choice_of(each, tables, words.horizon) for each in opened(words, tables)])
     if words.all and space.count > MOST_RUNS:
         raise Fault(f'--all: {space.count:,} combinations, of at most {MOST_RUNS:,}')
-    question = Question(program_of(programs.checker), words.of, words.horizon)
     base = question.seen(tables)
-    bound, why = bound_of(space, words.of)
-    return Search(space, replace(question, least=base.value or 1), base, bound, why, words.runs, words.seed, words.all)
+    if isinstance(question, Responses):
+        question = replace(question, least=base.value or 1)
+        bound, why = bound_of(space, words.of)
+    else:
+        bound, why = None, f'{question.name} is a chain'
+    return Search(space, question, base, bound, why, words.runs, words.seed, words.all)
 
 
 @contextlib.contextmanager
@@ -283,7 +293,7 @@ def journal_of(words: argparse.Namespace, text: bytes, search: Search, programs:
         return
     opened = [f'{choice.text} {choice!r}' for choice in search.space.choices]
     head: dict[str, Any] = {
-        'system': hashlib.sha256(text).hexdigest(), 'worst of': words.of, 'open': hashlib.sha256('\n'.join(opened).encode()).hexdigest(),
+        'system': hashlib.sha256(text).hexdigest(), 'worst of': search.question.key, 'open': hashlib.sha256('\n'.join(opened).encode()).hexdigest(),
         'horizon': words.horizon, 'seed': words.seed, 'all': search.is_whole, 'runs': search.count, 'programs': programs.digests(),
     }
     with Journal(target, head) as journal:
@@ -298,7 +308,8 @@ def main() -> int:
     search = search_of(words, text, programs)
     with journal_of(words, text, search, programs) as journal:
         trials = search.run(words.jobs, journal)
-        deadline = next(row.get('deadline', 0) for row in search.space.tables['thread'] if row['name'] == words.of)
+        section = 'chain' if isinstance(search.question, Latencies) else 'thread'
+        deadline = next(row.get('deadline', 0) for row in search.space.tables[section] if row['name'] == search.question.name)
         answer = Answer(search, trials, deadline, words.output)
         if words.output and answer.text:
             output.write(words.output, answer.text)

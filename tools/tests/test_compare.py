@@ -4,15 +4,17 @@ from __future__ import annotations
 import pathlib
 import tempfile
 import unittest
+import xml.etree.ElementTree as ElementTree
 from typing import Optional
 from unittest import mock
 
 import worked
 from worked import Ended
-from mcsim_tools import compare, comparing, measured, system
+from mcsim_tools import compare, comparing, measured, system, view
 from mcsim_tools.comparing import Fitting, Job, Side, Spell
 from mcsim_tools.faults import Fault
 
+SVG = '{http://www.w3.org/2000/svg}'
 # A runs for 5 ticks at 10, 30, 50, 70 and 90, and B for 8 at 13, 43 and 73: it ends at 23, 51 and 83
 SYSTEM = '''
 version = 3
@@ -208,6 +210,66 @@ class Jobs(Case):
         self.assertIsNone(self.longer([10.05] * 8))
         self.assertIsNone(self.longer([9.5, 10.5, 9.8, 10.3, 10.1, 9.7, 10.2, 9.6]))
         self.assertIsNone(self.longer([11] * 3))
+
+
+class Pictures(Case):
+    """A tick has 34 pixels, and time begins at 176."""
+
+    # A runs for 3 ticks more at 10, so B is later by 3
+    LONGER = [(0.0, 1.0, 'A'), (1.0, 2.0, 'B'), (10.0, 18.0, 'A'), (18.0, 26.0, 'B')]
+
+    def drawn(self, told: list[tuple[float, float, str]], *words: object) -> ElementTree.Element:
+        trace, made = self.folder / 'trace.csv', self.folder / 'made.svg'
+        trace.write_text(trace_text(told))
+        fitted = ('--unit', '1000', '--offset', '5000000', '--tolerance', '1')
+        ended = worked.ran('view', view.main, self.file, '--trace', trace, *fitted, '--horizon', '20', '-o', made, *words)
+        self.assertEqual((ended.status, ended.stderr), (0, ''))
+        return ElementTree.fromstring(made.read_text())
+
+    @staticmethod
+    def bars(svg: ElementTree.Element, look: str) -> list[tuple[float, float]]:
+        """From which tick to which there is a bar."""
+        legend = svg.find(f'{SVG}g[@id="legend"]')
+        explained = [] if legend is None else list(legend.iter(f'{SVG}rect'))
+        found = [rect for rect in svg.iter(f'{SVG}rect') if rect.get('class') == look and rect not in explained]
+        places = [(float(rect.attrib['x']), float(rect.attrib['width'])) for rect in found]
+        return [((x - 176) / 34, (x + wide - 176) / 34) for x, wide in places]
+
+    def test_a_strip_for_each_thread(self) -> None:
+        svg = self.drawn(self.LONGER)
+        self.assertEqual(self.bars(svg, 'traced c0'), [(0, 1), (10, 18)])
+        # the window ends at 20
+        self.assertEqual(self.bars(svg, 'traced c1'), [(1, 2), (18, 20)])
+
+    def test_what_differs(self) -> None:
+        svg = self.drawn(self.LONGER)
+        self.assertEqual(self.bars(svg, 'differs'), [(15, 18)])
+        parts = [path for path in svg.iter(f'{SVG}path') if path.get('class') == 'part']
+        # one in the picture and one in the legend
+        self.assertEqual((parts[0].attrib['d'].split('V')[0].split()[0], len(parts)), (f'M{176 + 34 * 15}', 2))
+        self.assertIn('both part at 15.0 on core 0: A runs until 15 in the schedule, and until 18.0 in the trace', ''.join(svg.itertext()))
+
+    def test_nothing_differs(self) -> None:
+        svg = self.drawn([(0.0, 1.0, 'A'), (1.0, 2.0, 'B'), (10.0, 15.0, 'A'), (15.0, 23.0, 'B')])
+        self.assertEqual((self.bars(svg, 'differs'), self.bars(svg, 'traced c0')), ([], [(0, 1), (10, 15)]))
+
+    def test_a_fit_of_few_runs(self) -> None:
+        # none of four runs begins where one of the schedule does
+        svg = self.drawn([(3.0, 4.5, 'A'), (5.5, 7.0, 'B'), (17.0, 18.5, 'A'), (19.5, 23.0, 'B')])
+        self.assertIn('few runs agree, so --unit or --offset may be wrong', ''.join(svg.itertext()))
+
+    def test_a_page_has_no_trace(self) -> None:
+        trace = self.folder / 'trace.csv'
+        trace.write_text(trace_text(self.LONGER))
+        ended = worked.ran('view', view.main, self.file, '--trace', trace, '-o', self.folder / 'made.html')
+        self.assertEqual(ended.stderr, f'view: {self.folder}/made.html: --trace draws a picture, a .svg, .png or .pdf, and no page\n')
+
+    def test_when_cores_differ(self) -> None:
+        ours, theirs = [Spell(0, 4, 'A'), Spell(6, 9, 'B')], [Spell(0, 5.5, 'A'), Spell(6.5, 8, 'B'), Spell(8, 9, 'A')]
+        # A goes on until 5.5, B begins half a tick later, and A runs from 8 on
+        self.assertEqual(comparing.differing(ours, theirs, 0, 20, 0), [(4, 5.5), (6, 6.5), (8, 9)])
+        self.assertEqual(comparing.differing(ours, theirs, 0, 20, 0.5), [(4, 5.5), (8, 9)])
+        self.assertEqual(comparing.differing(ours, theirs, 5, 8.5, 0.4), [(5, 5.5), (6, 6.5), (8, 8.5)])
 
 
 class Fits(unittest.TestCase):

@@ -125,6 +125,98 @@ job 3, activated 50, ended 70; -o FILE writes this system
         self.assertEqual(self.ran(*words, '--jobs', '1'), self.ran(*words, '--jobs', '3'))
 
 
+# An interrupt of s at its start wakes D, whose signal is made 3 later and reaches the other core 2 after that, where F computes 4: a latency of 9.
+# With 5 the signal is 2 longer under way: 11. With 6 the file is refused. With 7 F does not end its job: the interrupt is 40 - 7 = 33 old at 40.
+# With 8 and with 1000 no interrupt comes.
+CHAIN = """
+version = 3
+cores = 2
+delay = 2
+context = [{ name = "d", core = 0, budget = 9, period = 40, mode = "sporadic" }, { name = "f", core = 1, budget = 9, period = 40, mode = "sporadic" }]
+note = [{ name = "n", core = 0 }, { name = "m", core = 1 }]
+thread = [
+    { name = "D", context = "d", priority = 5, script = ["wait n", "compute 2", "signal m 1"] },
+    { name = "F", context = "f", priority = 5, deadline = 9, script = ["wait m", "compute 4"] },
+]
+source = [{ name = "s", note = "n", badge = 1, period = 40, start = 3 }]
+chain = [{ name = "far", source = "s", thread = "F", deadline = 10 }, { name = "F", source = "s", thread = "D" }]
+"""
+ROWS = """#!/bin/sh
+start=$(sed -n 's/.*name = "s".*start = \\([0-9]*\\).*/\\1/p')
+[ "$start" != 6 ] || { echo 'mcsim: out of range at source 1' >&2; exit 1; }
+row() { echo "$@"; }
+row 0 0 release D
+row 0 0 run D
+row 0 1 release F
+row 0 1 run F
+row 1 0 stop D wait 1
+row 1 1 stop F wait 1
+[ "$start" -lt 8 ] || exit 0
+row $start 0 interrupt s n 1
+row $start 0 wake D n 1
+row $start 0 run D
+row $((start + 3)) 0 signal D m 1
+row $((start + 3)) 0 round D 1 3
+row $((start + 4)) 0 stop D wait 4
+there=$((start + 5))
+[ "$start" != 5 ] || there=$((start + 7))
+row $there 1 arrive m 1 from 0
+row $there 1 wake F m 1
+row $there 1 run F
+[ "$start" != 7 ] || exit 0
+row $((there + 4)) 1 round F 1 4
+row $((there + 5)) 1 stop F wait 5
+"""
+
+
+class Chains(Case):
+    def setUp(self) -> None:
+        super().setUp()
+        self.file.write_text(CHAIN)
+        self.script('mcsim', ROWS)
+
+    def of(self, chain: str, starts: str, *words: object) -> Ended:
+        told = worked.ran('worst', worst.main, self.file, '--of', chain, '--horizon', '40', '--vary', f'source.s.start={starts}', *words)
+        return told._replace(stdout=told.stdout.replace(f'{self.folder}/', ''))
+
+    def test_the_greatest_latency(self) -> None:
+        told = self.of('far', '3..6', '--all')
+        self.assertEqual((told.status, told.stdout), (5, """far: worst latency found 11, deadline 10, slack -1 (as the file stands: 9)
+with source.s.start=5
+All 4 combinations were tried, 1 of them refused, the first source.s.start=6: out of range at source 1: exhaustive, so no latency of these systems up to 40 is longer
+response-time analysis: none, since far is a chain
+latency: the greatest of an answer, from an interrupt of s to the end of the first job of F that answers it; an interrupt without an answer at 40 counts with its age, if that is more
+the interrupt of s at 5 is answered at 16, by job 1 of F; -o FILE writes this system
+"""))
+
+    def test_an_interrupt_without_an_answer_counts_with_its_age(self) -> None:
+        lines = self.of('far', '5,7').stdout.splitlines()
+        self.assertEqual(lines[0], 'far: worst latency found 33 or more, deadline 10, slack -23 (as the file stands: 9)')
+        self.assertEqual(lines[-1], 'the interrupt of s at 7 has no answer at 40; -o FILE writes this system')
+
+    def test_a_deadline_that_is_met(self) -> None:
+        self.assertEqual(self.of('far', '3,4').status, 0)
+
+    def test_no_interrupt(self) -> None:
+        told = self.of('far', '8,9')
+        self.assertEqual((told.status, told.stdout.splitlines()[0]), (5, 'far: no interrupt of s came before 40 in any run'))
+
+    def test_a_thread_of_the_same_name(self) -> None:
+        # the signal that ends the job of D is made 3 after the interrupt
+        self.assertTrue(self.of('chain.F', '3,4').stdout.startswith('F: worst latency found 3 (as the file stands: 3)\n'))
+        self.assertIn('mcscheck has no line of F', self.of('F', '3,4').stderr)
+
+    def test_the_file_has_the_values(self) -> None:
+        file = self.folder / 'far.toml'
+        told = self.of('far', '3..5', '-o', file)
+        self.assertEqual(tomllib.loads(file.read_text())['source'][0]['start'], 5)
+        self.assertIn('# The worst latency of far that tools/worst found up to 40: 11.', file.read_text())
+        self.assertEqual(told.stdout.splitlines()[-2:], [
+            'the interrupt of s at 5 is answered at 16, by job 1 of F',
+            'picture: tools/view far.toml --horizon 40 --from 5 --to 16 -o far.html',
+        ])
+
+
 class Faults(Case):
     def expect(self, said: str, *words: object) -> None:
         self.assertEqual(self.ran(*words)[:3:2], (2, f'worst: {said}\n'))
@@ -139,11 +231,7 @@ class Faults(Case):
         self.expect('source.q.at: there is no source \'q\': there are r, s', '--vary', 'source.q.at=jitter 2')
 
     def test_a_thread_that_is_none(self) -> None:
-        self.expect('--of D: there is no thread \'D\': there are A, B', '--of', 'D', '--phases')
-
-    def test_a_chain(self) -> None:
-        self.file.write_text(SYSTEM + 'chain = [{ name = "e", source = "s", thread = "B" }]\n')
-        self.expect('--of e: a chain: mcscheck does not report latencies, so only threads are searched', '--of', 'e', '--phases')
+        self.expect('--of D: there is no thread and no chain \'D\': there are A, B', '--of', 'D', '--phases')
 
     def test_too_many_for_all(self) -> None:
         self.expect('--all: 100,000,000 combinations, of at most 1,000,000', '--vary', 'source.s.start=1..10000', '--vary', 'source.r.start=1..10000', '--all')
