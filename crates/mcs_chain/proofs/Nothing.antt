@@ -1,5 +1,5 @@
 -- A row that answers no origin drops none, and a set that is joined with none stays.
-use Rattle.std.proofs.Common.{◌≡◌, ℕ, suc, ◌<◌, Bool, true, false, eqb, not, List, [], ◌∷◌, length, get_or, set, map, arith, refl, sym, ap, ◌∙◌}
+use Rattle.std.proofs.Common.{◌≡◌, ℕ, true, eqb, not, List, [], ◌∷◌, length, get_or, set, map, arith, refl, sym, ap, ◌∙◌}
 use Rattle.std.specs.Prelude.{filter}
 use Rattle.std.proofs.lemmas.Bool.Decides.{nat_tests}
 use Rattle.std.proofs.lemmas.List.{set-get_or}

@@ -1,5 +1,5 @@
 -- The figures of a chain, by the rows up to the horizon, the latest first.
-use Rattle.std.specs.Prelude.{ℕ, min, List, length, sum, Option}
+use Rattle.std.specs.Prelude.{ℕ, min, List, length, map, sum, Option}
 use Rattle.std.specs.List.{reduce}
 use Rattle.mcs_ticks.specs.declared.row.Row.{Row}
 use Rattle.mcs_ticks.specs.Capped.{capped}
@@ -54,3 +54,10 @@ figures_with horizon deadline started answers =
 abbrev pub figures_of : ℕ → System → ChainPart → List Row → Figures
 figures_of horizon system chain past =
     figures_with horizon chain.deadline (interrupts chain past) (latencies system chain past)
+
+-- those of all chains of a system
+abbrev pub tallies_of : ℕ → System → List Row → List Tally
+tallies_of horizon system past = map (λ chain. tally_of horizon system chain past) system.chains
+
+abbrev pub all_figures : ℕ → System → List Row → List Figures
+all_figures horizon system past = map (λ chain. figures_of horizon system chain past) system.chains

@@ -1,4 +1,19 @@
-use mcs_ticks::Tick;
+ghost use Rattle.std.specs.Prelude.{ℕ};
+
+use mcs_ticks::{CoreId, Tick};
+use std::marker::Model;
+
+/// The number of a chain, from 0, in file order. Contracts see the number.
+#[derive(Clone, Copy, Debug, PartialEq, Eq, PartialOrd, Ord)]
+pub struct ChainId(pub usize);
+
+impl Model for ChainId {
+    ghost Value = { ℕ };
+
+    ghost view = { λ a. a.0 };
+
+    ghost inverse = { λ n. record { 0 = n } };
+}
 
 /// A finding of a chain. Amounts are in ticks.
 #[derive(Clone, Copy, Debug, PartialEq, Eq)]
@@ -14,4 +29,13 @@ pub enum Finding {
         deadline: u64,
         origin: Tick,
     },
+}
+
+/// A finding of a chain, with its moment and its core.
+#[derive(Clone, Copy, Debug, PartialEq, Eq)]
+pub struct Found {
+    pub moment: Tick,
+    pub core: CoreId,
+    pub chain: ChainId,
+    pub finding: Finding,
 }

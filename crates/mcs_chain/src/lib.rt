@@ -7,13 +7,15 @@ mod finding;
 mod found;
 mod mark;
 mod moves;
+mod one;
 mod origins;
 mod set;
 mod step;
+mod tallies;
 mod tally;
 mod watch;
 
 pub use figures::Figures;
-pub use finding::Finding;
-pub use tally::Tally;
+pub use finding::{ChainId, Finding, Found};
+pub use tallies::Tallies;
 pub use watch::Watch;

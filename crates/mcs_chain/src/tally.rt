@@ -4,11 +4,10 @@ ghost use Rattle.mcs_ticks.specs.Capped.{capped};
 ghost use Rattle.mcs_system.specs.System.{System as TheSystem};
 ghost use Rattle.mcs_system.specs.declared.part.ChainPart.{ChainPart as TheChain};
 ghost use Rattle.mcs_table.specs.Rounds.{greatest, margin};
-ghost use Rattle.mcs_chain.specs.Answers.{is_interrupt, interrupts};
+ghost use Rattle.mcs_chain.specs.Answers.{is_interrupt, interrupts, origins};
 ghost use Rattle.mcs_chain.specs.Figures.{least, tally_with, tally_of, figures_of};
-ghost use Rattle.mcs_chain.specs.Watch.{watch_of};
 
-use crate::{Figures, Watch};
+use crate::Figures;
 use mcs_histogram::Histogram;
 use mcs_system::ChainPart;
 use mcs_table::Margin;
@@ -18,7 +17,7 @@ use std::marker::Model;
 
 /// Counts of a chain's interrupts and answers. All room is taken when it is made.
 #[derive(Drop)]
-pub struct Tally {
+pub(crate) struct Tally {
     interrupts: u64,
     least: Option<u64>,
     greatest: Option<u64>,
@@ -95,7 +94,7 @@ fn counted(count: u64, is_one: bool) -> u64
 
 impl Tally {
     /// Before the first row of a run up to the horizon. `NoMemory` if an allocation failed.
-    pub fn new(alloc: Global, horizon: Tick) -> Result<Self, NoMemory>
+    pub(crate) fn new(alloc: Global, horizon: Tick) -> Result<Self, NoMemory>
         ensures { IfOk result (λ tally. tally ≡ tally_with horizon 0 []) }
     {
         Ok(Tally {
@@ -137,17 +136,17 @@ impl Tally {
         self.interrupts = counted(self.interrupts, is_one);
     }
 
-    /// Takes one row more, which the watch of the chain has seen.
-    pub fn see(&mut self, chain: &ChainPart, watch: &Watch, row: &Row)
-        ensures { (horizon : ℕ) (system : TheSystem) (past : List TheRow) → watch.now ≡ watch_of system chain.now (row.now ∷ past) →
+    /// Takes one row more, which answers these origins.
+    pub(crate) fn see(&mut self, chain: &ChainPart, answered: &[Tick], row: &Row)
+        ensures { (horizon : ℕ) (system : TheSystem) (past : List TheRow) → answered.now ≡ (origins system chain.now (row.now ∷ past)).answered →
             self.old ≡ tally_of horizon system chain.now past → self.new ≡ tally_of horizon system chain.now (row.now ∷ past) }
     {
-        self.answer_all(row.moment, watch.answered());
+        self.answer_all(row.moment, answered);
         self.start(is_interrupt(chain.source, &row.what));
     }
 
     /// The figures of the chain.
-    pub fn figures(&self, chain: &ChainPart) -> Figures
+    pub(crate) fn figures(&self, chain: &ChainPart) -> Figures
         ensures { (horizon : ℕ) (system : TheSystem) (past : List TheRow) → self.now ≡ tally_of horizon system chain.now past →
             result ≡ figures_of horizon system chain.now past }
     {

@@ -1,27 +1,24 @@
-ghost use Rattle.std.specs.Prelude.{◌≡◌, List, [], ◌∷◌, OnOk, OnErr, IfOk};
+ghost use Rattle.std.specs.Prelude.{◌≡◌, List, [], ◌∷◌, OnOk, IfOk};
 ghost use Rattle.mcs_ticks.specs.declared.row.Row.{Row as TheRow};
-ghost use Rattle.mcs_system.specs.System.{System as TheSystem};
-ghost use Rattle.mcs_system.specs.declared.part.ChainPart.{ChainPart as TheChain};
-ghost use Rattle.mcs_chain.specs.Answers.{origins, slow, unanswered};
-ghost use Rattle.mcs_chain.specs.Watch.{watch_of};
+ghost use Rattle.mcs_chain.specs.Found.{all_unanswered};
+ghost use Rattle.mcs_chain.specs.Watch.{all_due, all_slow_many, gone_for, watch_of};
 
-use crate::Finding;
-use crate::found::{slow_of, unanswered_of};
+use crate::Found;
 use crate::moves::moves;
-use crate::origins::Origins;
+use crate::one::{One, all_new, all_see, due_of, many_of, unanswered_of};
 use crate::step::{Gone, all_fresh, all_go};
-use mcs_system::{ChainPart, System};
+use mcs_system::{System, SystemParts};
 use mcs_ticks::{NoMemory, Row, Tick};
 use std::alloc::Global;
 use std::marker::Model;
 
-/// A chain, as the rows of a schedule go by: how far each thread is in its script, and the sets of
-/// origins without an answer. Its room grows only with those origins. The system and the chain are
-/// those that it was made for.
+/// The chains of a system, as the rows of a schedule go by: how far each thread is in its script,
+/// and for each chain the sets of origins without an answer. Its room grows only with those origins.
+/// The system is the one that it was made for.
 #[derive(Drop)]
 pub struct Watch {
     gone: Vec<Gone>,
-    origins: Origins,
+    pub(crate) each: Vec<One>,
 }
 
 impl Model for Watch {
@@ -29,72 +26,72 @@ impl Model for Watch {
 
     ghost Value = { Watch };
 
-    ghost view = { λ a. record { gone = a.gone.items; origins = a.origins } };
+    ghost view = { λ a. record { gone = a.gone.items; each = a.each.items } };
+}
+
+/// How far each thread has gone before the first row. Nobody asks if there is no chain.
+fn none_gone(alloc: Global, parts: &SystemParts) -> Result<Vec<Gone>, NoMemory>
+    ensures { IfOk result (λ gone. gone.items ≡ gone_for parts.now [] parts.now.chains) }
+{
+    if parts.chains.is_empty() {
+        return Ok(Vec::new(alloc));
+    }
+    all_fresh(alloc, parts)
 }
 
 impl Watch {
-    /// The watch before the first row. `NoMemory` if an allocation failed. The chain is one of the
-    /// system.
+    /// The watch before the first row. `NoMemory` if an allocation failed.
     pub fn new(alloc: Global, system: &System) -> Result<Self, NoMemory>
-        ensures { (chain : TheChain) → IfOk result (λ watch. watch ≡ watch_of system.now chain []) }
+        ensures { IfOk result (λ watch. watch ≡ watch_of system.now []) }
     {
         let parts = system.parts();
         Ok(Watch {
-            gone: all_fresh(alloc, parts)?,
-            origins: Origins::new(alloc, parts)?,
+            gone: none_gone(alloc, parts)?,
+            each: all_new(alloc, parts)?,
         })
     }
 
-    /// Takes one row more. `NoMemory` if an allocation failed: then nothing has changed.
-    pub fn see(
-        &mut self,
-        alloc: Global,
-        system: &System,
-        chain: &ChainPart,
-        row: &Row,
-    ) -> Result<(), NoMemory>
-        ensures ok { (past : List TheRow) → self.old ≡ watch_of system.now chain.now past →
-            OnOk result (self.new ≡ watch_of system.now chain.now (row.now ∷ past)) }
-        ensures err { OnErr result (self.new ≡ self.old) }
+    /// Takes one row more. `NoMemory` if an allocation failed: then some chains have taken the row,
+    /// and the watch can only be dropped.
+    pub fn see(&mut self, alloc: Global, system: &System, row: &Row) -> Result<(), NoMemory>
+        ensures { (past : List TheRow) → self.old ≡ watch_of system.now past →
+            OnOk result (self.new ≡ watch_of system.now (row.now ∷ past)) }
     {
         let parts = system.parts();
+        if parts.chains.is_empty() {
+            return Ok(());
+        }
         let moved = moves(parts, &self.gone, row);
-        self.origins.see(alloc, chain, row.moment, &moved)?;
+        all_see(alloc, &mut self.each, parts.chains.as_slice(), row, &moved)?;
         all_go(parts, &mut self.gone, &row.what);
         Ok(())
     }
 
-    /// The origins that the latest row answers, the latest first. The latency of each answer is the
-    /// row's moment less the origin.
-    pub fn answered(&self) -> &[Tick]
-        ensures { (system : TheSystem) (chain : TheChain) (past : List TheRow) → self.now ≡ watch_of system chain past →
-            result.now ≡ (origins system chain past).answered }
+    /// The slow answers of the latest rows that have one moment, chain by chain; with `before` only
+    /// if that moment is before it.
+    pub fn due(&self, alloc: Global, before: Option<Tick>) -> Result<Vec<Found>, NoMemory>
+        ensures { IfOk result (λ due. due.items ≡ all_due before 0 self.now.each) }
     {
-        self.origins.answered()
+        due_of(alloc, &before, self.each.as_slice())
     }
 
-    /// The origins without an answer, the earliest first.
-    pub fn unanswered(&self) -> &[Tick]
-        ensures { (system : TheSystem) (chain : TheChain) (past : List TheRow) → self.now ≡ watch_of system chain past →
-            result.now ≡ (origins system chain past).unanswered }
+    /// How many slow answers there are, at most 2^64 - 1.
+    pub fn slow(&self) -> u64
+        ensures { result ≡ all_slow_many self.now.each }
     {
-        self.origins.unanswered()
+        many_of(self.each.as_slice())
     }
 
-    /// The earliest origin that the latest row answers, if the answer comes later than the
-    /// deadline. `moment` is the row's.
-    pub fn slow(&self, chain: &ChainPart, moment: Tick) -> Option<Finding>
-        ensures { (system : TheSystem) (past : List TheRow) (row : TheRow) → row.moment ≡ moment →
-            self.now ≡ watch_of system chain.now (row ∷ past) → result ≡ slow system chain.now past row }
+    /// The chains whose earliest origin without an answer is at least a deadline old at the horizon.
+    pub fn unanswered(
+        &self,
+        alloc: Global,
+        system: &System,
+        horizon: Tick,
+    ) -> Result<Vec<Found>, NoMemory>
+        ensures { (past : List TheRow) → self.now ≡ watch_of system.now past →
+            IfOk result (λ found. found.items ≡ all_unanswered system.now past horizon 0 system.now.chains) }
     {
-        slow_of(chain.deadline, moment, self.origins.answered())
-    }
-
-    /// The earliest origin without an answer, if its deadline has passed at the horizon.
-    pub fn unanswered_at(&self, chain: &ChainPart, horizon: Tick) -> Option<Finding>
-        ensures { (system : TheSystem) (past : List TheRow) → self.now ≡ watch_of system chain.now past →
-            result ≡ unanswered system chain.now past horizon }
-    {
-        unanswered_of(chain.deadline, horizon, self.origins.unanswered())
+        unanswered_of(alloc, system.parts(), horizon, self.each.as_slice())
     }
 }

@@ -4,7 +4,6 @@ use Rattle.mcs_ticks.specs.declared.row.Row.{Row}
 use Rattle.mcs_ticks.specs.Given.{Given, GivenUntil, GivenSome}
 use Rattle.mcs_system.specs.System.{System}
 use Rattle.mcs_verdict.specs.Findings.{InOrder, UpTo, past_of}
-use Rattle.mcs_verdict.specs.Watch.{watch_of}
 use Rattle.mcs_cli.specs.Devices.{AppendsPrefix}
 use Rattle.mcs_cli.specs.Flow.{AppendsBefore, TakesLine}
 use Rattle.mcs_check_words.specs.declared.asked.Format.{Format}
@@ -13,7 +12,8 @@ use Rattle.mcs_check.specs.declared.finder.Finder.{Finder}
 use Rattle.mcs_check.specs.Counts.{no_counts}
 use Rattle.mcs_check.specs.Formats.{head_text}
 use Rattle.mcs_check.specs.stored.Found.{counts_so_far}
-use Rattle.mcs_check.specs.stored.Rows.{counted_at, counts_in, failed_after, kept_table, lines_in, rows_text, told_at}
+use Rattle.mcs_check.specs.stored.Rows.{counted_at, counts_in, failed_after, kept_table, lines_of, row_lines, rows_text}
+use Rattle.mcs_check.specs.stored.Watches.{watches_of}
 use Rattle.mcs_check.proofs.Results.{moved}
 use Rattle.mcs_check.proofs.Rows.{given-tells, some-tells, until-tells}
 
@@ -34,13 +34,13 @@ module _ {W P : Type 0} (contents : W → Option (List ℕ)) (failed : W → Boo
       × (after.allowed ≡ before.allowed)
       × (taken ≡ true → failed after.lines.target.now ≡ failed before.lines.target.now)
       × (taken ≡ false → failed after.lines.target.now ≡ failed_after after.lines.is_out_of_memory (failed before.lines.target.now))
-      × ((past : List Row) → before.seen.now.watch ≡ watch_of before.system.now past → UpTo row.moment past →
-      (after.seen.now.watch ≡ watch_of before.system.now (row ∷ past))
+      × ((past : List Row) → before.seen.now.watch ≡ watches_of before.system.now past → UpTo row.moment past →
+      (taken ≡ true → after.seen.now.watch ≡ watches_of before.system.now (row ∷ past))
       × (after.seen.now.counts ≡ counted_at before.system.now before.allowed.now past row before.seen.now.counts)
-      × ((horizon : ℕ) → before.seen.now.table ≡ kept_table before.show before.system.now horizon past →
+      × ((horizon : ℕ) → before.seen.now.table ≡ kept_table before.show before.system.now horizon past → taken ≡ true →
       after.seen.now.table ≡ kept_table before.show before.system.now horizon (row ∷ past))
       × TakesLine (contents before.lines.target.now) (contents after.lines.target.now) before.seen.now.text.items after.seen.now.text.items
-      (told_at before.system.now before.allowed.now before.format before.show past row) taken)
+      (row_lines before.system.now before.allowed.now before.format before.show past row) taken)
 
   -- before the first row
   module _ (first : Finder W P) (horizon : ℕ) where
@@ -65,7 +65,7 @@ module _ {W P : Type 0} (contents : W → Option (List ℕ)) (failed : W → Boo
       pub system_is : f.system ≡ first.system
       pub allowed_is : f.allowed ≡ first.allowed
       pub working : failed f.lines.target.now ≡ failed first.lines.target.now
-      pub watch_is : f.seen.now.watch ≡ watch_of system past
+      pub watch_is : f.seen.now.watch ≡ watches_of system past
       pub counts_are : f.seen.now.counts ≡ counts_so_far system allowed past
       pub table_is : f.seen.now.table ≡ kept_table asked system horizon past
 
@@ -75,23 +75,23 @@ module _ {W P : Type 0} (contents : W → Option (List ℕ)) (failed : W → Boo
       pub failed_is : failed f.lines.target.now ≡ failed_after f.lines.is_out_of_memory (failed first.lines.target.now)
 
     said : (past : List Row) (s t : Finder W P) (row : Row) (taken : Bool) → IsAfter past s → UpTo row.moment past → Takes s row taken t →
-        (t.seen.now.watch ≡ watch_of system (row ∷ past))
+        (taken ≡ true → t.seen.now.watch ≡ watches_of system (row ∷ past))
         × (t.seen.now.counts ≡ counted_at system allowed past row s.seen.now.counts)
-        × ((horizon : ℕ) → s.seen.now.table ≡ kept_table asked system horizon past → t.seen.now.table ≡ kept_table asked system horizon (row ∷ past))
-        × TakesLine (contents s.lines.target.now) (contents t.lines.target.now) s.seen.now.text.items t.seen.now.text.items (told_at system allowed how asked past row) taken
+        × ((horizon : ℕ) → s.seen.now.table ≡ kept_table asked system horizon past → taken ≡ true → t.seen.now.table ≡ kept_table asked system horizon (row ∷ past))
+        × TakesLine (contents s.lines.target.now) (contents t.lines.target.now) s.seen.now.text.items t.seen.now.text.items (row_lines system allowed how asked past row) taken
     said past s t row taken k up takes =
         let e : s.system.now ≡ system = ap (λ b. b.now) k.system_is in
         let a : s.allowed.now ≡ allowed = ap (λ b. b.now) k.allowed_is in
-        let told = takes.8 past (subst (λ sys. s.seen.now.watch ≡ watch_of sys past) (sym e) k.watch_is) up in
-        moved (λ sys flags show form. (t.seen.now.watch ≡ watch_of sys (row ∷ past))
+        let told = takes.8 past (subst (λ sys. s.seen.now.watch ≡ watches_of sys past) (sym e) k.watch_is) up in
+        moved (λ sys flags show form. (taken ≡ true → t.seen.now.watch ≡ watches_of sys (row ∷ past))
         × (t.seen.now.counts ≡ counted_at sys flags past row s.seen.now.counts)
-        × ((horizon : ℕ) → s.seen.now.table ≡ kept_table show sys horizon past → t.seen.now.table ≡ kept_table show sys horizon (row ∷ past))
-        × TakesLine (contents s.lines.target.now) (contents t.lines.target.now) s.seen.now.text.items t.seen.now.text.items (told_at sys flags form show past row) taken)
+        × ((horizon : ℕ) → s.seen.now.table ≡ kept_table show sys horizon past → taken ≡ true → t.seen.now.table ≡ kept_table show sys horizon (row ∷ past))
+        × TakesLine (contents s.lines.target.now) (contents t.lines.target.now) s.seen.now.text.items t.seen.now.text.items (row_lines sys flags form show past row) taken)
         _ _ _ _ _ _ _ _ e a k.show_is k.format_is told
 
     step : (past : List Row) (s t : Finder W P) (row : Row) → IsAfter past s → UpTo row.moment past → Takes s row true t →
         IsAfter (row ∷ past) t
-        × AppendsBefore (contents s.lines.target.now) (contents t.lines.target.now) (s.seen.now.text.items ++ told_at system allowed how asked past row) t.seen.now.text.items
+        × AppendsBefore (contents s.lines.target.now) (contents t.lines.target.now) (s.seen.now.text.items ++ row_lines system allowed how asked past row) t.seen.now.text.items
     step past s t row k up takes =
         let told = said past s t row true k up takes in (
           record {
@@ -102,16 +102,16 @@ module _ {W P : Type 0} (contents : W → Option (List ℕ)) (failed : W → Boo
             system_is = takes.4 ∙ k.system_is;
             allowed_is = takes.5 ∙ k.allowed_is;
             working = takes.6 refl ∙ k.working;
-            watch_is = told.0;
+            watch_is = told.0 refl;
             counts_are = told.1 ∙ ap (counted_at system allowed past row) k.counts_are;
-            table_is = told.2 horizon k.table_is;
+            table_is = told.2 horizon k.table_is refl;
           },
           told.3,
         )
 
     refuse : (past : List Row) (s t : Finder W P) (row : Row) → IsAfter past s → UpTo row.moment past → Takes s row false t →
         HasRefused t
-        × AppendsPrefix (contents s.lines.target.now) (contents t.lines.target.now) (s.seen.now.text.items ++ told_at system allowed how asked past row)
+        × AppendsPrefix (contents s.lines.target.now) (contents t.lines.target.now) (s.seen.now.text.items ++ row_lines system allowed how asked past row)
     refuse past s t row k up takes =
         let told = said past s t row false k up takes in (
           record { target_is = takes.0 ∙ k.target_is; failed_is = takes.7 refl ∙ ap (failed_after t.lines.is_out_of_memory) k.working },
@@ -120,7 +120,7 @@ module _ {W P : Type 0} (contents : W → Option (List ℕ)) (failed : W → Boo
 
     -- at first the first line waits, and all counts are 0
     module _ (last : Finder W P) (rows : List Row) (order : InOrder [] rows)
-        (headed : first.seen.now.text.items ≡ head_text how asked) (watch_is : first.seen.now.watch ≡ watch_of system []) (none : first.seen.now.counts ≡ no_counts)
+        (headed : first.seen.now.text.items ≡ head_text how asked system) (watch_is : first.seen.now.watch ≡ watches_of system []) (none : first.seen.now.counts ≡ no_counts)
         (table_is : first.seen.now.table ≡ kept_table asked system horizon []) where
       begun : first.seen.now.counts ≡ counts_so_far system allowed []
       begun = none
@@ -128,14 +128,14 @@ module _ {W P : Type 0} (contents : W → Option (List ℕ)) (failed : W → Boo
       abbrev before-rows : IsAfter [] first
       before-rows = record { target_is = refl; seen_is = refl; show_is = refl; format_is = refl; system_is = refl; allowed_is = refl; working = refl; watch_is = watch_is; counts_are = begun; table_is = table_is }
 
-      text-is : first.seen.now.text.items ++ lines_in system allowed how asked [] rows ≡ rows_text system allowed how asked rows
-      text-is = ap (λ l. l ++ lines_in system allowed how asked [] rows) headed
+      text-is : first.seen.now.text.items ++ lines_of (row_lines system allowed how asked) [] rows ≡ rows_text system allowed how asked rows
+      text-is = ap (λ l. l ++ lines_of (row_lines system allowed how asked) [] rows) headed
 
       pub rows-given : Given Takes first rows last →
           IsAfter (past_of [] rows) last × (last.seen.now.counts ≡ counts_in system allowed [] rows no_counts)
           × AppendsBefore (contents first.lines.target.now) (contents last.lines.target.now) (rows_text system allowed how asked rows) last.seen.now.text.items
       rows-given given =
-          let ended = given-tells Takes (λ f. contents f.lines.target.now) (λ f. f.seen.now.text.items) (told_at system allowed how asked) IsAfter HasRefused step refuse
+          let ended = given-tells Takes (λ f. contents f.lines.target.now) (λ f. f.seen.now.text.items) (row_lines system allowed how asked) IsAfter HasRefused step refuse
           [] first last rows before-rows order given in (
             ended.0,
             ended.0.counts_are ∙ counts-so-far system allowed [] rows,
@@ -145,7 +145,7 @@ module _ {W P : Type 0} (contents : W → Option (List ℕ)) (failed : W → Boo
       pub rows-until : GivenUntil Takes first rows last →
           HasRefused last × AppendsPrefix (contents first.lines.target.now) (contents last.lines.target.now) (rows_text system allowed how asked rows)
       rows-until given =
-          let ended = until-tells Takes (λ f. contents f.lines.target.now) (λ f. f.seen.now.text.items) (told_at system allowed how asked) IsAfter HasRefused step refuse
+          let ended = until-tells Takes (λ f. contents f.lines.target.now) (λ f. f.seen.now.text.items) (row_lines system allowed how asked) IsAfter HasRefused step refuse
           [] first last rows before-rows order given in
           (ended.0, subst (AppendsPrefix (contents first.lines.target.now) (contents last.lines.target.now)) text-is ended.1)
 
@@ -153,6 +153,6 @@ module _ {W P : Type 0} (contents : W → Option (List ℕ)) (failed : W → Boo
           ((past : List Row) × IsAfter past last)
           × AppendsPrefix (contents first.lines.target.now) (contents last.lines.target.now) (rows_text system allowed how asked rows)
       rows-some given =
-          let ended = some-tells Takes (λ f. contents f.lines.target.now) (λ f. f.seen.now.text.items) (told_at system allowed how asked) IsAfter HasRefused step refuse
+          let ended = some-tells Takes (λ f. contents f.lines.target.now) (λ f. f.seen.now.text.items) (row_lines system allowed how asked) IsAfter HasRefused step refuse
           [] first last rows before-rows order given in
           (ended.0, subst (AppendsPrefix (contents first.lines.target.now) (contents last.lines.target.now)) text-is ended.1)

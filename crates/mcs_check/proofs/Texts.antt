@@ -1,5 +1,5 @@
 -- The text of a check: what rows tell, and then the rest.
-use Rattle.std.proofs.Common.{◌≡◌, ◌∙◌, ◌++◌, [], ℕ, Bool, List, length, flat_map, ap, sym, append_assoc, append-nil}
+use Rattle.std.proofs.Common.{◌≡◌, ◌∙◌, ◌++◌, [], ℕ, Bool, List, None, length, refl, ap, sym, append_assoc, append-nil}
 use Rattle.mcs_system.specs.System.{System}
 use Rattle.mcs_core.specs.Clock.{schedule}
 use Rattle.mcs_verdict.specs.Findings.{found_at_end, found_in, past_of}
@@ -7,67 +7,65 @@ use Rattle.mcs_check_words.specs.declared.asked.Format.{Format}
 use Rattle.mcs_check_words.specs.declared.asked.Show.{Show}
 use Rattle.mcs_check_words.specs.declared.asked.Show.TheVariants as show
 use Rattle.mcs_hints.specs.Hints.{hints_of}
+use Rattle.mcs_chain.specs.declared.finding.Found.{Found as ChainFound}
+use Rattle.mcs_chain.specs.Found.{all_unanswered}
+use Rattle.mcs_chain.specs.Watch.{all_due, all_slow_many, watch_of as chains_of}
+use Rattle.mcs_chain.proofs.Slow.{slow-in-all}
+use Rattle.mcs_check.specs.declared.all_found.AllFound.{AllFound}
+use Rattle.mcs_check.specs.declared.checked.Checked.{Checked}
 use Rattle.mcs_check.specs.declared.counts.Counts.{Counts}
 use Rattle.mcs_check.specs.Allowed.{flags_of}
-use Rattle.mcs_check.specs.Check.{check_text, counts_of, figures_lines, findings_lines, shown_lines}
+use Rattle.mcs_check.specs.Check.{check_text, counts_of, figures_lines, shown_lines, thread_counts_of}
 use Rattle.mcs_check.specs.Counts.{no_counts, with_hints}
-use Rattle.mcs_check.specs.Formats.{counts_line, head_text, hint_line}
-use Rattle.mcs_check.specs.Told.{counts_with, found_lines, merged_in}
-use Rattle.mcs_check.specs.stored.Rows.{counts_found, counts_in, lines_in, rest_lines, rows_text, tabled_lines}
-use Rattle.mcs_check.proofs.Told.{both-are, jobs-are, lines-append, lines-are, no-lines}
+use Rattle.mcs_check.specs.Formats.{counts_line, head_text}
+use Rattle.mcs_check.specs.Told.{counts_with, merged_in}
+use Rattle.mcs_check.specs.stored.AllFound.{checked_of}
+use Rattle.mcs_check.specs.stored.Rows.{counts_found, counts_in, ends_lines, lines_of, rest_lines, row_lines, rows_text, tabled_lines}
+use Rattle.mcs_check.proofs.Told.{all-jobs, both-rows, jobs-are, no-rows}
 use Rattle.mcs_check.proofs.Sums.{none-within, rows-within, sums-all, sums-found, sums-rows}
 
 -- what is shown after the last row
 abbrev pub rest_of : Format → Show → List (List ℕ) → System → ℕ → List ℕ
 rest_of how asked names system horizon =
-    rest_lines how asked system (flags_of names system.notes) (found_at_end system (past_of [] (schedule system horizon)) horizon 0 system.threads)
+    rest_lines how asked system (flags_of names system.notes) (all_due None 0 (chains_of system (past_of [] (schedule system horizon))).each)
+    (found_at_end system (past_of [] (schedule system horizon)) horizon 0 system.threads)
+    (all_unanswered system (past_of [] (schedule system horizon)) horizon 0 system.chains)
     ++ tabled_lines how asked system horizon (past_of [] (schedule system horizon))
 
 -- and then the counts
-abbrev pub rest_text : Format → Show → List (List ℕ) → System → ℕ → Counts → List ℕ
+abbrev pub rest_text : Format → Show → List (List ℕ) → System → ℕ → Checked → List ℕ
 rest_text how asked names system horizon counts = rest_of how asked names system horizon ++ counts_line how counts
 
 module _ (names : List (List ℕ)) (system : System) (horizon : ℕ) where
   abbrev flags : List Bool
   flags = flags_of names system.notes
 
-  findings-are : (how : Format)
-      → lines_in system flags how show.Findings [] (schedule system horizon)
-      ++ rest_lines how show.Findings system flags (found_at_end system (past_of [] (schedule system horizon)) horizon 0 system.threads)
-      ≡ findings_lines names system horizon how
-  findings-are how =
-      let rows = found_in system [] (schedule system horizon) in
-      let ends = found_at_end system (past_of [] (schedule system horizon)) horizon 0 system.threads in
-      let hinted = flat_map (hint_line how system) (hints_of system) in
-      ap (λ l. l ++ (found_lines how system flags ends ++ hinted)) (lines-are how system flags [] (schedule system horizon))
-      ∙ sym (append_assoc (found_lines how system flags rows) (found_lines how system flags ends) hinted)
-      ∙ ap (λ l. l ++ hinted) (sym (lines-append how system flags rows ends))
-
-  shown-is : (how : Format) (asked : Show) → lines_in system flags how asked [] (schedule system horizon) ++ rest_of how asked names system horizon ≡ shown_lines names system horizon how asked
-  shown-is how show.Findings = ap (λ l. lines_in system flags how show.Findings [] (schedule system horizon) ++ l) (append-nil _) ∙ findings-are how
-  shown-is how show.Jobs = append-nil _ ∙ jobs-are how system flags [] (schedule system horizon)
-  shown-is how show.Table = ap (λ l. l ++ rest_of how show.Table names system horizon) (no-lines how system flags [] (schedule system horizon))
+  shown-is : (how : Format) (asked : Show) → lines_of (row_lines system flags how asked) [] (schedule system horizon) ++ rest_of how asked names system horizon ≡ shown_lines names system horizon how asked
+  shown-is how show.Findings = ap (λ l. lines_of (row_lines system flags how show.Findings) [] (schedule system horizon) ++ l) (append-nil _)
+  shown-is how show.Jobs = append-nil _ ∙ all-jobs how system flags [] (schedule system horizon) ∙ jobs-are how system flags [] (schedule system horizon)
+  shown-is how show.Table = ap (λ l. l ++ rest_of how show.Table names system horizon) (no-rows how system flags [] (schedule system horizon))
   shown-is how show.Both =
-      let rows = lines_in system flags how show.Findings [] (schedule system horizon) in
-      let ends = rest_lines how show.Findings system flags (found_at_end system (past_of [] (schedule system horizon)) horizon 0 system.threads) in
+      let rows = lines_of (row_lines system flags how show.Findings) [] (schedule system horizon) in
+      let past = past_of [] (schedule system horizon) in
+      let ends = ends_lines how system flags (all_due None 0 (chains_of system past).each) (found_at_end system past horizon 0 system.threads) (all_unanswered system past horizon 0 system.chains) in
       let figures = figures_lines names system horizon how in
-      ap (λ l. l ++ (ends ++ figures)) (both-are how system flags [] (schedule system horizon))
-      ∙ sym (append_assoc rows ends figures) ∙ ap (λ l. l ++ figures) (findings-are how)
+      ap (λ l. l ++ (ends ++ figures)) (both-rows how system flags [] (schedule system horizon))
+      ∙ sym (append_assoc rows ends figures)
 
   pub text-is : (how : Format) (asked : Show)
       → rows_text system flags how asked (schedule system horizon) ++ rest_text how asked names system horizon (counts_of names system horizon)
       ≡ check_text names system horizon how asked
   text-is how asked =
-      let lines = lines_in system flags how asked [] (schedule system horizon) in
+      let lines = lines_of (row_lines system flags how asked) [] (schedule system horizon) in
       let rest = rest_of how asked names system horizon in
       let counted = counts_line how (counts_of names system horizon) in
-      append_assoc (head_text how asked) lines (rest ++ counted)
-      ∙ ap (λ l. head_text how asked ++ l) (sym (append_assoc lines rest counted) ∙ ap (λ l. l ++ counted) (shown-is how asked))
-      ∙ sym (append_assoc (head_text how asked) (shown_lines names system horizon how asked) counted)
+      append_assoc (head_text how asked system) lines (rest ++ counted)
+      ∙ ap (λ l. head_text how asked system ++ l) (sym (append_assoc lines rest counted) ∙ ap (λ l. l ++ counted) (shown-is how asked))
+      ∙ sym (append_assoc (head_text how asked system) (shown_lines names system horizon how asked) counted)
 
   pub counts-are : with_hints (length (hints_of system))
       (counts_found flags (found_at_end system (past_of [] (schedule system horizon)) horizon 0 system.threads)
-      (counts_in system flags [] (schedule system horizon) no_counts)) ≡ counts_of names system horizon
+      (counts_in system flags [] (schedule system horizon) no_counts)) ≡ thread_counts_of names system horizon
   counts-are =
       let rows = schedule system horizon in
       let ends = found_at_end system (past_of [] rows) horizon 0 system.threads in
@@ -76,16 +74,21 @@ module _ (names : List (List ℕ)) (system : System) (horizon : ℕ) where
       ∙ ap (λ c. counts_with flags ends 0 0 c) (sums-rows system flags [] rows no_counts none-within))
       ∙ sym (sums-all flags (found_in system [] rows) ends (merged_in system [] rows) (length (hints_of system)) no_counts)
 
-  -- the text after the lines of rows, with the flags, the system and the counts that the code has
-  pub behind : (how : Format) (asked : Show) (text before : List ℕ) (allowed : List Bool) (own : System) (counts : Counts)
-      → allowed ≡ flags → own ≡ system → counts ≡ counts_of names system horizon
-      → text ≡ before ++ rest_lines how asked own allowed (found_at_end own (past_of [] (schedule system horizon)) horizon 0 own.threads)
-      ++ tabled_lines how asked own horizon (past_of [] (schedule system horizon)) ++ counts_line how counts
+  -- the text after the lines of rows, with the flags, the system, what is found of chains, and the counts that the code has
+  pub behind : (how : Format) (asked : Show) (text before : List ℕ) (allowed : List Bool) (own : System) (checked : Checked)
+      (due unanswered : List ChainFound)
+      → allowed ≡ flags → own ≡ system → checked ≡ counts_of names system horizon
+      → due ≡ all_due None 0 (chains_of system (past_of [] (schedule system horizon))).each
+      → unanswered ≡ all_unanswered system (past_of [] (schedule system horizon)) horizon 0 system.chains
+      → text ≡ before ++ rest_lines how asked own allowed due (found_at_end own (past_of [] (schedule system horizon)) horizon 0 own.threads) unanswered
+      ++ tabled_lines how asked own horizon (past_of [] (schedule system horizon)) ++ counts_line how checked
       → text ≡ before ++ rest_text how asked names system horizon (counts_of names system horizon)
-  behind how asked text before allowed own counts flags_are system_is counts_are put =
-      let mine = rw (flags_are, system_is, counts_are) at put in
-      let ends = rest_lines how asked system flags (found_at_end system (past_of [] (schedule system horizon)) horizon 0 system.threads) in
-      let figures = tabled_lines how asked system horizon (past_of [] (schedule system horizon)) in
+  behind how asked text before allowed own checked due unanswered flags_are system_is checked_is due_are unanswered_are put =
+      let mine = rw (flags_are, system_is, checked_is, due_are, unanswered_are) at put in
+      let past = past_of [] (schedule system horizon) in
+      let ends = rest_lines how asked system flags (all_due None 0 (chains_of system past).each) (found_at_end system past horizon 0 system.threads)
+      (all_unanswered system past horizon 0 system.chains) in
+      let figures = tabled_lines how asked system horizon past in
       mine ∙ ap (λ l. l ++ counts_line how (counts_of names system horizon)) (append_assoc before ends figures)
       ∙ append_assoc before (rest_of how asked names system horizon) (counts_line how (counts_of names system horizon))
 
@@ -93,5 +96,14 @@ module _ (names : List (List ℕ)) (system : System) (horizon : ℕ) where
   pub counts-put : (allowed : List Bool) (own : System) (kept counts : Counts) → allowed ≡ flags → own ≡ system
       → kept ≡ counts_in system flags [] (schedule system horizon) no_counts
       → counts ≡ with_hints (length (hints_of own)) (counts_found allowed (found_at_end own (past_of [] (schedule system horizon)) horizon 0 own.threads) kept)
-      → counts ≡ counts_of names system horizon
+      → counts ≡ thread_counts_of names system horizon
   counts-put allowed own kept counts flags_are system_is kept_are put = rw (flags_are, system_is, kept_are) at put ∙ counts-are
+
+  -- with those of chains
+  pub checked-put : (own : System) (found : AllFound) → own ≡ system → found.counts ≡ thread_counts_of names system horizon
+      → found.slow ≡ all_slow_many (chains_of system (past_of [] (schedule system horizon))).each
+      → found.unanswered.items ≡ all_unanswered system (past_of [] (schedule system horizon)) horizon 0 system.chains
+      → checked_of own found ≡ counts_of names system horizon
+  checked-put own found system_is counts_are slow_is unanswered_are =
+      let many = slow_is ∙ slow-in-all system (past_of [] (schedule system horizon)) in
+      ap (λ s. checked_of s found) system_is ∙ rw (counts_are, many, unanswered_are) refl

@@ -12,13 +12,14 @@ use Rattle.mcs_verdict.specs.Jobs.{job_of, jobs_in}
 use Rattle.mcs_check_words.specs.declared.asked.Format.{Format}
 use Rattle.mcs_check_words.specs.declared.asked.Show.{Show}
 use Rattle.mcs_check_words.specs.declared.asked.Show.TheVariants as show
-use Rattle.mcs_table.specs.Table.{Table, table_of}
+use Rattle.mcs_chain.specs.Watch.{all_due, all_slow_many, watch_of as chains_of}
+use Rattle.mcs_chain.specs.Found.{all_unanswered}
+use Rattle.mcs_check.specs.declared.seen.Tables.{Tables}
 use Rattle.mcs_table.proofs.Ended.{length-accounts}
 use Rattle.mcs_check.specs.Counts.{is_allowed, told_of}
 use Rattle.mcs_check.specs.Formats.{found_line, job_line}
 use Rattle.mcs_check.specs.Told.{found_lines, job_lines}
-use Rattle.mcs_check.specs.Figures.{table_lines}
-use Rattle.mcs_check.specs.stored.Rows.{kept_table, lines_in, tabled_lines, shown_found, shown_job, told_at, told_line}
+use Rattle.mcs_check.specs.stored.Rows.{due_lines, figures_of_all, kept_table, lines_in, lines_of, row_lines, tables_of, tabled_lines, shown_found, shown_job, told_at, told_line}
 
 module _ (how : Format) (system : System) (allowed : List Bool) where
   append-one : (x : Found) (xs ys : List Found) (b : Bool) → is_allowed allowed x.finding ≡ b
@@ -49,13 +50,41 @@ module _ (how : Format) (system : System) (allowed : List Bool) where
       ∙ ap (λ l. l ++ found_lines how system allowed (found_in system (r ∷ past) rows)) (sym first)
       ∙ sym (lines-append (found_at r.moment r.core (finding system past r.moment r.what)) (found_in system (r ∷ past) rows))
 
-  pub no-lines : (past rows : List Row) → lines_in system allowed how show.Table past rows ≡ []
-  no-lines past [] = refl
-  no-lines past (r ∷ rows) = no-lines (r ∷ past) rows
+  -- with figures alone, rows have no lines
+  pub no-rows : (past rows : List Row) → lines_of (row_lines system allowed how show.Table) past rows ≡ []
+  unfolding row_lines
+  no-rows past [] = refl
+  no-rows past (r ∷ rows) = no-rows (r ∷ past) rows
 
-  pub both-are : (past rows : List Row) → lines_in system allowed how show.Both past rows ≡ lines_in system allowed how show.Findings past rows
-  both-are past [] = refl
-  both-are past (r ∷ rows) = ap (λ l. told_at system allowed how show.Findings past r ++ l) (both-are (r ∷ past) rows)
+  pub both-rows : (past rows : List Row) → lines_of (row_lines system allowed how show.Both) past rows ≡ lines_of (row_lines system allowed how show.Findings) past rows
+  unfolding row_lines
+  both-rows past [] = refl
+  both-rows past (r ∷ rows) = ap (λ l. row_lines system allowed how show.Findings past r ++ l) (both-rows (r ∷ past) rows)
+
+  -- jobs have no lines of chains
+  pub all-jobs : (past rows : List Row) → lines_of (row_lines system allowed how show.Jobs) past rows ≡ lines_in system allowed how show.Jobs past rows
+  unfolding row_lines
+  all-jobs past [] = refl
+  all-jobs past (r ∷ rows) = ap (λ l. told_at system allowed how show.Jobs past r ++ l) (all-jobs (r ∷ past) rows)
+
+  pub row-is : (asked : Show) (past : List Row) (r : Row)
+      → due_lines how system asked (all_due (Some r.moment) 0 (chains_of system past).each) ++ told_at system allowed how asked past r ≡ row_lines system allowed how asked past r
+  unfolding row_lines
+  row-is asked past r = refl
+
+  -- and nothing has if there is no chain
+  due-none : (asked : Show) (before : Option ℕ) (past : List Row) → system.chains ≡ [] → due_lines how system asked (all_due before 0 (chains_of system past).each) ≡ []
+  due-none show.Findings before past none = rw none refl
+  due-none show.Jobs before past none = refl
+  due-none show.Table before past none = refl
+  due-none show.Both before past none = rw none refl
+
+  pub alone-rows : (asked : Show) (past rows : List Row) → system.chains ≡ [] → lines_of (row_lines system allowed how asked) past rows ≡ lines_in system allowed how asked past rows
+  unfolding row_lines
+  alone-rows asked past [] none = refl
+  alone-rows asked past (r ∷ rows) none =
+      ap (λ l. (l ++ told_at system allowed how asked past r) ++ lines_of (row_lines system allowed how asked) (r ∷ past) rows) (due-none asked (Some r.moment) past none)
+      ∙ ap (λ l. told_at system allowed how asked past r ++ l) (alone-rows asked (r ∷ past) rows none)
 
   one-job : (j : Option Job) → job_lines how system (option_to_list j) ≡ told_line how system (shown_job j)
   one-job None = refl
@@ -72,8 +101,8 @@ module _ (how : Format) (system : System) (allowed : List Bool) where
 
 module _ (how : Format) (system : System) (horizon : ℕ) (past : List Row) where
   -- if a table is kept, the figures are shown ..
-  pub tabled-some : (asked : Show) (table : Table) → Some table ≡ kept_table asked system horizon past
-      → (table ≡ table_of system horizon past) × (table_lines how system horizon past ≡ tabled_lines how asked system horizon past)
+  pub tabled-some : (asked : Show) (table : Tables) → Some table ≡ kept_table asked system horizon past
+      → (table ≡ tables_of system horizon past) × (figures_of_all how system horizon past ≡ tabled_lines how asked system horizon past)
   tabled-some show.Findings table is = cc
   tabled-some show.Jobs table is = cc
   tabled-some show.Table table is = (cc, refl)
@@ -87,8 +116,19 @@ module _ (how : Format) (system : System) (horizon : ℕ) (past : List Row) wher
   tabled-none show.Both is = cc
 
   -- one account for each thread is kept
-  pub kept-long : (asked : Show) → IfSome (kept_table asked system horizon past) (λ (table : Table). length table.accounts ≡ length system.threads)
+  pub kept-long : (asked : Show) → IfSome (kept_table asked system horizon past) (λ (table : Tables). length table.threads.accounts ≡ length system.threads)
   kept-long show.Findings = tt
   kept-long show.Jobs = tt
   kept-long show.Table = length-accounts system horizon 0 system.threads past
   kept-long show.Both = length-accounts system horizon 0 system.threads past
+
+-- if there is no chain, nothing is found of chains
+module _ (system : System) (past : List Row) where
+  pub no-due : system.chains ≡ [] → all_due None 0 (chains_of system past).each ≡ []
+  no-due none = rw none refl
+
+  pub no-slow : system.chains ≡ [] → all_slow_many (chains_of system past).each ≡ 0
+  no-slow none = rw none refl
+
+  pub no-unanswered : (horizon : ℕ) → system.chains ≡ [] → all_unanswered system past horizon 0 system.chains ≡ []
+  no-unanswered horizon none = ap (all_unanswered system past horizon 0) none

@@ -22,6 +22,7 @@ use Rattle.mcs_check.specs.Fields.{found_fields, job_fields}
 use Rattle.mcs_check.specs.Formats.{column_names, found_line, hint_line}
 use Rattle.mcs_check.specs.Lines.{found_text, hint_text, job_text}
 use Rattle.mcs_check.specs.Told.{counts_with, found_lines}
+use Rattle.mcs_check.specs.stored.Rows.{row_lines}
 
 abbrev note : List ℕ → NotePart
 note name = record { name = name; core = 0; word = 0 }
@@ -61,19 +62,19 @@ found moment core finding = record { moment = moment; core = core; finding = fin
 whole_text : check_text [] (system 10) 20 format.Text show.Findings
     ≡ codes "11 0 miss A 1 11 deadline 10 activated 0 queued 0 ready 0 running 5 throttled 6 blocked 0 woken 0\n"
     ++ codes "missed 1 overdue 0 lost 0 never 0 merged 0 allowed 0 hints 0\n"
-unfolding system digits
+unfolding row_lines system digits
 whole_text = refl
 
 -- .. and with one of 11 it is in time
 in_time : check_text [] (system 11) 20 format.Text show.Findings ≡ codes "missed 0 overdue 0 lost 0 never 0 merged 0 allowed 0 hints 0\n"
-unfolding system digits
+unfolding row_lines system digits
 in_time = refl
 
 -- at horizon 10 it is not ended, its deadline ago
 not_ended : check_text [] (system 10) 10 format.Text show.Findings
     ≡ codes "10 0 overdue A deadline 10 activated 0 queued 0 ready 0 running 4 throttled 6 blocked 0 woken 0\n"
     ++ codes "missed 0 overdue 1 lost 0 never 0 merged 0 allowed 0 hints 0\n"
-unfolding system digits
+unfolding row_lines system digits
 not_ended = refl
 
 -- as a job the round is shown whether it is in time or not, and is counted as before
@@ -98,7 +99,7 @@ no_job = refl
 as_rows : check_text [] (system 10) 20 format.Csv show.Findings
     ≡ codes "moment,core,kind,thread,note,word,number,response,deadline,activated,queued,ready,running,throttled,blocked,woken\n"
     ++ codes "11,0,miss,A,,,1,11,10,0,0,0,5,6,0,0\n"
-unfolding system digits
+unfolding row_lines system digits
 as_rows = refl
 
 job_rows : check_text [] (system 10) 20 format.Csv show.Jobs
@@ -111,7 +112,7 @@ as_objects : check_text [] (system 10) 10 format.Json show.Findings
     ≡ codes "{\"moment\":10,\"core\":0,\"kind\":\"overdue\",\"thread\":\"A\",\"deadline\":10,\"activated\":0,\"queued\":0,\"ready\":0,"
     ++ codes "\"running\":4,\"throttled\":6,\"blocked\":0,\"woken\":0}\n"
     ++ codes "{\"kind\":\"counts\",\"missed\":0,\"overdue\":1,\"lost\":0,\"never\":0,\"merged\":0,\"allowed\":0,\"hints\":0}\n"
-unfolding system digits serde_json_on_literals
+unfolding row_lines system digits serde_json_on_literals
 as_objects = refl
 
 lost_row : found_line format.Csv (system 0) (found 12 3 (Lost 1 6)) ≡ codes "12,3,lost,,tock,6,,,,,,,,,,\n"

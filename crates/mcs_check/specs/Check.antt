@@ -1,12 +1,13 @@
 -- The bytes that a check reads and writes.
 use Rattle.std.specs.Prelude.{Result, Ok, Err, Option, Some, None, ◌≡◌, ◌≢◌, ◌⊎◌, List, [], ℕ, Bool, true, false, ◌++◌, length, map, flat_map, string_bytes}
 use Rattle.std.specs.Io.KnownBytes.{Appends, Keeps}
+use Rattle.mcs_ticks.specs.declared.row.Row.{Row}
 use Rattle.mcs_system.specs.System.{System}
 use Rattle.mcs_core.specs.Clock.{schedule}
 use Rattle.mcs_load.specs.Memory.{no_memory}
 use Rattle.mcs_hints.specs.Hints.{hints_of}
 use Rattle.mcs_verdict.specs.declared.finding.Found.{Found}
-use Rattle.mcs_verdict.specs.Findings.{findings, past_of}
+use Rattle.mcs_verdict.specs.Findings.{findings, found_at_end, past_of}
 use Rattle.mcs_verdict.specs.Jobs.{jobs_in}
 use Rattle.mcs_cli.specs.Devices.{AppendsPrefix}
 use Rattle.mcs_cli.specs.Run.{IsFaultOfInput, IsRead, IsTooLong}
@@ -15,34 +16,50 @@ use Rattle.mcs_check_words.specs.declared.asked.Format.{Format}
 use Rattle.mcs_check_words.specs.declared.asked.Options.{Options}
 use Rattle.mcs_check_words.specs.declared.asked.Show.{Show}
 use Rattle.mcs_check_words.specs.declared.asked.Show.TheVariants as show
+use Rattle.mcs_chain.specs.Figures.{all_figures}
+use Rattle.mcs_chain.specs.Found.{all_unanswered}
+use Rattle.mcs_chain.specs.Watch.{all_due, watch_of as chains_of}
+use Rattle.mcs_check.specs.declared.checked.Checked.{Checked}
 use Rattle.mcs_check.specs.declared.counts.Counts.{Counts}
 use Rattle.mcs_check.specs.declared.fault.CheckFault.{CheckFault}
 use Rattle.mcs_check.specs.declared.fault.CheckFault.TheVariants.{Run, Unknown, Mixed}
 use Rattle.mcs_check.specs.Allowed.{IsUnknownFault, first_unknown, flags_of, notifications}
+use Rattle.mcs_check.specs.Chains.{chain_lines}
+use Rattle.mcs_check.specs.Checked.{chain_counts}
 use Rattle.mcs_check.specs.Counts.{no_counts}
-use Rattle.mcs_check.specs.Formats.{counts_line, head_text, hint_line, is_mixed}
+use Rattle.mcs_check.specs.Formats.{counts_line, head_text, is_mixed}
 use Rattle.mcs_check.specs.Figures.{table_lines}
-use Rattle.mcs_check.specs.Told.{counts_with, found_lines, job_lines, merged_in}
+use Rattle.mcs_check.specs.Told.{counts_with, job_lines, merged_in}
+use Rattle.mcs_check.specs.stored.Rows.{ends_lines, lines_of, row_lines}
 
 -- the findings in the schedule of the one clock over all cores
 abbrev pub found_of : System → ℕ → List Found
 found_of system horizon = findings system horizon (schedule system horizon)
 
 module _ (names : List (List ℕ)) (system : System) (horizon : ℕ) where
+  -- the rows of the run, the latest first
+  abbrev pub all_rows : List Row
+  all_rows = past_of [] (schedule system horizon)
+
   -- the counts, if these notifications may lose signals
-  abbrev pub counts_of : Counts
-  counts_of =
+  abbrev pub thread_counts_of : Counts
+  thread_counts_of =
       counts_with (flags_of names system.notes) (found_of system horizon)
       (merged_in system [] (schedule system horizon)) (length (hints_of system)) no_counts
 
-  -- the lines of findings and hints
+  abbrev pub counts_of : Checked
+  counts_of = record { counts = thread_counts_of; chains = chain_counts system all_rows horizon }
+
+  -- the lines of findings and hints: those of the rows, and those at the horizon
   abbrev pub findings_lines : Format → List ℕ
   findings_lines how =
-      found_lines how system (flags_of names system.notes) (found_of system horizon) ++ flat_map (hint_line how system) (hints_of system)
+      lines_of (row_lines system (flags_of names system.notes) how show.Findings) [] (schedule system horizon)
+      ++ ends_lines how system (flags_of names system.notes) (all_due None 0 (chains_of system all_rows).each)
+      (found_at_end system all_rows horizon 0 system.threads) (all_unanswered system all_rows horizon 0 system.chains)
 
   -- the lines of the figures
   abbrev pub figures_lines : Format → List ℕ
-  figures_lines how = table_lines how system horizon (past_of [] (schedule system horizon))
+  figures_lines how = table_lines how system horizon all_rows ++ chain_lines how system 0 (all_figures horizon system all_rows)
 
   -- the lines that are asked for: those above, or those of the jobs
   abbrev pub shown_lines : Format → Show → List ℕ
@@ -53,7 +70,7 @@ module _ (names : List (List ℕ)) (system : System) (horizon : ℕ) where
 
   -- the first line if there is one, the lines that are asked for, and the line of the counts
   abbrev pub check_text : Format → Show → List ℕ
-  check_text how asked = head_text how asked ++ shown_lines how asked ++ counts_line how counts_of
+  check_text how asked = head_text how asked system ++ shown_lines how asked ++ counts_line how counts_of
 
 -- the notifications at which lost signals are allowed, by name
 abbrev pub names_of : Options → List (List ℕ)
@@ -67,12 +84,12 @@ module _ (read_old read_new : Option (List ℕ)) (given_old given_new : ℕ) (re
   module _ (write_old write_new : Option (List ℕ)) (write_failed : Bool) (options : Options) where
     -- The format can show what is asked for, the names are known, and exactly the text of the
     -- system that was read was written.
-    abbrev pub IsDone : Counts → Type 0
-    IsDone counts = (system : System) × IsRead read_old read_new given_old given_new system
+    abbrev pub IsDone : Checked → Type 0
+    IsDone checked = (system : System) × IsRead read_old read_new given_old given_new system
         × (is_mixed options.format options.show ≡ false)
         × (first_unknown (notifications system) (names_of options) ≡ None)
         × Appends write_old write_new (check_text (names_of options) system options.horizon options.format options.show)
-        × (counts ≡ counts_of (names_of options) system options.horizon)
+        × (checked ≡ counts_of (names_of options) system options.horizon)
 
     -- a prefix of that text was written
     abbrev pub IsBegun : Type 0
@@ -98,6 +115,6 @@ module _ (read_old read_new : Option (List ℕ)) (given_old given_new : ℕ) (re
     IsFault (Unknown name nearest) = Keeps write_old write_new × IsUnknown (Unknown name nearest)
 
     -- what a check has read and written, by its result
-    abbrev pub IsCheck : Result Counts CheckFault → Type 0
-    IsCheck (Ok counts) = IsDone counts
+    abbrev pub IsCheck : Result Checked CheckFault → Type 0
+    IsCheck (Ok checked) = IsDone checked
     IsCheck (Err f) = IsFault f

@@ -1,5 +1,5 @@
 -- Findings, jobs, counts and hints as named values.
-use Rattle.std.specs.Prelude.{ℕ, List, [], ◌∷◌, codes}
+use Rattle.std.specs.Prelude.{ℕ, List, [], ◌∷◌, ◌++◌, codes, Option, Some, None}
 use Rattle.mcs_fields.specs.Fields.{Text, Value, amount, empty, name}
 use Rattle.mcs_system.specs.System.{System, core_of, thread_part}
 use Rattle.mcs_text.specs.Text.{context_name, note_name, thread_name}
@@ -10,6 +10,8 @@ use Rattle.mcs_verdict.specs.declared.finding.Finding.TheVariants.{Miss, Overdue
 use Rattle.mcs_verdict.specs.declared.finding.Found.{Found}
 use Rattle.mcs_verdict.specs.declared.job.Job.{Job}
 use Rattle.mcs_verdict.specs.declared.standing.Stood.{Stood}
+use Rattle.mcs_check.specs.declared.checked.ChainCounts.{ChainCounts}
+use Rattle.mcs_check.specs.declared.checked.Checked.{Checked}
 use Rattle.mcs_check.specs.declared.counts.Counts.{Counts}
 
 abbrev pub Fields : Type 0
@@ -92,6 +94,13 @@ counts_fields counts =
     (codes "kind", name (codes "counts")) ∷ (codes "missed", amount counts.missed) ∷ (codes "overdue", amount counts.overdue)
     ∷ (codes "lost", amount counts.lost) ∷ (codes "never", amount counts.never) ∷ (codes "merged", amount counts.merged)
     ∷ (codes "allowed", amount counts.allowed) ∷ (codes "hints", amount counts.hints) ∷ []
+
+abbrev pub chain_count_fields : Option ChainCounts → Fields
+chain_count_fields None = []
+chain_count_fields (Some chains) = (codes "slow", amount chains.slow) ∷ (codes "unanswered", amount chains.unanswered) ∷ []
+
+abbrev pub checked_fields : Checked → Fields
+checked_fields checked = counts_fields checked.counts ++ chain_count_fields checked.chains
 
 -- a hint
 abbrev pub hint_fields : System → Hint → Fields

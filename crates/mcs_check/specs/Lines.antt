@@ -1,5 +1,5 @@
 -- The lines of findings, jobs, counts and hints, as text.
-use Rattle.std.specs.Prelude.{ℕ, List, [], ◌∷◌, ◌++◌, codes, decimal}
+use Rattle.std.specs.Prelude.{ℕ, List, [], ◌∷◌, ◌++◌, codes, decimal, Option, Some, None}
 use Rattle.mcs_system.specs.System.{System, core_of, thread_part}
 use Rattle.mcs_text.specs.Text.{context_name, counted, line, note_name, thread_name}
 use Rattle.mcs_hints.specs.declared.hint.Hint.{Hint}
@@ -9,6 +9,8 @@ use Rattle.mcs_verdict.specs.declared.finding.Finding.TheVariants.{Miss, Overdue
 use Rattle.mcs_verdict.specs.declared.finding.Found.{Found}
 use Rattle.mcs_verdict.specs.declared.job.Job.{Job}
 use Rattle.mcs_verdict.specs.declared.standing.Stood.{Stood}
+use Rattle.mcs_check.specs.declared.checked.ChainCounts.{ChainCounts}
+use Rattle.mcs_check.specs.declared.checked.Checked.{Checked}
 use Rattle.mcs_check.specs.declared.counts.Counts.{Counts}
 
 -- how a thread stood since its round began
@@ -50,11 +52,19 @@ job_words system job = codes "job" ∷ thread_name system job.thread ∷ decimal
 abbrev pub job_text : System → Job → List ℕ
 job_text system job = line (decimal job.ended) (decimal (core_of system (thread_part system job.thread)) ∷ job_words system job)
 
+-- the counts behind the first word, and those of chains, if the file has a chain
+abbrev pub counts_words : Counts → List (List ℕ)
+counts_words counts =
+    decimal counts.missed ∷ counted ((codes "overdue", counts.overdue) ∷ (codes "lost", counts.lost)
+    ∷ (codes "never", counts.never) ∷ (codes "merged", counts.merged) ∷ (codes "allowed", counts.allowed) ∷ (codes "hints", counts.hints) ∷ [])
+
+abbrev pub chain_count_words : Option ChainCounts → List (List ℕ)
+chain_count_words None = []
+chain_count_words (Some chains) = counted ((codes "slow", chains.slow) ∷ (codes "unanswered", chains.unanswered) ∷ [])
+
 -- the line of the counts
-abbrev pub counts_text : Counts → List ℕ
-counts_text counts =
-    line (codes "missed") (decimal counts.missed ∷ counted ((codes "overdue", counts.overdue) ∷ (codes "lost", counts.lost)
-    ∷ (codes "never", counts.never) ∷ (codes "merged", counts.merged) ∷ (codes "allowed", counts.allowed) ∷ (codes "hints", counts.hints) ∷ []))
+abbrev pub checked_text : Checked → List ℕ
+checked_text checked = line (codes "missed") (counts_words checked.counts ++ chain_count_words checked.chains)
 
 -- the subject of a hint and its reason
 abbrev pub hint_words : System → Hint → List (List ℕ)

@@ -1,5 +1,6 @@
 use crate::Counts;
-use mcs_table::Table;
+use crate::seen::Tables;
+use mcs_chain::Found as ChainFound;
 use mcs_verdict::{Found, Watch};
 
 /// The findings of all rows of a run.
@@ -9,6 +10,12 @@ pub(crate) struct AllFound {
     pub(crate) counts: Counts,
     /// The findings at the horizon.
     pub(crate) unended: Vec<Found>,
+    /// The slow answers whose lines are not written yet.
+    pub(crate) due: Vec<ChainFound>,
+    /// How many slow answers there are, at most 2^64 - 1.
+    pub(crate) slow: u64,
+    /// The chains without an answer at the horizon.
+    pub(crate) unanswered: Vec<ChainFound>,
     /// The state kept for figures, if they are asked for.
     pub(crate) kept: Option<Kept>,
     /// The lines that are not written yet.
@@ -19,5 +26,5 @@ pub(crate) struct AllFound {
 #[derive(Drop)]
 pub(crate) struct Kept {
     pub(crate) watch: Watch,
-    pub(crate) table: Table,
+    pub(crate) table: Tables,
 }

@@ -1,10 +1,11 @@
 //! Findings, jobs and counts as named values.
-ghost use Rattle.std.specs.Prelude.{◌≡◌, map};
+ghost use Rattle.std.specs.Prelude.{◌≡◌, ◌++◌, Some, map};
 ghost use Rattle.mcs_fields.specs.Fields.{field_of, value_of};
-ghost use Rattle.mcs_check.specs.Fields.{counts_fields, deadline_of, found_fields, job_fields, kind_of, note_of, number_of, of_late, response_of, thread_of, word_of};
+ghost use Rattle.mcs_check.specs.Formats.{no_columns};
+ghost use Rattle.mcs_check.specs.Fields.{chain_count_fields, counts_fields, deadline_of, found_fields, job_fields, kind_of, note_of, number_of, of_late, response_of, thread_of, word_of};
 
-use crate::Counts;
 use crate::line::core_of;
+use crate::{ChainCounts, Counts};
 use mcs_fields::{Cell, Field};
 use mcs_system::System;
 use mcs_text::{note_name, thread_name};
@@ -56,6 +57,36 @@ pub(crate) fn found_fields<'s>(system: &'s System, found: &Found) -> [Field<'s>;
         ("throttled", late.throttled),
         ("blocked", late.blocked),
         ("woken", late.woken),
+    ]
+}
+
+/// The values of a finding, behind which those of chains are empty.
+pub(crate) fn wide_found_fields<'s>(system: &'s System, found: &Found) -> [Field<'s>; 20]
+    ensures { map field_of result ≡ found_fields system.now found.now ++ no_columns }
+{
+    let finding = &found.finding;
+    let late = late_values(finding);
+    [
+        ("moment", Cell::Number(found.moment.get())),
+        ("core", Cell::Number(found.core.0 as u64)),
+        ("kind", Cell::Name(kind(finding))),
+        ("thread", thread(system, finding)),
+        ("note", note(system, finding)),
+        ("word", word(finding)),
+        ("number", number(finding)),
+        ("response", response(finding)),
+        ("deadline", deadline(finding)),
+        ("activated", late.activated),
+        ("queued", late.queued),
+        ("ready", late.ready),
+        ("running", late.running),
+        ("throttled", late.throttled),
+        ("blocked", late.blocked),
+        ("woken", late.woken),
+        ("chain", Cell::Empty),
+        ("latency", Cell::Empty),
+        ("deadline", Cell::Empty),
+        ("origin", Cell::Empty),
     ]
 }
 
@@ -180,6 +211,24 @@ fn late_values<'s>(finding: &Finding) -> Late<'s>
             woken: Cell::Empty,
         },
     }
+}
+
+/// The values of the counts, with those of chains.
+pub(crate) fn checked_fields(counts: &Counts, chains: &ChainCounts) -> [Field<'static>; 10]
+    ensures { map field_of result ≡ counts_fields counts.now ++ chain_count_fields (Some chains.now) }
+{
+    [
+        ("kind", Cell::Name("counts")),
+        ("missed", Cell::Number(counts.missed)),
+        ("overdue", Cell::Number(counts.overdue)),
+        ("lost", Cell::Number(counts.lost)),
+        ("never", Cell::Number(counts.never)),
+        ("merged", Cell::Number(counts.merged)),
+        ("allowed", Cell::Number(counts.allowed)),
+        ("hints", Cell::Number(counts.hints)),
+        ("slow", Cell::Number(chains.slow)),
+        ("unanswered", Cell::Number(chains.unanswered)),
+    ]
 }
 
 /// The values of the counts.

@@ -19,7 +19,7 @@ use mcs_ticks::{ContextId, NoMemory, ThreadId};
 use mcs_verdict::Watch;
 use std::alloc::Global;
 
-fn known<'s>(number: Option<u64>) -> Cell<'s>
+pub(crate) fn known<'s>(number: Option<u64>) -> Cell<'s>
     ensures { value_of result ≡ known number }
 {
     match number {
@@ -28,7 +28,7 @@ fn known<'s>(number: Option<u64>) -> Cell<'s>
     }
 }
 
-fn deadline<'s>(deadline: u64) -> Cell<'s>
+pub(crate) fn deadline<'s>(deadline: u64) -> Cell<'s>
     ensures { value_of result ≡ deadline_known deadline }
 {
     if deadline == 0 {
@@ -38,7 +38,7 @@ fn deadline<'s>(deadline: u64) -> Cell<'s>
     }
 }
 
-fn margin<'s>(margin: Option<Margin>) -> Cell<'s>
+pub(crate) fn margin<'s>(margin: Option<Margin>) -> Cell<'s>
     ensures { value_of result ≡ margin_value margin }
 {
     match margin {

@@ -3,7 +3,8 @@ ghost use Rattle.std.specs.Prelude.{◌≡◌, [], List, None, false, IfErr, IfO
 ghost use Rattle.std.specs.Arc.{arc_value};
 ghost use Rattle.mcs_ticks.specs.declared.row.Row.{Row as TheRow};
 ghost use Rattle.mcs_verdict.specs.Findings.{found_at_end, UpTo};
-ghost use Rattle.mcs_verdict.specs.Watch.{watch_of};
+ghost use Rattle.mcs_chain.specs.Found.{all_unanswered};
+ghost use Rattle.mcs_chain.specs.Watch.{all_due, all_slow_many, watch_of as chains_of};
 ghost use Rattle.mcs_cli.specs.Flow.{IsWriteFault};
 ghost use Rattle.mcs_check_words.specs.declared.asked.Show.{Show as TheShow};
 ghost use Rattle.mcs_check_words.specs.declared.asked.Show.TheVariants as show;
@@ -13,6 +14,7 @@ ghost use Rattle.mcs_check.specs.Counts.{no_counts};
 ghost use Rattle.mcs_check.specs.Formats.{head_text};
 ghost use Rattle.mcs_check.specs.stored.AllFound.{kept_of, kept_with, text_of_rows, IsAllFound, IsAllSeen};
 ghost use Rattle.mcs_check.specs.stored.Rows.{kept_table, refusal};
+ghost use Rattle.mcs_check.specs.stored.Watches.{watches_of};
 
 use crate::all_found::{AllFound, Kept};
 use crate::by_core::{FoundByCore, look};
@@ -20,8 +22,9 @@ use crate::finder::{Finder, Lines};
 use crate::format::put_head;
 use crate::found_lines::FoundLines;
 use crate::machine::Machine;
-use crate::seen::Seen;
+use crate::seen::{Seen, Tables, Watches};
 use crate::{Counts, Progress};
+use mcs_chain::{Tallies, Watch as ChainWatch};
 use mcs_check_words::{Options, Show};
 use mcs_cli::{Open, RunFault, Target};
 use mcs_system::System;
@@ -50,14 +53,14 @@ pub(crate) fn find_rows<'s, H: Threads + Wait + Sync, T: Target, P: Progress>(
     ensures fault { IfErr result
         (IsWriteFault (T.contents target.old) (T.contents target.new) (T.has_failed target.new) (text_of_rows (arc_value system.now) allowed.now options.now)) }
 {
-    if options.show == Show::Findings {
+    if options.show == Show::Findings && system.parts().chains.is_empty() {
         find_by_core(machine.alloc, target, system, allowed, options, progress)
     } else {
         find_merged(machine, target, system, allowed, options, progress)
     }
 }
 
-/// `find_rows` if only findings are shown: each core looks at its rows itself, and no row is kept.
+/// `find_rows` if only findings are shown, and there is no chain: each core looks at its rows itself, and no row is kept.
 fn find_by_core<'s, T: Target, P: Progress>(
     alloc: Global,
     target: &mut T,
@@ -66,7 +69,7 @@ fn find_by_core<'s, T: Target, P: Progress>(
     options: &Options,
     progress: &mut P,
 ) -> Result<AllFound, RunFault>
-    requires { (T.has_failed target.old ≡ false) × (options.now.show ≡ show.Findings) }
+    requires { (T.has_failed target.old ≡ false) × (options.now.show ≡ show.Findings) × ((arc_value system.now).chains ≡ []) }
     ensures ok { IfOk result (IsAllFound (arc_value system.now) allowed.now options.now (T.contents target.old) (T.contents target.new)) }
     ensures working { OnOk result (T.has_failed target.new ≡ false) }
     ensures fault { IfErr result
@@ -74,7 +77,7 @@ fn find_by_core<'s, T: Target, P: Progress>(
 {
     schedules_are_in_order();
     let _parts = system.parts();
-    let Ok(mut text) = head(alloc, options) else {
+    let Ok(mut text) = head(alloc, options, system) else {
         return Err(RunFault::Sim(SimFault::NoMemory));
     };
     let lines = Lines::new(alloc, target);
@@ -86,7 +89,7 @@ fn find_by_core<'s, T: Target, P: Progress>(
         progress,
     };
     match look(alloc, system, allowed, options.horizon, &mut page) {
-        Ok(found) => Ok(found_with(found, text)),
+        Ok(found) => Ok(found_with(alloc, found, text)),
         Err(FlowFault::NoMemory) => Err(RunFault::Sim(SimFault::NoMemory)),
         Err(FlowFault::Sink) => Err(refusal(page.lines.is_out_of_memory)),
     }
@@ -143,33 +146,52 @@ fn find_in_rows<'s, H: Threads + Wait + Sync, T: Target, P: Progress>(
     let result = schedule_to(rt, alloc, shared, horizon, workers, &Open, &mut finder);
     match result {
         Ok(()) => Ok(seen),
-        Err(FlowFault::NoMemory) => Err(RunFault::Sim(SimFault::NoMemory)),
+        Err(FlowFault::NoMemory) => {
+            drop(seen);
+            Err(RunFault::Sim(SimFault::NoMemory))
+        }
         Err(FlowFault::Sink) => Err(refusal(finder.lines.is_out_of_memory)),
     }
 }
 
 /// The state before the first row.
 fn nothing_seen(alloc: Global, system: &System, options: &Options) -> Result<Seen, NoMemory>
-    ensures { IfOk result (λ seen. (seen.watch ≡ watch_of system.now []) × (seen.counts ≡ no_counts)
+    ensures { IfOk result (λ seen. (seen.watch ≡ watches_of system.now []) × (seen.counts ≡ no_counts)
         × (seen.table ≡ kept_table options.now.show system.now options.now.horizon [])
-        × (seen.text.items ≡ head_text options.now.format options.now.show)) }
+        × (seen.text.items ≡ head_text options.now.format options.now.show system.now)) }
 {
     Ok(Seen {
-        watch: Watch::new(alloc, system)?,
+        watch: no_watches(alloc, system)?,
         counts: Counts::new(),
         table: table_for(alloc, options.show, system, options.horizon)?,
-        text: head(alloc, options)?,
+        text: head(alloc, options, system)?,
     })
 }
 
-/// The findings of all rows by core, with the lines that are not written yet.
-fn found_with(found: FoundByCore, text: Vec<u8>) -> AllFound
-    ensures { result ≡ record { counts = found.counts; unended = found.unended; kept = None; text = text } }
+/// What is kept of threads and chains before the first row.
+fn no_watches(alloc: Global, system: &System) -> Result<Watches, NoMemory>
+    ensures { IfOk result (λ watches. watches ≡ watches_of system.now []) }
+{
+    Ok(Watches {
+        threads: Watch::new(alloc, system)?,
+        chains: ChainWatch::new(alloc, system)?,
+    })
+}
+
+/// The findings of all rows by core, with the lines that are not written yet. There is no chain.
+fn found_with(alloc: Global, found: FoundByCore, text: Vec<u8>) -> AllFound
+    ensures counts { result.counts ≡ found.counts }
+    ensures unended { result.unended ≡ found.unended }
+    ensures text { result.text ≡ text }
+    ensures none { (result.due.items ≡ []) × (result.slow ≡ 0) × (result.unanswered.items ≡ []) × (result.kept ≡ None) }
 {
     let FoundByCore { counts, unended } = found;
     AllFound {
         counts,
         unended,
+        due: Vec::new(alloc),
+        slow: 0,
+        unanswered: Vec::new(alloc),
         kept: None,
         text,
     }
@@ -184,31 +206,46 @@ fn all_found(
 ) -> Result<AllFound, RunFault>
     ensures text { IfOk result (λ found. found.text ≡ seen.text) }
     ensures counts { IfOk result (λ found. found.counts ≡ seen.counts) }
-    ensures unended { (past : List TheRow) → seen.watch ≡ watch_of system.now past → UpTo horizon past →
+    ensures due { (past : List TheRow) → seen.watch ≡ watches_of system.now past → IfOk result (λ found. found.due.items ≡ all_due None 0 (chains_of system.now past).each) }
+    ensures slow { (past : List TheRow) → seen.watch ≡ watches_of system.now past → IfOk result (λ found. found.slow ≡ all_slow_many (chains_of system.now past).each) }
+    ensures unanswered { (past : List TheRow) → seen.watch ≡ watches_of system.now past →
+        IfOk result (λ found. found.unanswered.items ≡ all_unanswered system.now past horizon 0 system.now.chains) }
+    ensures unended { (past : List TheRow) → seen.watch ≡ watches_of system.now past → UpTo horizon past →
         IfOk result (λ found. found.unended.items ≡ found_at_end system.now past horizon 0 system.now.threads) }
-    ensures kept { (asked : TheShow) (past : List TheRow) → seen.watch ≡ watch_of system.now past → seen.table ≡ kept_table asked system.now horizon past →
+    ensures kept { (asked : TheShow) (past : List TheRow) → seen.watch ≡ watches_of system.now past → seen.table ≡ kept_table asked system.now horizon past →
         IfOk result (λ found. found.kept ≡ kept_of asked system.now horizon past) }
     ensures fault { IfErr result (λ why. why ≡ fault.Sim sim.NoMemory) }
 {
-    let Ok(unended) = find_unended(alloc, system, &seen.watch, horizon) else {
+    let Ok(unended) = find_unended(alloc, system, &seen.watch.threads, horizon) else {
         return Err(RunFault::Sim(SimFault::NoMemory));
     };
+    let Ok(due) = seen.watch.chains.due(alloc, None) else {
+        return Err(RunFault::Sim(SimFault::NoMemory));
+    };
+    let Ok(unanswered) = seen.watch.chains.unanswered(alloc, system, horizon) else {
+        return Err(RunFault::Sim(SimFault::NoMemory));
+    };
+    let slow = seen.watch.chains.slow();
     let Seen {
         watch,
         counts,
         table,
         text,
     } = seen;
+    let Watches { threads, .. } = watch;
     Ok(AllFound {
         counts,
         unended,
-        kept: kept_with(watch, table),
+        due,
+        slow,
+        unanswered,
+        kept: kept_with(threads, table),
         text,
     })
 }
 
 /// The state kept for figures, if there is a table.
-fn kept_with(watch: Watch, table: Option<Table>) -> Option<Kept>
+fn kept_with(watch: Watch, table: Option<Tables>) -> Option<Kept>
     ensures { result ≡ kept_with watch table }
 {
     match table {
@@ -223,21 +260,24 @@ fn table_for(
     show: Show,
     system: &System,
     horizon: Tick,
-) -> Result<Option<Table>, NoMemory>
+) -> Result<Option<Tables>, NoMemory>
     ensures { IfOk result (λ table. table ≡ kept_table show system.now horizon []) }
 {
     match show {
-        Show::Table | Show::Both => Ok(Some(Table::new(alloc, system, horizon)?)),
+        Show::Table | Show::Both => Ok(Some(Tables {
+            threads: Table::new(alloc, system, horizon)?,
+            chains: Tallies::new(alloc, system, horizon)?,
+        })),
         Show::Findings | Show::Jobs => Ok(None),
     }
 }
 
 /// The first line, if the format has one.
-fn head(alloc: Global, options: &Options) -> Result<Vec<u8>, NoMemory>
-    ensures { IfOk result (λ text. text.items ≡ head_text options.now.format options.now.show) }
+fn head(alloc: Global, options: &Options, system: &System) -> Result<Vec<u8>, NoMemory>
+    ensures { IfOk result (λ text. text.items ≡ head_text options.now.format options.now.show system.now) }
 {
     let mut text = Vec::new(alloc);
-    put_head(&mut text, options.format, options.show)?;
+    put_head(&mut text, options.format, options.show, system)?;
     Ok(text)
 }
 

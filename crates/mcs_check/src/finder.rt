@@ -1,10 +1,12 @@
 //! The sink that finds what is to be shown of a schedule, and writes its lines.
-ghost use Rattle.std.specs.Prelude.{◌≡◌, ◌∷◌, ℕ, List, true, false, is_ok, OnOk, OnErr};
+ghost use Rattle.std.specs.Prelude.{◌≡◌, ◌∷◌, ◌++◌, ℕ, List, Some, true, false, is_ok, OnOk, OnErr};
 ghost use Rattle.mcs_ticks.specs.declared.row.Row.{Row as TheRow};
 ghost use Rattle.mcs_verdict.specs.Findings.{UpTo};
-ghost use Rattle.mcs_verdict.specs.Watch.{watch_of};
-ghost use Rattle.mcs_cli.specs.Flow.{TakesLine};
-ghost use Rattle.mcs_check.specs.stored.Rows.{counted_at, failed_after, kept_table, shown_text, told_at};
+ghost use Rattle.mcs_cli.specs.Devices.{AppendsPrefix};
+ghost use Rattle.mcs_cli.specs.Flow.{AppendsBefore, TakesLine};
+ghost use Rattle.mcs_check.specs.stored.Rows.{counted_at, due_lines, failed_after, kept_table, row_lines, shown_text, told_at};
+ghost use Rattle.mcs_chain.specs.Watch.{all_due, watch_of as chains_of};
+ghost use Rattle.mcs_check.specs.stored.Watches.{watches_of};
 
 use crate::Progress;
 use crate::format::put_shown;
@@ -14,7 +16,7 @@ use crate::shown::Shown;
 use mcs_check_words::{Format, Options, Show};
 use mcs_cli::{Target, write_bytes};
 use mcs_system::System;
-use mcs_ticks::{Refused, Row, Sink};
+use mcs_ticks::{NoMemory, Refused, Row, Sink};
 use std::alloc::Global;
 
 /// Maximum bytes of a piece of lines that is written at once; its last line may exceed it.
@@ -64,6 +66,23 @@ impl<'t, T: Target> Lines<'t, T> {
             self.is_out_of_memory = true;
             return Err(Refused);
         }
+        self.flow(text, progress)
+    }
+
+    /// Writes the waiting text when it is long enough.
+    #[inline(always)]
+    pub(crate) fn flow<P: Progress>(
+        &mut self,
+        text: &mut Vec<u8>,
+        progress: &mut P,
+    ) -> Result<(), Refused>
+        ensures target { self.new.target.ghost_name ≡ self.old.target.ghost_name }
+        ensures ok { OnOk result (AppendsBefore (T.contents self.old.target.now) (T.contents self.new.target.now) text.old.items text.new.items) }
+        ensures err { OnErr result (AppendsPrefix (T.contents self.old.target.now) (T.contents self.new.target.now) text.old.items) }
+        ensures working { OnOk result (T.has_failed self.new.target.now ≡ T.has_failed self.old.target.now) }
+        ensures refused { OnErr result
+            (T.has_failed self.new.target.now ≡ failed_after self.new.is_out_of_memory (T.has_failed self.old.target.now)) }
+    {
         if text.len() < self.limit {
             return Ok(());
         }
@@ -122,6 +141,36 @@ impl<'t, 's, 'k, 'p, T: Target, P: Progress> Finder<'t, 's, 'k, 'p, T, P> {
         }
     }
 
+    /// Looks at the row, and appends its lines to those that wait. `NoMemory` if an allocation
+    /// failed.
+    #[inline(always)]
+    fn take(&mut self, row: &Row) -> Result<(), NoMemory>
+        ensures lines { self.new.lines ≡ self.old.lines }
+        ensures show { self.new.show ≡ self.old.show }
+        ensures format { self.new.format ≡ self.old.format }
+        ensures system { self.new.system ≡ self.old.system }
+        ensures allowed { self.new.allowed ≡ self.old.allowed }
+        ensures seen { self.new.seen.ghost_name ≡ self.old.seen.ghost_name }
+        ensures counted { (past : List TheRow) → self.old.seen.now.watch ≡ watches_of self.old.system.now past → UpTo row.now.moment past →
+            self.new.seen.now.counts ≡ counted_at self.old.system.now self.old.allowed.now past row.now self.old.seen.now.counts }
+        ensures kept { (past : List TheRow) → self.old.seen.now.watch ≡ watches_of self.old.system.now past → UpTo row.now.moment past →
+            OnOk result (self.new.seen.now.watch ≡ watches_of self.old.system.now (row.now ∷ past)) }
+        ensures tabled { (past : List TheRow) (horizon : ℕ) → self.old.seen.now.watch ≡ watches_of self.old.system.now past → UpTo row.now.moment past →
+            self.old.seen.now.table ≡ kept_table self.old.show self.old.system.now horizon past →
+            OnOk result (self.new.seen.now.table ≡ kept_table self.old.show self.old.system.now horizon (row.now ∷ past)) }
+        ensures told { (past : List TheRow) → self.old.seen.now.watch ≡ watches_of self.old.system.now past → UpTo row.now.moment past →
+            OnOk result (self.new.seen.now.text.items ≡ self.old.seen.now.text.items
+            ++ due_lines self.old.format self.old.system.now self.old.show (all_due (Some row.now.moment) 0 (chains_of self.old.system.now past).each)
+            ++ told_at self.old.system.now self.old.allowed.now self.old.format self.old.show past row.now) }
+    {
+        let (alloc, system, format) = (self.lines.alloc, self.system, self.format);
+        let shown = self.seen.see(self.show, self.allowed, row);
+        self.seen
+            .put_due(alloc, format, self.show, system, row.moment)?;
+        self.seen.put(alloc, format, system, &shown)?;
+        self.seen.take(alloc, system, row)
+    }
+
     /// Reports the progress now and then.
     #[inline(always)]
     fn pass(&mut self, row: &Row)
@@ -148,26 +197,21 @@ impl<T: Target, P: Progress> Sink for Finder<'_, '_, '_, '_, T, P> {
         × (taken ≡ true → T.has_failed after.lines.target.now ≡ T.has_failed before.lines.target.now)
         × (taken ≡ false → T.has_failed after.lines.target.now
         ≡ failed_after after.lines.is_out_of_memory (T.has_failed before.lines.target.now))
-        × ((past : List TheRow) → before.seen.now.watch ≡ watch_of before.system.now past → UpTo row.moment past →
-        (after.seen.now.watch ≡ watch_of before.system.now (row ∷ past))
+        × ((past : List TheRow) → before.seen.now.watch ≡ watches_of before.system.now past → UpTo row.moment past →
+        (taken ≡ true → after.seen.now.watch ≡ watches_of before.system.now (row ∷ past))
         × (after.seen.now.counts ≡ counted_at before.system.now before.allowed.now past row before.seen.now.counts)
-        × ((horizon : ℕ) → before.seen.now.table ≡ kept_table before.show before.system.now horizon past →
+        × ((horizon : ℕ) → before.seen.now.table ≡ kept_table before.show before.system.now horizon past → taken ≡ true →
         after.seen.now.table ≡ kept_table before.show before.system.now horizon (row ∷ past))
         × TakesLine (T.contents before.lines.target.now) (T.contents after.lines.target.now) before.seen.now.text.items
-        after.seen.now.text.items (told_at before.system.now before.allowed.now before.format before.show past row) taken) };
+        after.seen.now.text.items (row_lines before.system.now before.allowed.now before.format before.show past row) taken) };
 
     #[inline(always)]
     fn row(&mut self, row: &Row) -> Result<(), Refused> {
         self.pass(row);
-        let Some(shown) = self.seen.see(self.show, self.allowed, row) else {
-            return Ok(());
-        };
-        self.lines.put(
-            &mut self.seen.text,
-            self.format,
-            self.system,
-            &shown,
-            self.progress,
-        )
+        if self.take(row).is_err() {
+            self.lines.is_out_of_memory = true;
+            return Err(Refused);
+        }
+        self.lines.flow(&mut self.seen.text, self.progress)
     }
 }

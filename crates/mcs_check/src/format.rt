@@ -1,16 +1,18 @@
 //! The lines of what is shown, in each format. If memory runs out, a call leaves the text
 //! unchanged.
-ghost use Rattle.std.specs.Prelude.{◌≡◌, ◌++◌, OnOk, OnErr};
-ghost use Rattle.mcs_fields.specs.Fields.{object_text};
-ghost use Rattle.mcs_check.specs.Fields.{hint_fields};
-ghost use Rattle.mcs_check.specs.Formats.{counts_line, found_line, head_text, hint_line, is_mixed, job_line, row_line};
+ghost use Rattle.std.specs.Prelude.{◌≡◌, ◌++◌, Some, OnOk, OnErr};
+ghost use Rattle.mcs_fields.specs.Fields.{names_text, object_text};
+ghost use Rattle.mcs_check_words.specs.declared.asked.Show.TheVariants.{Findings};
+ghost use Rattle.mcs_check.specs.Fields.{chain_count_fields, checked_fields, counts_fields, found_fields, hint_fields};
+ghost use Rattle.mcs_check.specs.Formats.{chain_columns, column_names, columns, counts_line, found_line, head_text, hint_line, is_mixed, job_line, no_columns, row_line, written};
+ghost use Rattle.mcs_check.specs.Lines.{found_text};
 ghost use Rattle.mcs_check.specs.stored.Rows.{shown_text};
 
-use crate::Counts;
-use crate::fields::{counts_fields, found_fields, job_fields};
+use crate::fields::{checked_fields, counts_fields, found_fields, job_fields, wide_found_fields};
 use crate::line::{put_counts, put_found, put_hint, put_job};
 use crate::row_fields::row_fields;
 use crate::shown::Shown;
+use crate::{ChainCounts, Checked, Counts};
 use mcs_check_words::{Format, Show};
 use mcs_fields::{Cell, put_names, put_object, put_row};
 use mcs_hints::Hint;
@@ -37,6 +39,30 @@ static FINDINGS: [&str; 16] = [
     "throttled",
     "blocked",
     "woken",
+];
+
+/// The columns of findings in a file with a chain.
+static WIDE: [&str; 20] = [
+    "moment",
+    "core",
+    "kind",
+    "thread",
+    "note",
+    "word",
+    "number",
+    "response",
+    "deadline",
+    "activated",
+    "queued",
+    "ready",
+    "running",
+    "throttled",
+    "blocked",
+    "woken",
+    "chain",
+    "latency",
+    "deadline",
+    "origin",
 ];
 
 static JOBS: [&str; 15] = [
@@ -94,17 +120,58 @@ pub(crate) fn is_mixed(format: Format, show: Show) -> bool
 }
 
 /// Appends the first line of CSV; other formats have none.
-pub(crate) fn put_head(text: &mut Vec<u8>, format: Format, show: Show) -> Result<(), NoMemory>
-    ensures ok { OnOk result (text.new.items ≡ text.old.items ++ head_text format show) }
+pub(crate) fn put_head(
+    text: &mut Vec<u8>,
+    format: Format,
+    show: Show,
+    system: &System,
+) -> Result<(), NoMemory>
+    ensures ok { OnOk result (text.new.items ≡ text.old.items ++ head_text format show system.now) }
     ensures err { OnErr result (text.new.items ≡ text.old.items) }
 {
-    match (format, show) {
-        (Format::Csv, Show::Findings) => put_names(text, FINDINGS.as_slice()),
-        (Format::Csv, Show::Jobs) => put_names(text, JOBS.as_slice()),
-        (Format::Csv, Show::Table) => put_names(text, TABLE.as_slice()),
-        (Format::Csv, Show::Both) => put_names(text, &[]),
-        _ => Ok(()),
+    match format {
+        Format::Csv => put_columns(text, show, system),
+        Format::Text | Format::Json => Ok(()),
     }
+}
+
+/// Appends the first line of CSV.
+fn put_columns(text: &mut Vec<u8>, show: Show, system: &System) -> Result<(), NoMemory>
+    ensures ok { OnOk result (text.new.items ≡ text.old.items ++ names_text (columns show system.now.chains)) }
+    ensures err { OnErr result (text.new.items ≡ text.old.items) }
+{
+    match show {
+        Show::Findings => put_finding_columns(text, system),
+        Show::Jobs => put_names(text, JOBS.as_slice()),
+        Show::Table => put_names(text, TABLE.as_slice()),
+        Show::Both => put_names(text, &[]),
+    }
+}
+
+fn put_finding_columns(text: &mut Vec<u8>, system: &System) -> Result<(), NoMemory>
+    ensures ok { OnOk result (text.new.items ≡ text.old.items ++ names_text (columns Findings system.now.chains)) }
+    ensures err { OnErr result (text.new.items ≡ text.old.items) }
+{
+    if system.parts().chains.is_empty() {
+        put_narrow_columns(text)
+    } else {
+        put_wide_columns(text)
+    }
+}
+
+fn put_narrow_columns(text: &mut Vec<u8>) -> Result<(), NoMemory>
+    ensures ok { OnOk result (text.new.items ≡ text.old.items ++ names_text (column_names Findings)) }
+    ensures err { OnErr result (text.new.items ≡ text.old.items) }
+{
+    put_names(text, FINDINGS.as_slice())
+}
+
+/// Appends the columns of findings in a file with a chain.
+fn put_wide_columns(text: &mut Vec<u8>) -> Result<(), NoMemory>
+    ensures ok { OnOk result (text.new.items ≡ text.old.items ++ names_text (column_names Findings ++ chain_columns)) }
+    ensures err { OnErr result (text.new.items ≡ text.old.items) }
+{
+    put_names(text, WIDE.as_slice())
 }
 
 /// Appends the line of what is shown.
@@ -136,10 +203,48 @@ pub(crate) fn put_found_as(
     ensures ok { OnOk result (text.new.items ≡ text.old.items ++ found_line format system.now found.now) }
     ensures err { OnErr result (text.new.items ≡ text.old.items) }
 {
+    if system.parts().chains.is_empty() {
+        put_narrow(alloc, text, format, system, found)
+    } else {
+        put_wide(alloc, text, format, system, found)
+    }
+}
+
+/// Appends the line of a finding in a file without chains.
+fn put_narrow(
+    alloc: Global,
+    text: &mut Vec<u8>,
+    format: Format,
+    system: &System,
+    found: &Found,
+) -> Result<(), NoMemory>
+    ensures ok { OnOk result (text.new.items ≡ text.old.items
+        ++ written format (found_text system.now found.now) (found_fields system.now found.now)) }
+    ensures err { OnErr result (text.new.items ≡ text.old.items) }
+{
     match format {
         Format::Text => put_found(text, system, found),
         Format::Csv => put_row(text, found_fields(system, found).as_slice()),
         Format::Json => put_object(alloc, text, found_fields(system, found).as_slice()),
+    }
+}
+
+/// Appends the line of a finding in a file with a chain.
+fn put_wide(
+    alloc: Global,
+    text: &mut Vec<u8>,
+    format: Format,
+    system: &System,
+    found: &Found,
+) -> Result<(), NoMemory>
+    ensures ok { OnOk result (text.new.items ≡ text.old.items
+        ++ written format (found_text system.now found.now) (found_fields system.now found.now ++ no_columns)) }
+    ensures err { OnErr result (text.new.items ≡ text.old.items) }
+{
+    match format {
+        Format::Text => put_found(text, system, found),
+        Format::Csv => put_row(text, wide_found_fields(system, found).as_slice()),
+        Format::Json => put_object(alloc, text, wide_found_fields(system, found).as_slice()),
     }
 }
 
@@ -232,14 +337,37 @@ pub(crate) fn put_counts_as(
     alloc: Global,
     text: &mut Vec<u8>,
     format: Format,
-    counts: &Counts,
+    checked: &Checked,
 ) -> Result<(), NoMemory>
-    ensures ok { OnOk result (text.new.items ≡ text.old.items ++ counts_line format counts.now) }
+    ensures ok { OnOk result (text.new.items ≡ text.old.items ++ counts_line format checked.now) }
     ensures err { OnErr result (text.new.items ≡ text.old.items) }
 {
     match format {
-        Format::Text => put_counts(text, counts),
+        Format::Text => put_counts(text, checked),
         Format::Csv => Ok(()),
-        Format::Json => put_object(alloc, text, counts_fields(counts).as_slice()),
+        Format::Json => put_counts_object(alloc, text, checked),
     }
+}
+
+fn put_counts_object(alloc: Global, text: &mut Vec<u8>, checked: &Checked) -> Result<(), NoMemory>
+    ensures ok { OnOk result (text.new.items ≡ text.old.items ++ object_text (checked_fields checked.now)) }
+    ensures err { OnErr result (text.new.items ≡ text.old.items) }
+{
+    match &checked.chains {
+        Some(chains) => put_wide_counts(alloc, text, &checked.counts, chains),
+        None => put_object(alloc, text, counts_fields(&checked.counts).as_slice()),
+    }
+}
+
+/// Appends the counts with those of chains.
+fn put_wide_counts(
+    alloc: Global,
+    text: &mut Vec<u8>,
+    counts: &Counts,
+    chains: &ChainCounts,
+) -> Result<(), NoMemory>
+    ensures ok { OnOk result (text.new.items ≡ text.old.items ++ object_text (counts_fields counts.now ++ chain_count_fields (Some chains.now))) }
+    ensures err { OnErr result (text.new.items ≡ text.old.items) }
+{
+    put_object(alloc, text, checked_fields(counts, chains).as_slice())
 }

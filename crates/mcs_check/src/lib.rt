@@ -6,6 +6,8 @@ mod all_found;
 mod allowed;
 mod asked;
 mod by_core;
+mod chain_line;
+mod checked;
 mod core_finder;
 mod core_watch;
 mod counts;
@@ -34,6 +36,7 @@ mod why;
 mod why_fault;
 
 pub use allowed::{flags_of, refuse_unknown};
+pub use checked::{ChainCounts, Checked};
 pub use counts::Counts;
 pub use fault::CheckFault;
 pub use line::{put_counts, put_found, put_hint, put_job};

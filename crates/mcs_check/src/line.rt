@@ -3,9 +3,9 @@ ghost use Rattle.std.specs.Prelude.{◌≡◌, ◌≤◌, ◌+◌, ◌++◌, ◌
 ghost use Rattle.std.specs.Io.{StartsWith};
 ghost use Rattle.mcs_system.specs.System.{core_of, thread_part};
 ghost use Rattle.mcs_text.specs.Text.{after, counted};
-ghost use Rattle.mcs_check.specs.Lines.{counts_text, found_text, found_words, hint_text, hint_words, job_text, job_times, job_words, late_words, ways};
+ghost use Rattle.mcs_check.specs.Lines.{chain_count_words, checked_text, counts_words, found_text, found_words, hint_text, hint_words, job_text, job_times, job_words, late_words, ways};
 
-use crate::Counts;
+use crate::{ChainCounts, Checked, Counts};
 use itoa::Buffer;
 use mcs_hints::Hint;
 use mcs_system::System;
@@ -46,7 +46,7 @@ fn write_found(line: &mut [u8], system: &System, found: &Found) -> usize
 }
 
 /// Appends a number, without a space before it.
-fn append_digits(text: &mut Vec<u8>, number: u64) -> Result<(), NoMemory>
+pub(crate) fn append_digits(text: &mut Vec<u8>, number: u64) -> Result<(), NoMemory>
     ensures ok { OnOk result (text.new.items ≡ text.old.items ++ decimal number) }
     ensures kept { StartsWith text.new.items text.old.items }
 {
@@ -142,7 +142,7 @@ fn write_ways(line: &mut [u8], at: usize, stood: &Stood) -> usize
 }
 
 /// Appends a word and a name, each after a space.
-fn append_named(text: &mut Vec<u8>, word: &str, name: &str) -> Result<(), NoMemory>
+pub(crate) fn append_named(text: &mut Vec<u8>, word: &str, name: &str) -> Result<(), NoMemory>
     ensures ok { OnOk result (text.new.items ≡ text.old.items ++ after (word.now ∷ name.now ∷ [])) }
     ensures kept { StartsWith text.new.items text.old.items }
 {
@@ -226,20 +226,46 @@ fn append_times(text: &mut Vec<u8>, job: &Job) -> Result<(), NoMemory>
 }
 
 /// Appends the line of the counts. If memory runs out the text is unchanged.
-pub fn put_counts(text: &mut Vec<u8>, counts: &Counts) -> Result<(), NoMemory>
-    ensures ok { OnOk result (text.new.items ≡ text.old.items ++ counts_text counts.now) }
+pub fn put_counts(text: &mut Vec<u8>, checked: &Checked) -> Result<(), NoMemory>
+    ensures ok { OnOk result (text.new.items ≡ text.old.items ++ checked_text checked.now) }
     ensures err { OnErr result (text.new.items ≡ text.old.items) }
 {
     let start = text.len();
-    let result = append_totals(text, counts);
+    let result = append_checked(text, checked);
     if result.is_err() {
         text.truncate(start);
     }
     result
 }
 
+fn append_checked(text: &mut Vec<u8>, checked: &Checked) -> Result<(), NoMemory>
+    ensures ok { OnOk result (text.new.items ≡ text.old.items ++ checked_text checked.now) }
+    ensures kept { StartsWith text.new.items text.old.items }
+{
+    text.extend_from_slice(b"missed")?;
+    append_totals(text, &checked.counts)?;
+    append_chain_counts(text, &checked.chains)?;
+    text.push(b'\n')?;
+    Ok(())
+}
+
+/// Appends the counts of chains, if the file has a chain.
+fn append_chain_counts(text: &mut Vec<u8>, chains: &Option<ChainCounts>) -> Result<(), NoMemory>
+    ensures ok { OnOk result (text.new.items ≡ text.old.items ++ after (chain_count_words chains.now)) }
+    ensures kept { StartsWith text.new.items text.old.items }
+{
+    match chains {
+        Some(chains) => {
+            let numbers = [("slow", chains.slow), ("unanswered", chains.unanswered)];
+            append_counts(text, &numbers)
+        }
+        None => Ok(()),
+    }
+}
+
+/// Appends the counts, without the first word.
 fn append_totals(text: &mut Vec<u8>, counts: &Counts) -> Result<(), NoMemory>
-    ensures ok { OnOk result (text.new.items ≡ text.old.items ++ counts_text counts.now) }
+    ensures ok { OnOk result (text.new.items ≡ text.old.items ++ after (counts_words counts.now)) }
     ensures kept { StartsWith text.new.items text.old.items }
 {
     let numbers = [
@@ -250,11 +276,8 @@ fn append_totals(text: &mut Vec<u8>, counts: &Counts) -> Result<(), NoMemory>
         ("allowed", counts.allowed),
         ("hints", counts.hints),
     ];
-    text.extend_from_slice(b"missed")?;
     append_number(text, counts.missed)?;
-    append_counts(text, &numbers)?;
-    text.push(b'\n')?;
-    Ok(())
+    append_counts(text, &numbers)
 }
 
 /// Appends the line of a hint. If memory runs out the text is unchanged.

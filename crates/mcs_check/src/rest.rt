@@ -3,17 +3,19 @@ ghost use Rattle.std.specs.Prelude.{◌≡◌, ◌++◌, List, length, flat_map,
 ghost use Rattle.mcs_ticks.specs.declared.row.Row.{Row as TheRow};
 ghost use Rattle.mcs_verdict.specs.Findings.{UpTo};
 ghost use Rattle.mcs_hints.specs.Hints.{hints_of};
+ghost use Rattle.mcs_check.specs.Checked.{if_chains};
 ghost use Rattle.mcs_check.specs.Counts.{with_hints};
 ghost use Rattle.mcs_check.specs.Formats.{counts_line, hint_line};
 ghost use Rattle.mcs_check.specs.Told.{found_lines};
-ghost use Rattle.mcs_check.specs.stored.AllFound.{kept_of, IsKeptOf};
+ghost use Rattle.mcs_check.specs.stored.AllFound.{checked_of, kept_of, IsKeptOf};
 ghost use Rattle.mcs_check.specs.stored.Rows.{counts_found, rest_lines, tabled_lines};
 
-use crate::Counts;
 use crate::all_found::{AllFound, Kept};
+use crate::chain_line::{put_chains, put_chains_found};
 use crate::counts::is_allowed;
 use crate::figures::put_table;
 use crate::format::{put_counts_as, put_found_as, put_hint_as};
+use crate::{ChainCounts, Checked, Counts};
 use mcs_check_words::{Format, Options, Show};
 use mcs_hints::{Hint, hints};
 use mcs_system::System;
@@ -33,23 +35,49 @@ pub(crate) fn put_rest(
     requires { IfSome all.old.kept (IsKeptOf system.now) }
     ensures text { (past : List TheRow) → all.old.kept ≡ kept_of options.now.show system.now options.now.horizon past → UpTo options.now.horizon past →
         OnOk result (all.new.text.items ≡ all.old.text.items
-        ++ rest_lines options.now.format options.now.show system.now allowed.now all.old.unended.items
+        ++ rest_lines options.now.format options.now.show system.now allowed.now all.old.due.items all.old.unended.items all.old.unanswered.items
         ++ tabled_lines options.now.format options.now.show system.now options.now.horizon past
-        ++ counts_line options.now.format all.new.counts) }
+        ++ counts_line options.now.format (checked_of system.now all.new)) }
     ensures counts { OnOk result (all.new.counts ≡ with_hints (length (hints_of system.now))
         (counts_found allowed.now all.old.unended.items all.old.counts)) }
+    ensures slow { all.new.slow ≡ all.old.slow }
+    ensures unanswered { all.new.unanswered ≡ all.old.unanswered }
 {
     let hints = hints(alloc, system)?;
-    let (text, unended, kept) = (&mut all.text, &all.unended, &all.kept);
-    let ends = Ends {
-        found: unended.as_slice(),
-        hints: hints.as_slice(),
-    };
-    put_ends(alloc, options, text, system, allowed, &ends)?;
+    put_ends(alloc, options, all, system, allowed, hints.as_slice())?;
+    let (text, kept) = (&mut all.text, &all.kept);
     put_tabled(alloc, options, text, system, kept)?;
     count_all(&mut all.counts, allowed, all.unended.as_slice());
     all.counts.hint(hints.len());
-    put_counts_as(alloc, &mut all.text, options.format, &all.counts)
+    let checked = checked_of(system, all);
+    put_counts_as(alloc, &mut all.text, options.format, &checked)
+}
+
+/// The counts of all that was found.
+pub(crate) fn checked_of(system: &System, all: &AllFound) -> Checked
+    ensures { result ≡ checked_of system.now all.now }
+{
+    Checked {
+        counts: all.counts,
+        chains: if_chains(
+            system,
+            ChainCounts {
+                slow: all.slow,
+                unanswered: all.unanswered.len() as u64,
+            },
+        ),
+    }
+}
+
+/// The counts of chains, if the file has a chain.
+fn if_chains(system: &System, counts: ChainCounts) -> Option<ChainCounts>
+    ensures { result ≡ if_chains system.now.chains counts }
+{
+    if system.parts().chains.is_empty() {
+        None
+    } else {
+        Some(counts)
+    }
 }
 
 /// Appends the lines of the figures, if they are kept.
@@ -67,36 +95,36 @@ fn put_tabled(
 {
     match kept {
         Some(Kept { watch, table }) => {
-            put_table(alloc, text, options.format, system, watch, table)
+            put_table(alloc, text, options.format, system, watch, &table.threads)?;
+            let figures = table.chains.figures(alloc, system)?;
+            put_chains(alloc, text, options.format, system, figures.as_slice())
         }
         None => Ok(()),
     }
-}
-
-/// The findings at the horizon, and the hints.
-#[derive(Clone, Copy)]
-struct Ends<'a> {
-    found: &'a [Found],
-    hints: &'a [Hint],
 }
 
 /// Appends the findings at the horizon and the hints, if findings are shown.
 fn put_ends(
     alloc: Global,
     options: &Options,
-    text: &mut Vec<u8>,
+    all: &mut AllFound,
     system: &System,
     allowed: &[bool],
-    ends: &Ends<'_>,
+    hints: &[Hint],
 ) -> Result<(), NoMemory>
-    requires { ends.now.hints.now ≡ hints_of system.now }
-    ensures { OnOk result
-        (text.new.items ≡ text.old.items ++ rest_lines options.now.format options.now.show system.now allowed.now ends.now.found.now) }
+    requires { hints.now ≡ hints_of system.now }
+    ensures text { OnOk result
+        (all.new.text.items ≡ all.old.text.items
+        ++ rest_lines options.now.format options.now.show system.now allowed.now all.old.due.items all.old.unended.items all.old.unanswered.items) }
+    ensures others { all.new ≡ record all.old { text = all.new.text } }
 {
+    let (text, format) = (&mut all.text, options.format);
     match options.show {
         Show::Findings | Show::Both => {
-            put_all(alloc, text, options.format, system, allowed, ends.found)?;
-            put_hints(alloc, text, options.format, system, ends.hints)
+            put_chains_found(alloc, text, format, system, all.due.as_slice())?;
+            put_all(alloc, text, format, system, allowed, all.unended.as_slice())?;
+            put_chains_found(alloc, text, format, system, all.unanswered.as_slice())?;
+            put_hints(alloc, text, format, system, hints)
         }
         Show::Jobs | Show::Table => Ok(()),
     }

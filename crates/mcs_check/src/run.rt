@@ -9,8 +9,8 @@ use crate::allowed::{flags_of, refuse_unknown};
 use crate::find::find_rows;
 use crate::format::is_mixed;
 use crate::machine::Machine;
-use crate::rest::put_rest;
-use crate::{CheckFault, Counts, Progress};
+use crate::rest::{checked_of, put_rest};
+use crate::{CheckFault, Checked, Progress};
 use mcs_check_words::Options;
 use mcs_cli::{FromRead, RunFault, Source, Target, read_system, write_text};
 use mcs_system::System;
@@ -30,7 +30,7 @@ pub fn check_with<H: Files + Threads + Wait + Sync, S: Source, T: Target, P: Pro
     output: &mut T,
     options: &Options,
     progress: &mut P,
-) -> Result<Counts, CheckFault>
+) -> Result<Checked, CheckFault>
     requires reads { S.has_failed input.old ≡ false }
     requires writes { T.has_failed output.old ≡ false }
     ensures input { options.now.file ≡ None
@@ -74,7 +74,7 @@ pub fn check<H: Threads + Wait + Sync, S: Source, T: Target, P: Progress>(
     target: &mut T,
     options: &Options,
     progress: &mut P,
-) -> Result<Counts, CheckFault>
+) -> Result<Checked, CheckFault>
     requires reads { S.has_failed source.old ≡ false }
     requires writes { T.has_failed target.old ≡ false }
     ensures check { IsCheck (S.remaining source.old) (S.remaining source.new) (S.given source.old) (S.given source.new)
@@ -87,8 +87,8 @@ pub fn check<H: Threads + Wait + Sync, S: Source, T: Target, P: Progress>(
     }
     let system = read_system(alloc, source)?;
     refuse_unknown(alloc, system.parts(), options.allowed.as_slice())?;
-    let counts = write_check(rt, alloc, target, system, options, progress)?;
-    Ok(counts)
+    let checked = write_check(rt, alloc, target, system, options, progress)?;
+    Ok(checked)
 }
 
 /// Simulates a system, writes what is shown of it, and returns the counts.
@@ -99,7 +99,7 @@ fn write_check<H: Threads + Wait + Sync, T: Target, P: Progress>(
     system: System,
     options: &Options,
     progress: &mut P,
-) -> Result<Counts, RunFault>
+) -> Result<Checked, RunFault>
     requires { T.has_failed target.old ≡ false }
     ensures ok { OnOk result
         (Appends (T.contents target.old) (T.contents target.new) (check_text (names_of options.now) system options.now.horizon options.now.format options.now.show)) }
@@ -124,5 +124,5 @@ fn write_check<H: Threads + Wait + Sync, T: Target, P: Progress>(
         return Err(RunFault::Sim(SimFault::NoMemory));
     }
     write_text(target, all.text.as_slice())?;
-    Ok(all.counts)
+    Ok(checked_of(&system, &all))
 }

@@ -1,4 +1,4 @@
-use mcs_chain::{Figures, Finding, Tally, Watch};
+use mcs_chain::{ChainId, Figures, Finding, Found, Tallies, Watch};
 use mcs_load::load;
 use mcs_system::System;
 use mcs_table::Margin;
@@ -86,26 +86,29 @@ fn figures() -> Figures {
     }
 }
 
-/// The chain after rows that end with the answer.
+/// The answer is found late, counted and told.
 fn is_read(rt: &impl Abort, alloc: Global, system: &System, rows: &[Row]) -> Result<(), Fail> {
-    let Some(chain) = system.parts().chains.as_slice().first() else {
-        return Err(Fail::new("no chain"));
-    };
     let mut watch = Watch::new(alloc, system)?;
-    let mut tally = Tally::new(alloc, Tick::at(20))?;
+    let mut tallies = Tallies::new(alloc, system, Tick::at(20))?;
     for row in rows {
-        watch.see(alloc, system, chain, row)?;
-        tally.see(chain, &watch, row);
+        watch.see(alloc, system, row)?;
+        tallies.see(system, &watch, row);
     }
-    let slow = Finding::Slow {
-        latency: 9,
-        deadline: 8,
-        origin: Tick::at(3),
+    let slow = Found {
+        moment: Tick::at(12),
+        core: CoreId(1),
+        chain: ChainId(0),
+        finding: Finding::Slow {
+            latency: 9,
+            deadline: 8,
+            origin: Tick::at(3),
+        },
     };
-    assert!(rt; watch.slow(chain, Tick::at(12)) == Some(slow));
-    assert!(rt; watch.unanswered_at(chain, Tick::at(20)).is_none());
-    assert!(rt; watch.answered().len() == 1 && watch.unanswered().is_empty());
-    assert!(rt; tally.figures(chain) == figures());
+    assert!(rt; watch.due(alloc, None)?.as_slice() == [slow].as_slice());
+    assert!(rt; watch.due(alloc, Some(Tick::at(12)))?.is_empty());
+    assert!(rt; watch.slow() == 1);
+    assert!(rt; watch.unanswered(alloc, system, Tick::at(20))?.is_empty());
+    assert!(rt; tallies.figures(alloc, system)?.as_slice() == [figures()].as_slice());
     Ok(())
 }
 

@@ -1,7 +1,7 @@
 //! The source and the target of a run.
 
 use crate::runs::{LATE, SIGNALS, options};
-use mcs_check::{CheckFault, Counts, Quiet, check, check_with};
+use mcs_check::{CheckFault, Checked, Quiet, check, check_with};
 use mcs_cli::{FromRead, IntoWrite, RunFault};
 use std::alloc::Global;
 use std::process::Abort;
@@ -33,7 +33,7 @@ fn of_input(
     rt: &(impl Files + Threads + Wait + Sync),
     alloc: Global,
     file: Option<String>,
-) -> Result<Result<Counts, CheckFault>, Fail> {
+) -> Result<Result<Checked, CheckFault>, Fail> {
     let mut options = options(alloc, 20, 1, &[])?;
     options.file = file;
     let mut source = FromRead::new(LATE.as_bytes());
@@ -48,7 +48,7 @@ fn files_and_the_input(rt: HostRuntime) -> Result<(), Fail> {
     let ended = of_input(&rt, rt.alloc(), Some(name))?;
     assert_eq!(rt; ended, Err(CheckFault::Run(RunFault::Read)));
     match of_input(&rt, rt.alloc(), None)? {
-        Ok(counts) => assert_eq!(rt; (counts.missed, counts.is_clean(false)), (1, false)),
+        Ok(checked) => assert_eq!(rt; (checked.counts.missed, checked.is_clean(false)), (1, false)),
         Err(_) => rt.abort(),
     }
     Ok(())

@@ -4,7 +4,7 @@
 
 mod meter;
 
-use mcs_check::{CheckFault, Counts, WhyFault, check_with, explain_with};
+use mcs_check::{CheckFault, Checked, WhyFault, check_with, explain_with};
 use mcs_check_forever::{ForeverFault, Verdict, foretell_with};
 use mcs_check_words::{Options, options};
 use mcs_cli::{FromRead, IntoWrite, WordsFault};
@@ -63,9 +63,9 @@ fn main(rt: HostRuntime) -> ExitCode {
 }
 
 /// Returns the exit code of the counts, or of the fault, which it prints.
-fn end_check(rt: &HostRuntime, options: &Options, found: Result<Counts, CheckFault>) -> ExitCode {
+fn end_check(rt: &HostRuntime, options: &Options, found: Result<Checked, CheckFault>) -> ExitCode {
     match found {
-        Ok(counts) if counts.is_clean(options.strict) => ExitCode::SUCCESS,
+        Ok(checked) if checked.is_clean(options.strict) => ExitCode::SUCCESS,
         Ok(_) => ExitCode::from(FOUND),
         Err(fault) => {
             let status = fault.status();

@@ -1,22 +1,28 @@
 -- The findings of all rows of a run, and the bytes written then.
-use Rattle.std.specs.Prelude.{◌≡◌, ℕ, Bool, List, [], Option, length, option_map}
+use Rattle.std.specs.Prelude.{◌≡◌, ℕ, Bool, List, [], Option, None, length, option_map}
 use Rattle.mcs_ticks.specs.declared.row.Row.{Row}
 use Rattle.mcs_system.specs.System.{System}
 use Rattle.mcs_core.specs.Clock.{schedule}
 use Rattle.mcs_verdict.specs.Findings.{UpTo, found_at_end, past_of}
 use Rattle.mcs_verdict.specs.Watch.{Watch, watch_of}
-use Rattle.mcs_table.specs.Table.{Table}
+use Rattle.mcs_chain.specs.Found.{all_unanswered}
+use Rattle.mcs_chain.specs.Watch.{all_due, all_slow_many, watch_of as chains_of}
 use Rattle.mcs_cli.specs.Flow.{AppendsBefore}
 use Rattle.mcs_check_words.specs.declared.asked.Options.{Options}
 use Rattle.mcs_check_words.specs.declared.asked.Show.{Show}
 use Rattle.mcs_check.specs.declared.all_found.AllFound.{AllFound}
 use Rattle.mcs_check.specs.declared.all_found.Kept.{Kept}
 use Rattle.mcs_check.specs.declared.seen.Seen.{Seen}
+use Rattle.mcs_check.specs.declared.seen.Tables.{Tables}
+use Rattle.mcs_check.specs.declared.seen.Watches.{Watches}
+use Rattle.mcs_check.specs.declared.checked.Checked.{Checked}
+use Rattle.mcs_check.specs.Checked.{if_chains}
 use Rattle.mcs_check.specs.Counts.{no_counts}
 use Rattle.mcs_check.specs.stored.Rows.{counts_in, kept_table, rows_text}
+use Rattle.mcs_check.specs.stored.Watches.{watches_of}
 
 -- the state kept for figures, if there is a table
-abbrev pub kept_with : Watch → Option Table → Option Kept
+abbrev pub kept_with : Watch → Option Tables → Option Kept
 kept_with watch table = option_map (λ t. record { watch = watch; table = t }) table
 
 abbrev pub kept_of : Show → System → ℕ → List Row → Option Kept
@@ -25,7 +31,15 @@ kept_of asked system horizon past = kept_with (watch_of system past) (kept_table
 -- each thread has an account in both
 pub record IsKeptOf (system : System) (kept : Kept) : Type 0 where
   pub watched : length kept.watch.accounts ≡ length system.threads
-  pub tabled : length kept.table.accounts ≡ length system.threads
+  pub tabled : length kept.table.threads.accounts ≡ length system.threads
+
+-- the counts of all that was found
+abbrev pub checked_of : System → AllFound → Checked
+checked_of system found =
+    record {
+      counts = found.counts;
+      chains = if_chains system.chains (record { slow = found.slow; unanswered = length found.unanswered.items });
+    }
 
 module _ (system : System) (allowed : List Bool) (options : Options) where
   abbrev pub rows_of_run : List Row
@@ -38,7 +52,7 @@ module _ (system : System) (allowed : List Bool) (options : Options) where
   -- all rows of the run were seen, and their lines were written except the text that waits
   pub record IsAllSeen (old new : Option (List ℕ)) (seen : Seen) : Type 0 where
     pub text : AppendsBefore old new text_of_rows seen.text.items
-    pub watch : seen.watch ≡ watch_of system (past_of [] rows_of_run)
+    pub watch : seen.watch ≡ watches_of system (past_of [] rows_of_run)
     pub counts : seen.counts ≡ counts_in system allowed [] rows_of_run no_counts
     pub table : seen.table ≡ kept_table options.show system options.horizon (past_of [] rows_of_run)
 
@@ -47,5 +61,8 @@ module _ (system : System) (allowed : List Bool) (options : Options) where
     pub text : AppendsBefore old new text_of_rows found.text.items
     pub counts : found.counts ≡ counts_in system allowed [] rows_of_run no_counts
     pub unended : found.unended.items ≡ found_at_end system (past_of [] rows_of_run) options.horizon 0 system.threads
+    pub due : found.due.items ≡ all_due None 0 (chains_of system (past_of [] rows_of_run)).each
+    pub slow : found.slow ≡ all_slow_many (chains_of system (past_of [] rows_of_run)).each
+    pub unanswered : found.unanswered.items ≡ all_unanswered system (past_of [] rows_of_run) options.horizon 0 system.chains
     pub kept : found.kept ≡ kept_of options.show system options.horizon (past_of [] rows_of_run)
     pub in_time : UpTo options.horizon (past_of [] rows_of_run)

@@ -8,7 +8,10 @@ use Rattle.mcs_verdict.specs.declared.job.Job.{Job}
 use Rattle.mcs_verdict.specs.Findings.{finding}
 use Rattle.mcs_verdict.specs.Jobs.{job_of}
 use Rattle.mcs_verdict.specs.Words.{merges}
-use Rattle.mcs_table.specs.Table.{Table, table_of}
+use Rattle.mcs_table.specs.Table.{table_of}
+use Rattle.mcs_chain.specs.Figures.{all_figures, tallies_of}
+use Rattle.mcs_chain.specs.Watch.{all_due, watch_of}
+use Rattle.mcs_chain.specs.declared.finding.Found.{Found as ChainFound}
 use Rattle.mcs_cli.specs.declared.fault.RunFault.{RunFault}
 use Rattle.mcs_cli.specs.declared.fault.RunFault.TheVariants as fault
 use Rattle.mcs_team.specs.declared.run.SimFault.TheVariants.{NoMemory}
@@ -16,9 +19,11 @@ use Rattle.mcs_check_words.specs.declared.asked.Format.{Format}
 use Rattle.mcs_check_words.specs.declared.asked.Show.{Show}
 use Rattle.mcs_check_words.specs.declared.asked.Show.TheVariants as show
 use Rattle.mcs_check.specs.declared.counts.Counts.{Counts}
+use Rattle.mcs_check.specs.declared.seen.Tables.{Tables}
 use Rattle.mcs_check.specs.declared.shown.Shown.{Shown}
 use Rattle.mcs_check.specs.declared.shown.Shown.TheVariants as shown
 use Rattle.mcs_ticks.specs.Capped.{one_more}
+use Rattle.mcs_check.specs.Chains.{chain_found_lines, chain_lines}
 use Rattle.mcs_check.specs.Counts.{taken, told_of}
 use Rattle.mcs_check.specs.Formats.{found_line, head_text, hint_line, job_line, row_line}
 use Rattle.mcs_check.specs.Figures.{table_lines}
@@ -46,26 +51,42 @@ abbrev pub told_line : Format → System → Option Shown → List ℕ
 told_line how system None = []
 told_line how system (Some entry) = shown_text how system entry
 
--- the lines after the last row, with the findings at the horizon
-abbrev pub rest_lines : Format → Show → System → List Bool → List Found → List ℕ
-rest_lines how show.Findings system allowed found = found_lines how system allowed found ++ flat_map (hint_line how system) (hints_of system)
-rest_lines how show.Jobs system allowed found = []
-rest_lines how show.Table system allowed found = []
-rest_lines how show.Both system allowed found = found_lines how system allowed found ++ flat_map (hint_line how system) (hints_of system)
+-- the lines after the last row: the slow answers that are due, the findings at the horizon, the
+-- chains without an answer, and the hints
+abbrev pub ends_lines : Format → System → List Bool → List ChainFound → List Found → List ChainFound → List ℕ
+ends_lines how system allowed due found unanswered =
+    chain_found_lines how system due ++ found_lines how system allowed found ++ chain_found_lines how system unanswered
+    ++ flat_map (hint_line how system) (hints_of system)
 
--- the table of these rows, if figures are asked for
-abbrev pub kept_table : Show → System → ℕ → List Row → Option Table
-kept_table show.Findings system horizon past = None
-kept_table show.Jobs system horizon past = None
-kept_table show.Table system horizon past = Some (table_of system horizon past)
-kept_table show.Both system horizon past = Some (table_of system horizon past)
+abbrev pub rest_lines : Format → Show → System → List Bool → List ChainFound → List Found → List ChainFound → List ℕ
+rest_lines how show.Findings system allowed due found unanswered = ends_lines how system allowed due found unanswered
+rest_lines how show.Jobs system allowed due found unanswered = []
+rest_lines how show.Table system allowed due found unanswered = []
+rest_lines how show.Both system allowed due found unanswered = ends_lines how system allowed due found unanswered
 
--- the lines of the table, if figures are asked for
+-- the tables of these rows, if figures are asked for
+abbrev pub tables_of : System → ℕ → List Row → Tables
+tables_of system horizon past = record { threads = table_of system horizon past; chains = tallies_of horizon system past }
+
+abbrev pub if_figures : Show → Tables → Option Tables
+if_figures show.Findings tables = None
+if_figures show.Jobs tables = None
+if_figures show.Table tables = Some tables
+if_figures show.Both tables = Some tables
+
+abbrev pub kept_table : Show → System → ℕ → List Row → Option Tables
+kept_table asked system horizon past = if_figures asked (tables_of system horizon past)
+
+-- the lines of the figures of threads, contexts and chains
+abbrev pub figures_of_all : Format → System → ℕ → List Row → List ℕ
+figures_of_all how system horizon past = table_lines how system horizon past ++ chain_lines how system 0 (all_figures horizon system past)
+
+-- these lines, if figures are asked for
 abbrev pub tabled_lines : Format → Show → System → ℕ → List Row → List ℕ
 tabled_lines how show.Findings system horizon past = []
 tabled_lines how show.Jobs system horizon past = []
-tabled_lines how show.Table system horizon past = table_lines how system horizon past
-tabled_lines how show.Both system horizon past = table_lines how system horizon past
+tabled_lines how show.Table system horizon past = figures_of_all how system horizon past
+tabled_lines how show.Both system horizon past = figures_of_all how system horizon past
 
 -- whether the target has failed after a line was refused
 abbrev pub failed_after : Bool → Bool → Bool
@@ -79,6 +100,13 @@ refusal is_out_of_memory = if is_out_of_memory then fault.Sim NoMemory else faul
 abbrev pub lines_of : (List Row → Row → List ℕ) → List Row → List Row → List ℕ
 lines_of line past [] = []
 lines_of line past (r ∷ rows) = line past r ++ lines_of line (r ∷ past) rows
+
+-- the lines of slow answers, if findings are shown
+abbrev pub due_lines : Format → System → Show → List ChainFound → List ℕ
+due_lines how system show.Findings due = chain_found_lines how system due
+due_lines how system show.Jobs due = []
+due_lines how system show.Table due = []
+due_lines how system show.Both due = chain_found_lines how system due
 
 module _ (system : System) (allowed : List Bool) where
   -- what is shown of a row that comes after these
@@ -100,9 +128,14 @@ module _ (system : System) (allowed : List Bool) where
   abbrev pub lines_in : Format → Show → List Row → List Row → List ℕ
   lines_in how asked past rows = lines_of (told_at how asked) past rows
 
+  -- the lines of the slow answers of earlier rows that are due at a row, and then those of the row
+  unfoldable pub row_lines : Format → Show → List Row → Row → List ℕ
+  row_lines how asked past r =
+      due_lines how system asked (all_due (Some r.moment) 0 (watch_of system past).each) ++ told_at how asked past r
+
   -- the first line, and the lines of all rows
   abbrev pub rows_text : Format → Show → List Row → List ℕ
-  rows_text how asked rows = head_text how asked ++ lines_in how asked [] rows
+  rows_text how asked rows = head_text how asked system ++ lines_of (row_lines how asked) [] rows
 
   abbrev pub counts_in : List Row → List Row → Counts → Counts
   counts_in past [] counts = counts

@@ -1,4 +1,4 @@
-use Rattle.std.proofs.Common.{rules, ◌≡◌, ◌∙◌, ◌++◌, [], true, ap, ap₂, sym, subst, is_ok, IfErr, IfSome, OnErr, length}
+use Rattle.std.proofs.Common.{rules, ◌≡◌, ◌∙◌, ◌++◌, [], None, true, ap, ap₂, sym, subst, is_ok, IfErr, IfSome, OnErr, length}
 use Rattle.std.specs.Io.KnownBytes.{Appends}
 use Rattle.std.specs.Arc.{arc_value}
 use Rattle.std.proofs.lemmas.Result.{IfErr-weaker}
@@ -13,11 +13,13 @@ use Rattle.mcs_check.specs.Allowed.{flags_of}
 use Rattle.mcs_check.specs.Check.{check_text, counts_of, names_of}
 use Rattle.mcs_check.specs.Counts.{no_counts, with_hints}
 use Rattle.mcs_check.specs.Formats.{counts_line}
-use Rattle.mcs_check.specs.stored.AllFound.{kept_of, IsKeptOf}
+use Rattle.mcs_chain.specs.Found.{all_unanswered}
+use Rattle.mcs_chain.specs.Watch.{all_due, all_slow_many, watch_of as chains_of}
+use Rattle.mcs_check.specs.stored.AllFound.{checked_of, kept_of, IsKeptOf}
 use Rattle.mcs_check.specs.stored.Rows.{counts_found, counts_in, rest_lines, rows_text, tabled_lines}
 use Rattle.mcs_check.proofs.AllFound.{kept-accounts}
 use Rattle.mcs_check.proofs.Results.{ok-holds}
-use Rattle.mcs_check.proofs.Texts.{behind, counts-put, rest_text, text-is}
+use Rattle.mcs_check.proofs.Texts.{behind, checked-put, counts-put, rest_text, text-is}
 use Rattle.mcs_check.proofs.run.write_check.Goals as goal
 
 pub returns-in_default-clause-fault : goal.returns-in_default-clause-fault
@@ -76,15 +78,21 @@ returns-in_err-write_text-clause-fault g c =
     let in_time = subst (λ s. UpTo horizon (past_of [] (schedule s horizon))) system_is c.in_ok-all.ensures.ok.in_time in
     let counted_are = c.in_ok-all.ensures.ok.counts ∙ ap₂ (λ s flags. counts_in s flags [] (schedule s horizon) no_counts) system_is flags_are in
     let done : is_ok c.put_rest.result ≡ true = search rules in
+    let due_are = c.in_ok-all.ensures.ok.due ∙ ap (λ s. all_due None 0 (chains_of s (past_of [] (schedule s horizon))).each) system_is in
+    let slow_is = c.in_ok-all.ensures.ok.slow ∙ ap (λ s. all_slow_many (chains_of s (past_of [] (schedule s horizon))).each) system_is in
+    let unanswered_are = c.in_ok-all.ensures.ok.unanswered ∙ ap (λ (s : System). all_unanswered s (past_of [] (schedule s horizon)) horizon 0 s.chains) system_is in
     let unended = c.in_ok-all.ensures.ok.unended ∙ ap (λ (s : System). found_at_end s (past_of [] (schedule s horizon)) horizon 0 s.threads) system_is
     ∙ ap (λ (s : System). found_at_end s (past_of [] (schedule system horizon)) horizon 0 s.threads) (sym own_is) in
     let counted = subst (λ found. c.put_rest.new.all.counts ≡ with_hints (length (hints_of c.deref-2.result.now)) (counts_found c.as_slice-allowed.result.now found c.in_ok-all.all.counts)) unended
     (ok-holds c.put_rest.result done c.put_rest.ensures.counts) in
     let counts_are = counts-put names system horizon _ _ _ _ flags_are own_is counted_are counted in
-    let put = subst (λ found. c.put_rest.new.all.text.items ≡ c.in_ok-all.all.text.items ++ rest_lines how asked c.deref-2.result.now c.as_slice-allowed.result.now found
-    ++ tabled_lines how asked c.deref-2.result.now horizon (past_of [] (schedule system horizon)) ++ counts_line how c.put_rest.new.all.counts) unended
+    let checked_are = checked-put names system horizon c.deref-2.result.now c.put_rest.new.all own_is counts_are (c.put_rest.ensures.slow ∙ slow_is)
+    (ap (λ v. v.items) c.put_rest.ensures.unanswered ∙ unanswered_are) in
+    let put = subst (λ found. c.put_rest.new.all.text.items ≡ c.in_ok-all.all.text.items
+    ++ rest_lines how asked c.deref-2.result.now c.as_slice-allowed.result.now c.in_ok-all.all.due.items found c.in_ok-all.all.unanswered.items
+    ++ tabled_lines how asked c.deref-2.result.now horizon (past_of [] (schedule system horizon)) ++ counts_line how (checked_of c.deref-2.result.now c.put_rest.new.all)) unended
     (ok-holds c.put_rest.result done (c.put_rest.ensures.text (past_of [] (schedule system horizon)) kept in_time)) in
-    let rest_is = behind names system horizon how asked _ _ _ _ _ flags_are own_is counts_are put in
+    let rest_is = behind names system horizon how asked _ _ _ _ _ _ _ flags_are own_is checked_are due_are unanswered_are put in
     let told = subst (λ flags. AppendsBefore (held c.args.target.now) (held c.find_rows-found.new.target) (rows_text system flags how asked (schedule system horizon)) c.in_ok-all.all.text.items) flags_are
     (subst (λ s. AppendsBefore (held c.args.target.now) (held c.find_rows-found.new.target) (rows_text s c.as_slice-allowed.result.now how asked (schedule s horizon)) c.in_ok-all.all.text.items) system_is c.in_ok-all.ensures.ok.text) in
     let longer = before-longer _ _ _ _ (rest_text how asked names system horizon (counts_of names system horizon)) told in
@@ -113,15 +121,21 @@ returns-clause-ok g c =
     let in_time = subst (λ s. UpTo horizon (past_of [] (schedule s horizon))) system_is c.in_ok-all.ensures.ok.in_time in
     let counted_are = c.in_ok-all.ensures.ok.counts ∙ ap₂ (λ s flags. counts_in s flags [] (schedule s horizon) no_counts) system_is flags_are in
     let done : is_ok c.put_rest.result ≡ true = search rules in
+    let due_are = c.in_ok-all.ensures.ok.due ∙ ap (λ s. all_due None 0 (chains_of s (past_of [] (schedule s horizon))).each) system_is in
+    let slow_is = c.in_ok-all.ensures.ok.slow ∙ ap (λ s. all_slow_many (chains_of s (past_of [] (schedule s horizon))).each) system_is in
+    let unanswered_are = c.in_ok-all.ensures.ok.unanswered ∙ ap (λ (s : System). all_unanswered s (past_of [] (schedule s horizon)) horizon 0 s.chains) system_is in
     let unended = c.in_ok-all.ensures.ok.unended ∙ ap (λ (s : System). found_at_end s (past_of [] (schedule s horizon)) horizon 0 s.threads) system_is
     ∙ ap (λ (s : System). found_at_end s (past_of [] (schedule system horizon)) horizon 0 s.threads) (sym own_is) in
     let counted = subst (λ found. c.put_rest.new.all.counts ≡ with_hints (length (hints_of c.deref-2.result.now)) (counts_found c.as_slice-allowed.result.now found c.in_ok-all.all.counts)) unended
     (ok-holds c.put_rest.result done c.put_rest.ensures.counts) in
     let counts_are = counts-put names system horizon _ _ _ _ flags_are own_is counted_are counted in
-    let put = subst (λ found. c.put_rest.new.all.text.items ≡ c.in_ok-all.all.text.items ++ rest_lines how asked c.deref-2.result.now c.as_slice-allowed.result.now found
-    ++ tabled_lines how asked c.deref-2.result.now horizon (past_of [] (schedule system horizon)) ++ counts_line how c.put_rest.new.all.counts) unended
+    let checked_are = checked-put names system horizon c.deref-2.result.now c.put_rest.new.all own_is counts_are (c.put_rest.ensures.slow ∙ slow_is)
+    (ap (λ v. v.items) c.put_rest.ensures.unanswered ∙ unanswered_are) in
+    let put = subst (λ found. c.put_rest.new.all.text.items ≡ c.in_ok-all.all.text.items
+    ++ rest_lines how asked c.deref-2.result.now c.as_slice-allowed.result.now c.in_ok-all.all.due.items found c.in_ok-all.all.unanswered.items
+    ++ tabled_lines how asked c.deref-2.result.now horizon (past_of [] (schedule system horizon)) ++ counts_line how (checked_of c.deref-2.result.now c.put_rest.new.all)) unended
     (ok-holds c.put_rest.result done (c.put_rest.ensures.text (past_of [] (schedule system horizon)) kept in_time)) in
-    let rest_is = behind names system horizon how asked _ _ _ _ _ flags_are own_is counts_are put in
+    let rest_is = behind names system horizon how asked _ _ _ _ _ _ _ flags_are own_is checked_are due_are unanswered_are put in
     let told = subst (λ flags. AppendsBefore (held c.args.target.now) (held c.find_rows-found.new.target) (rows_text system flags how asked (schedule system horizon)) c.in_ok-all.all.text.items) flags_are
     (subst (λ s. AppendsBefore (held c.args.target.now) (held c.find_rows-found.new.target) (rows_text s c.as_slice-allowed.result.now how asked (schedule s horizon)) c.in_ok-all.all.text.items) system_is c.in_ok-all.ensures.ok.text) in
     let longer = before-longer _ _ _ _ (rest_text how asked names system horizon (counts_of names system horizon)) told in
@@ -143,12 +157,16 @@ returns-clause-counted g c =
     let in_time = subst (λ s. UpTo horizon (past_of [] (schedule s horizon))) system_is c.in_ok-all.ensures.ok.in_time in
     let counted_are = c.in_ok-all.ensures.ok.counts ∙ ap₂ (λ s flags. counts_in s flags [] (schedule s horizon) no_counts) system_is flags_are in
     let done : is_ok c.put_rest.result ≡ true = search rules in
+    let due_are = c.in_ok-all.ensures.ok.due ∙ ap (λ s. all_due None 0 (chains_of s (past_of [] (schedule s horizon))).each) system_is in
+    let slow_is = c.in_ok-all.ensures.ok.slow ∙ ap (λ s. all_slow_many (chains_of s (past_of [] (schedule s horizon))).each) system_is in
+    let unanswered_are = c.in_ok-all.ensures.ok.unanswered ∙ ap (λ (s : System). all_unanswered s (past_of [] (schedule s horizon)) horizon 0 s.chains) system_is in
     let unended = c.in_ok-all.ensures.ok.unended ∙ ap (λ (s : System). found_at_end s (past_of [] (schedule s horizon)) horizon 0 s.threads) system_is
     ∙ ap (λ (s : System). found_at_end s (past_of [] (schedule system horizon)) horizon 0 s.threads) (sym own_is) in
     let counted = subst (λ found. c.put_rest.new.all.counts ≡ with_hints (length (hints_of c.deref-2.result.now)) (counts_found c.as_slice-allowed.result.now found c.in_ok-all.all.counts)) unended
     (ok-holds c.put_rest.result done c.put_rest.ensures.counts) in
     let counts_are = counts-put names system horizon _ _ _ _ flags_are own_is counted_are counted in
-    counts_are
+    c.checked_of.ensures
+    ∙ checked-put names system horizon c.deref-3.result.now c.put_rest.new.all (search rules) counts_are (c.put_rest.ensures.slow ∙ slow_is) (ap (λ v. v.items) c.put_rest.ensures.unanswered ∙ unanswered_are)
 
 -- one account for each thread
 pub put_rest-requires : goal.put_rest-requires

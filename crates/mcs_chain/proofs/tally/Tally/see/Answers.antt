@@ -11,8 +11,8 @@ returns c = λ horizon system past w e.
     let before = latencies system chain past in
     let is_one = is_interrupt chain.source r.what in
     let answers : List ℕ → List ℕ = λ origins. map (λ (o : ℕ). r.moment - o) origins ++ before in
-    c.start.ensures horizon (interrupts chain past) (answers c.answered.result.now) (c.answer_all.ensures horizon (interrupts chain past) before e)
-    ∙ ap (λ (b : Bool). tally_with horizon (cond b 1 0 + interrupts chain past) (answers c.answered.result.now)) c.is_interrupt.ensures
-    ∙ ap (λ os. tally_with horizon (cond is_one 1 0 + interrupts chain past) (answers os)) (c.answered.ensures system chain (r ∷ past) w)
+    c.start.ensures horizon (interrupts chain past) (answers c.args.answered.now) (c.answer_all.ensures horizon (interrupts chain past) before e)
+    ∙ ap (λ (b : Bool). tally_with horizon (cond b 1 0 + interrupts chain past) (answers c.args.answered.now)) c.is_interrupt.ensures
+    ∙ ap (λ os. tally_with horizon (cond is_one 1 0 + interrupts chain past) (answers os)) w
     ∙ ap (λ n. tally_with horizon n (answers (origins system chain (r ∷ past)).answered))
     (sym (sum_by-cons (λ r. cond (is_interrupt chain.source r.what) 1 0) r past))

@@ -1,8 +1,11 @@
-use Rattle.std.proofs.Common.{◌≡◌, ◌∙◌, ◌∷◌, ap, ap₂, sym, subst, is_ok}
-use Rattle.mcs_verdict.specs.Watch.{watch_of}
-use Rattle.mcs_cli.specs.Flow.{TakesLine}
-use Rattle.mcs_check.specs.stored.Rows.{counted_at, failed_after, kept_table, shown_at, shown_text, told_at, told_line}
-use Rattle.mcs_check.proofs.Results.{err-holds, ok-holds}
+use Rattle.std.proofs.Common.{rules, ◌≡◌, ◌∙◌, ◌++◌, ◌∷◌, OnErr, OnOk, Some, append_assoc, true, ap, ap₂, is_ok, subst, sym}
+use Rattle.mcs_chain.specs.Watch.{all_due, watch_of as chains_of}
+use Rattle.mcs_cli.specs.Devices.{AppendsPrefix}
+use Rattle.mcs_cli.specs.Flow.{AppendsBefore}
+use Rattle.mcs_check.specs.stored.Rows.{counted_at, due_lines, failed_after, kept_table, row_lines, told_at}
+use Rattle.mcs_check.specs.stored.Watches.{watches_of}
+use Rattle.mcs_check.proofs.Results.{err-holds, moved, ok-holds, takes-lines}
+use Rattle.mcs_check.proofs.Told.{row-is}
 use Rattle.mcs_check.proofs.finder.FinderSink.row.Goals as goal
 
 pub returns : goal.returns
@@ -11,33 +14,49 @@ returns g c =
     let failed = g.T.Target.has_failed in
     let row = c.args.row.now in
     let before = c.args.self.now in
+    let passed = c.pass.new.self in
+    let after = c.take.new.self in
     let p = c.pass.ensures in
-    let shown = c.in-Some.shown in (
-      c.put.ensures.target ∙ ap (λ l. l.target.ghost_name) p.lines,
-      p.seen,
-      p.show,
-      p.format,
-      p.system,
-      p.allowed,
-      λ taken. ok-holds c.put.result taken c.put.ensures.working ∙ ap (λ l. failed l.target.now) p.lines,
-      λ taken. err-holds c.put.result taken c.put.ensures.refused ∙ ap (λ l. failed_after c.put.new.self.is_out_of_memory (failed l.target.now)) p.lines,
+    let t = c.take.ensures in
+    let lines_are = t.lines ∙ p.lines in
+    let done : is_ok c.take.result ≡ true = search rules in (
+      c.flow.ensures.target ∙ ap (λ l. l.target.ghost_name) lines_are,
+      t.seen ∙ p.seen,
+      t.show ∙ p.show,
+      t.format ∙ p.format,
+      t.system ∙ p.system,
+      t.allowed ∙ p.allowed,
+      λ taken. ok-holds c.flow.result taken c.flow.ensures.working ∙ ap (λ l. failed l.target.now) lines_are,
+      λ taken. err-holds c.flow.result taken c.flow.ensures.refused ∙ ap (λ l. failed_after c.flow.new.self.is_out_of_memory (failed l.target.now)) lines_are,
       λ past watch up.
-          let system = before.system.now in
-          let watch_is = subst (λ s. s.watch ≡ watch_of system past) (sym p.seen_now) watch in
-          let by_allowed = subst (λ a. c.see.result ≡ shown_at system a.now c.pass.new.self.show past row) p.allowed (c.see.ensures.told system past watch_is up) in
-          let told = subst (λ s. c.see.result ≡ shown_at system before.allowed.now s past row) p.show by_allowed in
-          let line : shown_text c.pass.new.self.format c.pass.new.self.system.now shown ≡ told_at system before.allowed.now before.format before.show past row =
-          ap₂ (λ form s. shown_text form s.now shown) p.format p.system ∙ ap (told_line before.format system) (sym c.in-Some.is ∙ told) in
-          let put = subst (λ text. TakesLine (held c.pass.new.self.lines.target.now) (held c.put.new.self.target.now) c.see.new.self.text.items c.put.new.text.items text (is_ok c.put.result)) line c.put.ensures.line in
-          let behind = subst (λ t. TakesLine (held c.pass.new.self.lines.target.now) (held c.put.new.self.target.now) t.items c.put.new.text.items (told_at system before.allowed.now before.format before.show past row) (is_ok c.put.result)) (c.see.ensures.text ∙ ap (λ s. s.text) p.seen_now) put in (
-            c.see.ensures.kept system past watch_is up,
-            subst (λ a. c.see.new.self.counts ≡ counted_at system a.now past row before.seen.now.counts) p.allowed
-                (subst (λ s. c.see.new.self.counts ≡ counted_at system c.pass.new.self.allowed.now past row s.counts) p.seen_now (c.see.ensures.counted system past watch_is up)),
-            λ horizon table.
-                let own = subst (λ s. s.table ≡ kept_table c.pass.new.self.show system horizon past) (sym p.seen_now)
-                (subst (λ a. before.seen.now.table ≡ kept_table a system horizon past) (sym p.show) table) in
-                subst (λ a. c.see.new.self.table ≡ kept_table a system horizon (row ∷ past)) p.show (c.see.ensures.tabled system horizon past watch_is up own),
-            subst (λ l. TakesLine (held l.target.now) (held c.put.new.self.target.now) before.seen.now.text.items c.put.new.text.items
-                (told_at system before.allowed.now before.format before.show past row) (is_ok c.put.result)) p.lines behind,
+          let mine : c.pass.new.self.seen.now.watch ≡ watches_of c.pass.new.self.system.now past =
+          ap (λ s. s.watch) p.seen_now ∙ watch ∙ ap (λ s. watches_of s.now past) (sym p.system) in
+          let raw : c.take.new.self.seen.now.text.items ≡ c.pass.new.self.seen.now.text.items
+          ++ due_lines c.pass.new.self.format c.pass.new.self.system.now c.pass.new.self.show (all_due (Some c.args.row.now.moment) 0 (chains_of c.pass.new.self.system.now past).each)
+          ++ told_at c.pass.new.self.system.now c.pass.new.self.allowed.now c.pass.new.self.format c.pass.new.self.show past c.args.row.now =
+          ok-holds c.take.result done (t.told past mine up) in
+          let here : c.take.new.self.seen.now.text.items ≡ c.pass.new.self.seen.now.text.items
+          ++ due_lines c.args.self.now.format c.args.self.now.system.now c.args.self.now.show (all_due (Some c.args.row.now.moment) 0 (chains_of c.args.self.now.system.now past).each)
+          ++ told_at c.args.self.now.system.now c.args.self.now.allowed.now c.args.self.now.format c.args.self.now.show past c.args.row.now =
+          moved (λ sys flags asked form. c.take.new.self.seen.now.text.items ≡ c.pass.new.self.seen.now.text.items
+          ++ due_lines form sys asked (all_due (Some row.moment) 0 (chains_of sys past).each) ++ told_at sys flags form asked past row)
+          _ _ _ _ _ _ _ _ (ap (λ b. b.now) p.system) (ap (λ b. b.now) p.allowed) p.show p.format raw in
+          let told : c.take.new.self.seen.now.text.items ≡ c.args.self.now.seen.now.text.items
+          ++ row_lines c.args.self.now.system.now c.args.self.now.allowed.now c.args.self.now.format c.args.self.now.show past c.args.row.now =
+          here ∙ append_assoc c.pass.new.self.seen.now.text.items (due_lines before.format before.system.now before.show (all_due (Some row.moment) 0 (chains_of before.system.now past).each))
+          (told_at before.system.now before.allowed.now before.format before.show past row)
+          ∙ ap₂ (λ s l. s.text.items ++ l) p.seen_now (row-is before.format before.system.now before.allowed.now before.show past row) in (
+            λ taken. ok-holds c.take.result done (t.kept past mine up) ∙ ap (λ s. watches_of s.now (row ∷ past)) p.system,
+            subst (λ a. after.seen.now.counts ≡ counted_at before.system.now a.now past row before.seen.now.counts) p.allowed
+                (subst (λ s. after.seen.now.counts ≡ counted_at before.system.now passed.allowed.now past row s.counts) p.seen_now
+                (subst (λ s. after.seen.now.counts ≡ counted_at s.now passed.allowed.now past row passed.seen.now.counts) p.system (t.counted past mine up))),
+            λ horizon table taken.
+                let own : c.pass.new.self.seen.now.table ≡ kept_table c.pass.new.self.show c.pass.new.self.system.now horizon past =
+                ap (λ s. s.table) p.seen_now ∙ table ∙ ap₂ (λ a s. kept_table a s.now horizon past) (sym p.show) (sym p.system) in
+                ok-holds c.take.result done (t.tabled past horizon mine up own) ∙ ap₂ (λ a s. kept_table a s.now horizon (row ∷ past)) p.show p.system,
+            takes-lines (held before.lines.target.now) (held c.flow.new.self.target.now) before.seen.now.text.items after.seen.now.text.items c.flow.new.text.items
+                (row_lines before.system.now before.allowed.now before.format before.show past row) c.flow.result told
+                (subst (λ l. OnOk c.flow.result (AppendsBefore (held l.target.now) (held c.flow.new.self.target.now) after.seen.now.text.items c.flow.new.text.items)) lines_are c.flow.ensures.ok)
+                (subst (λ l. OnErr c.flow.result (AppendsPrefix (held l.target.now) (held c.flow.new.self.target.now) after.seen.now.text.items)) lines_are c.flow.ensures.err),
           ),
     )

@@ -1,0 +1,31 @@
+-- The counts of a check, with those of chains.
+use Rattle.std.specs.Prelude.{ℕ, length, Bool, true, ◌==◌, ◌&&◌, List, [], ◌∷◌, Option, Some, None}
+use Rattle.mcs_ticks.specs.Capped.{capped}
+use Rattle.mcs_ticks.specs.declared.row.Row.{Row}
+use Rattle.mcs_system.specs.declared.part.ChainPart.{ChainPart}
+use Rattle.mcs_system.specs.System.{System}
+use Rattle.mcs_chain.specs.Found.{all_slow, all_unanswered}
+use Rattle.mcs_check.specs.declared.checked.ChainCounts.{ChainCounts}
+use Rattle.mcs_check.specs.declared.checked.Checked.{Checked}
+use Rattle.mcs_check.specs.Counts.{is_clean as no_finding}
+
+-- this many findings of chains, if the file has a chain
+abbrev pub if_chains : List ChainPart → ChainCounts → Option ChainCounts
+if_chains [] counts = None
+if_chains (chain ∷ chains) counts = Some counts
+
+-- by the rows up to the horizon, the latest first
+abbrev pub chain_counts : System → List Row → ℕ → Option ChainCounts
+chain_counts system past horizon =
+    if_chains system.chains (record {
+      slow = capped (length (all_slow system past 0 system.chains));
+      unanswered = length (all_unanswered system past horizon 0 system.chains);
+    })
+
+-- there is no finding, and no hint if hints count
+abbrev pub none_of_chains : Option ChainCounts → Bool
+none_of_chains None = true
+none_of_chains (Some counts) = counts.slow == 0 && counts.unanswered == 0
+
+abbrev pub is_clean : Bool → Checked → Bool
+is_clean strict checked = no_finding strict checked.counts && none_of_chains checked.chains
