@@ -1,3 +1,4 @@
+//! Command lines of the check that are taken, and those that are refused.
 use mcs_check_words::{Format, Options, Show, WordsFault, options};
 use std::alloc::{AllocError, Global};
 use std::test::Fail;

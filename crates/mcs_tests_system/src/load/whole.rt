@@ -1,6 +1,6 @@
 //! A file with all of its keys, and out of memory, which has no place in a file.
 
-use crate::files::answer;
+use crate::load::files::answer;
 use mcs_load::{FaultKind, Key, LoadFault, Section, Spot, accepted_systems_are_well_formed};
 use std::test::Fail;
 

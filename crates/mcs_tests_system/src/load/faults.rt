@@ -1,6 +1,6 @@
 //! Faults of the top, of contexts and of notifications.
 
-use crate::files::{TOP, are_answered};
+use crate::load::files::{TOP, are_answered};
 use std::test::Fail;
 
 static SMALL: [(&str, &str); 7] = [

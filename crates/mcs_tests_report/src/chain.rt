@@ -1,3 +1,4 @@
+//! Chains that are watched and tallied.
 use mcs_chain::{Figures, Finding, Tally, Watch};
 use mcs_load::load;
 use mcs_system::System;

@@ -1,6 +1,6 @@
 //! The maximum number of rows of each kind in a file, and one more.
 
-use crate::files::{PARTS, TOP, answer};
+use crate::load::files::{PARTS, TOP, answer};
 use std::alloc::{AllocError, Global};
 use std::process::Abort;
 use std::test::Fail;

@@ -1,6 +1,6 @@
 //! Faults of links between cores, and of the versions that have them.
 
-use crate::files::{answer, are_answered};
+use crate::load::files::{answer, are_answered};
 use std::alloc::Global;
 use std::test::Fail;
 

@@ -1,6 +1,6 @@
 //! Faults of sources and chains.
 
-use crate::files::are_answered;
+use crate::load::files::are_answered;
 use std::test::Fail;
 
 /// A notification, and a source. The keys after its name follow.

@@ -1,3 +1,4 @@
+//! Tables of figures.
 ghost use Rattle.std.specs.Prelude.{◌≡◌, ◌≤◌, ◌^◌, length};
 
 use mcs_load::load;

@@ -1,6 +1,6 @@
 //! Faults of notifications' first words, of servers, and of the items that version 3 adds.
 
-use crate::files::are_answered;
+use crate::load::files::are_answered;
 use std::test::Fail;
 
 /// The numbers at the top of a file of version 3, with a context on core 0, and notifications n (on

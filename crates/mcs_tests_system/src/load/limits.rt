@@ -1,6 +1,6 @@
 //! Each limit of a number or a name is accepted, and one past it is refused.
 
-use crate::files::{PARTS, THREAD, TOP, are_answered};
+use crate::load::files::{PARTS, THREAD, TOP, are_answered};
 use std::test::Fail;
 
 static LIMITS_OF_THE_TOP: [(&str, &str); 10] = [

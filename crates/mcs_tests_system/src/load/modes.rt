@@ -1,6 +1,6 @@
 //! Faults of a context's mode.
 
-use crate::files::are_answered;
+use crate::load::files::are_answered;
 use std::test::Fail;
 
 /// The numbers at the top of a file, and the beginning of a context.

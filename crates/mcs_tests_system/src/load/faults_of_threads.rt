@@ -1,6 +1,6 @@
 //! Faults of threads, of their scripts and of orders.
 
-use crate::files::{PARTS, THREAD, are_answered};
+use crate::load::files::{PARTS, THREAD, are_answered};
 use std::test::Fail;
 
 static OF_THREADS: [(&str, &str); 14] = [
