@@ -421,11 +421,11 @@ SAYS = {
     'mcs_check_forever/specs/Verdict.antt': {
         'findings': 'the findings of all sets',
     },
-    'mcs_outlook/specs/Outlook.antt': {
+    'mcs_ever_told/specs/Outlook.antt': {
         'NeverLoses': 'no schedule coalesces a signal of this notification',
         'open_lines': 'the lines of a set without a repetition up to the horizon',
     },
-    'mcs_course/specs/Course.antt': {
+    'mcs_ever_found/specs/Course.antt': {
         'course_of': 'the course of all threads and notifications in the rows so far, the latest first',
     },
     'mcs_verdict/specs/Account.antt': {
@@ -434,14 +434,14 @@ SAYS = {
     'mcs_verdict/specs/Later.antt': {
         'IsLaterAccount': 'an account is another one `by` ticks later, without its totals',
     },
-    'mcs_verdict_forever/specs/Recurs.antt': {
+    'mcs_ever_found/specs/Recurs.antt': {
         'watch_before': 'what is kept before moment t',
         'WordIsLater': 'the word of a notification was set `by` ticks later',
     },
     'mcs_verdict/specs/Watch.antt': {
         'Watch': 'what is kept of all threads and of all words',
     },
-    'mcs_forever/specs/Later.antt': {
+    'mcs_ever/specs/Later.antt': {
         'RoundKeepsUp': 'the thread runs further by as many ticks as the clock',
     },
 }
@@ -475,13 +475,13 @@ PLAIN = {
         'moves moves_on obeys part_of posts preempts queued silent stamped tick with_chosen_context '
         'with_its_context with_woken_context'
     ).split(),
-    'mcs_forever/specs/Later.antt': (
+    'mcs_ever/specs/Later.antt': (
         'IsSporadic later_budget later_context later_dated later_dates later_mail later_place '
         'later_thread'
     ).split(),
-    'mcs_forever/specs/Recurs.antt': 'shift_of'.split(),
-    'mcs_forever_text/specs/Fields.antt': 'Fields cores_field note_field thread_field'.split(),
-    'mcs_forever_text/specs/Lines.antt': 'words_text'.split(),
+    'mcs_ever/specs/Recurs.antt': 'shift_of'.split(),
+    'mcs_ever_told/specs/Fields.antt': 'Fields cores_field note_field thread_field'.split(),
+    'mcs_ever_told/specs/Texts.antt': 'words_text'.split(),
     'mcs_laws/specs/Histories.antt': 'charges_told home_of is_order_for'.split(),
     'mcs_laws/specs/Slices.antt': 'charges_in'.split(),
     'mcs_load/specs/Script.antt': 'begins_handler'.split(),
@@ -489,11 +489,11 @@ PLAIN = {
         'chains contexts is_version_2_or_3 is_version_3 links orders sources threads'
     ).split(),
     'mcs_notify/specs/Note.antt': 'after_post after_wait posted quiet_note'.split(),
-    'mcs_outlook/specs/Lines.antt': (
+    'mcs_ever_told/specs/Lines.antt': (
         'count_lines end_line end_lines is_own_note losses_of misses_of of_notes thread_lines '
         'thread_so_far threads_so_far'
     ).split(),
-    'mcs_outlook/specs/Outlook.antt': 'IsTrueOf course_up_to found_of lines_of told_end'.split(),
+    'mcs_ever_told/specs/Outlook.antt': 'IsTrueOf course_up_to found_of lines_of told_end'.split(),
     'mcs_refills/specs/Server.antt': (
         'charged_with_enough dates_of enough first_amount first_date first_moment head_amount '
         'is_ready last_date'
@@ -528,7 +528,7 @@ PLAIN = {
     'mcs_ticks/specs/Queue.antt': 'first_of_greatest'.split(),
     'mcs_verdict/specs/Account.antt': 'is_about is_some_of since_of'.split(),
     'mcs_verdict/specs/Later.antt': 'later_moment'.split(),
-    'mcs_verdict_forever/specs/laws/Never.antt': 'has_lost_of'.split(),
+    'mcs_ever_found/specs/laws/Never.antt': 'has_lost_of'.split(),
     'mcs_verdict_laws/specs/laws/Horizons.antt': 'has_miss_of'.split(),
     'mcs_window/specs/Views.antt': 'AreShownBefore views_in'.split(),
 }

@@ -45,17 +45,17 @@ ALWAYS_TRIED = (
     'mcs_cli/streams_read_text_blames_a_source_that_did_not_fail',
     # verdicts: a round that is let go
     'mcs_verdict/account_see_lets_a_taken_word_begin_no_round',
-    'mcs_course/course_missed_by_takes_what_is_overdue',
+    'mcs_ever_found/course_missed_by_takes_what_is_overdue',
     # for all time: what is forgotten when two moments are compared
-    'mcs_forever/marks_joined_forgets_the_round',
-    'mcs_image/threads_stands_alike_forgets_what_is_left',
-    'mcs_under_way/signals_see_forgets_the_row',
-    'mcs_recurs/shifts_between_leaves_the_signals_out',
-    'mcs_recurring/doings_subject_forgets_a_wake',
-    'mcs_search/search_recurs_lets_an_order_pass',
-    'mcs_lockstep/turns_take_turns_leaves_the_first_core_behind',
+    'mcs_ever/marks_joined_forgets_the_round',
+    'mcs_ever_again/threads_stands_alike_forgets_what_is_left',
+    'mcs_ever_again/signals_see_forgets_the_row',
+    'mcs_ever_again/shifts_between_leaves_the_signals_out',
+    'mcs_ever_found/doings_subject_forgets_a_wake',
+    'mcs_ever_search/search_recurs_lets_an_order_pass',
+    'mcs_ever_search/turns_take_turns_leaves_the_first_core_behind',
     # for all time: what is said of it
-    'mcs_outlook/settle_is_never_found_lets_a_miss_pass',
+    'mcs_ever_told/settle_is_never_found_lets_a_miss_pass',
     'mcs_check_forever/verdict_of_takes_open_for_clean',
 )
 

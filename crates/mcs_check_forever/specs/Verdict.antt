@@ -6,12 +6,12 @@ use Rattle.mcs_system.specs.System.{System}
 use Rattle.mcs_check.specs.Allowed.{flags_of}
 use Rattle.mcs_check_words.specs.declared.asked.Format.{Format}
 use Rattle.mcs_check_words.specs.declared.asked.Format.TheVariants as format
-use Rattle.mcs_forever_text.specs.declared.line.Line.TheVariants.{Sets}
-use Rattle.mcs_forever_text.specs.declared.line.LineFormat.{LineFormat}
-use Rattle.mcs_forever_text.specs.declared.line.LineFormat.TheVariants as lines
-use Rattle.mcs_forever_text.specs.Formats.{line_text, lines_text}
-use Rattle.mcs_outlook.specs.declared.told.Told.{Told}
-use Rattle.mcs_outlook.specs.Outlook.{AreTold}
+use Rattle.mcs_ever_told.specs.declared.line.Line.TheVariants.{Sets}
+use Rattle.mcs_ever_told.specs.declared.line.LineFormat.{LineFormat}
+use Rattle.mcs_ever_told.specs.declared.line.LineFormat.TheVariants as lines
+use Rattle.mcs_ever_told.specs.Formats.{line_text, lines_text}
+use Rattle.mcs_ever_told.specs.declared.outlook.told.Told.{Told}
+use Rattle.mcs_ever_told.specs.Outlook.{AreTold}
 use Rattle.mcs_check_forever.specs.declared.verdict.Verdict.{Verdict}
 use Rattle.mcs_check_forever.specs.declared.verdict.Verdict.TheVariants.{Clean, Found, Open}
 

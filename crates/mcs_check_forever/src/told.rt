@@ -1,13 +1,12 @@
 //! The results of all sets of cores as text, and their verdict.
 ghost use Rattle.std.specs.Prelude.{◌≡◌, ◌++◌, flat_map, IfOk, OnOk};
-ghost use Rattle.mcs_forever_text.specs.Formats.{lines_text};
-ghost use Rattle.mcs_outlook.specs.declared.told.Told.{Told as ToldSet};
+ghost use Rattle.mcs_ever_told.specs.Formats.{lines_text};
+ghost use Rattle.mcs_ever_told.specs.declared.outlook.told.Told.{Told as ToldSet};
 ghost use Rattle.mcs_check_forever.specs.Verdict.{line_format, repeating, findings, told_text, verdict_of};
 
 use crate::Verdict;
 use mcs_check_words::Format;
-use mcs_forever_text::{Line, LineFormat, put_line, put_lines};
-use mcs_outlook::Told;
+use mcs_ever_told::{Line, LineFormat, Told, put_line, put_lines};
 use mcs_system::System;
 use mcs_ticks::NoMemory;
 use std::alloc::Global;

@@ -1,4 +1,4 @@
-//! Tests of `mcs_cli`, over its public items.
+//! Tests of `mcs_cli` and `mcs_check_words`, over their public items.
 #![tactic(auto)]
 
 #[cfg(test)]

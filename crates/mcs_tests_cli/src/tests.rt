@@ -1,4 +1,5 @@
 //! The tests, by what they run.
+mod check_words;
 mod devices;
 mod failing;
 mod faults;

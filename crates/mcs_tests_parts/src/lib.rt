@@ -4,6 +4,8 @@
 #[cfg(test)]
 mod control;
 #[cfg(test)]
+mod histogram;
+#[cfg(test)]
 mod mail;
 #[cfg(test)]
 mod merge;

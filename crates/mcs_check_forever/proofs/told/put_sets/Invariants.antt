@@ -1,6 +1,6 @@
 use Rattle.std.proofs.Common.{◌≡◌, ◌++◌, drop, flat_map}
-use Rattle.mcs_forever_text.specs.Formats.{lines_text}
-use Rattle.mcs_outlook.specs.declared.told.Told.{Told}
+use Rattle.mcs_ever_told.specs.Formats.{lines_text}
+use Rattle.mcs_ever_told.specs.declared.outlook.told.Told.{Told}
 use Rattle.mcs_check_forever.proofs.told.put_sets.Given as goal
 
 abbrev pub invariant-loop-set : goal.invariant-loop-set

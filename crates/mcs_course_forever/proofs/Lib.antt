@@ -1,3 +1,0 @@
-pub mod Greatest
-pub mod Spent
-pub mod Counted

@@ -1,0 +1,5 @@
+use Rattle.std.proofs.Common.{◌≡◌, take}
+use Rattle.mcs_ever_again.proofs.image.reading.read_contexts.Given as goal
+
+abbrev pub invariant-loop-i : goal.invariant-loop-i
+invariant-loop-i l = l.contexts.items ≡ take l.i l.state.core.contexts

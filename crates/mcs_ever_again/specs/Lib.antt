@@ -1,0 +1,11 @@
+pub mod Lag
+pub mod Lags
+pub mod UnderWay
+pub mod Group
+pub mod Snapshot
+pub mod Told
+pub mod Period
+pub mod Schedule
+pub mod Sources
+pub mod stored
+pub mod laws

@@ -1,0 +1,27 @@
+-- The flags of rows, by hand. In the system of mcs_ever_found each signal but the first is
+-- lost. It has one thread and one notification.
+use Rattle.std.specs.Prelude.{◌≡◌, true, false, [], ◌∷◌, Some, refl}
+use Rattle.mcs_ticks.specs.declared.row.What.TheVariants as row
+use Rattle.mcs_ticks.specs.declared.row.Why.TheVariants as why
+use Rattle.mcs_ever_found.proofs.WorkedFindings.{signals}
+use Rattle.mcs_ever_found.specs.Doings.{doings_of}
+
+-- chosen and stopped, the thread ends no round
+chosen : doings_of signals (row.Release 0 ∷ row.Run 0 ∷ row.Stop 0 why.Spent 2 (Some 4) ∷ [])
+    ≡ record { ended = false ∷ []; told = true ∷ []; taken = false ∷ []; held = false ∷ [] }
+chosen = refl
+
+-- a row of its signal is not about the thread
+signalled : doings_of signals (row.Signal 0 0 1 ∷ row.Hold 0 1 ∷ [])
+    ≡ record { ended = false ∷ []; told = false ∷ []; taken = false ∷ []; held = true ∷ [] }
+signalled = refl
+
+-- a row of a taken word is about the thread that takes it
+took : doings_of signals (row.Got 0 0 1 ∷ [])
+    ≡ record { ended = false ∷ []; told = true ∷ []; taken = true ∷ []; held = false ∷ [] }
+took = refl
+
+-- a row of an ended round is about its thread; a row of another number sets no flag
+ended : doings_of signals (row.Round 0 1 3 ∷ row.Round 1 1 3 ∷ row.Got 1 1 1 ∷ row.Hold 1 1 ∷ [])
+    ≡ record { ended = true ∷ []; told = true ∷ []; taken = false ∷ []; held = false ∷ [] }
+ended = refl

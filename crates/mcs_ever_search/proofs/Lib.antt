@@ -1,0 +1,14 @@
+pub mod Standing
+pub mod Turning
+pub mod Idling
+pub mod Skipping
+mod WorkedTurns
+pub mod Seeing
+pub mod Going
+pub mod Ending
+pub mod Keeping
+pub mod Stepping
+pub mod Telling
+pub mod Resting
+pub mod Images
+mod WorkedSearch

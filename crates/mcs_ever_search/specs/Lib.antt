@@ -1,0 +1,5 @@
+pub mod Together
+pub mod Compared
+pub mod Sampling
+pub mod Repeats
+pub mod stored

@@ -1,0 +1,3 @@
+pub mod Lockstep
+pub mod Seen
+pub mod Kept

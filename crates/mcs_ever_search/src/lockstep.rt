@@ -1,0 +1,128 @@
+ghost use Rattle.std.specs.Prelude.{◌≡◌, ◌≤◌, ◌<◌, ◌^◌, ◌+◌, ◌++◌, false, true, IfOk, OnOk, OnErr};
+ghost use Rattle.std.specs.Arc.{arc_value};
+ghost use Rattle.mcs_window.specs.Idle.{IsIdleUntil};
+ghost use Rattle.mcs_window.specs.Stretch.{StandsAt};
+ghost use Rattle.mcs_ever_search.specs.Together.{opening, at_moment, with_failed, clocks_at, rows_at, rows_before};
+
+use crate::turns::take_turns;
+use mcs_core::CoreState;
+use mcs_system::System;
+use mcs_ticks::{CoreId, NoMemory, Row, Tick};
+use mcs_window::Cores;
+use std::alloc::Global;
+use std::marker::Model;
+use std::sync::Arc;
+
+/// All cores of a system at one time, up to a horizon.
+#[derive(Drop)]
+pub struct Lockstep {
+    system: Arc<System>,
+    cores: Cores,
+    clock: Tick,
+    horizon: Tick,
+    failed: bool,
+}
+
+impl Model for Lockstep {
+    ghost use Rattle.mcs_ever_search.specs.Together.{Together};
+
+    ghost Value = { Together };
+
+    ghost use Rattle.mcs_ever_search.specs.stored.Lockstep.{IsKept, together_of};
+
+    ghost view = { together_of };
+
+    ghost invariant = { IsKept };
+}
+
+impl Lockstep {
+    /// Returns all cores before their turns at time 0, for a run up to this horizon.
+    pub fn new(alloc: Global, system: Arc<System>, horizon: Tick) -> Result<Lockstep, NoMemory>
+        requires { horizon ≤ 2 ^ 40 }
+        ensures { IfOk result (λ lockstep. lockstep ≡ opening (arc_value system) horizon) }
+    {
+        let shared = Arc::try_clone(&system)?;
+        let cores = Cores::new(alloc, shared, horizon)?;
+        let _parts = system.parts();
+        Ok(Lockstep {
+            system,
+            cores,
+            clock: Tick::ZERO,
+            horizon,
+            failed: false,
+        })
+    }
+
+    /// The time of the next turn of all cores, at most one past the horizon.
+    pub fn clock(&self) -> Tick
+        ensures value { result ≡ self.now.clock }
+        ensures in_time { result ≤ self.now.horizon + 1 }
+    {
+        self.clock
+    }
+
+    /// Whether a turn ran out of memory. Each later call then returns `NoMemory` too.
+    pub fn failed(&self) -> bool
+        ensures { result ≡ self.now.failed }
+    {
+        self.failed
+    }
+
+    /// The state of a core before its turn at `clock`, as on the clock over all cores. No turn may
+    /// have run out of memory.
+    pub fn state(&self, core: CoreId) -> &CoreState
+        requires known { core < self.now.system.cores }
+        requires whole { self.now.failed ≡ false }
+        ensures { StandsAt self.now.system core self.now.clock result.now }
+    {
+        self.cores.state(core)
+    }
+
+    /// Skips idle time: moves all cores to the first moment, from `clock` on, at which some core
+    /// does more than count a tick, at most one past the horizon. Returns that moment. The schedule
+    /// has no row meanwhile. It allocates no memory. Returns `NoMemory`, and changes nothing, only
+    /// if a turn ran out of memory before.
+    pub fn skip(&mut self) -> Result<Tick, NoMemory>
+        ensures going { OnOk result (self.old.failed ≡ false) }
+        ensures moment { IfOk result
+            (IsIdleUntil self.old.system (clocks_at self.old.system self.old.clock) (self.old.horizon + 1)) }
+        ensures later { IfOk result (λ moment. self.old.clock ≤ moment) }
+        ensures together { IfOk result (λ moment. self.new ≡ at_moment self.old moment) }
+        ensures no_rows { IfOk result (λ moment.
+            rows_before self.old.system moment ≡ rows_before self.old.system self.old.clock) }
+        ensures err { OnErr result ((self.old.failed ≡ true) × (self.new ≡ self.old)) }
+    {
+        if self.failed {
+            return Err(NoMemory);
+        }
+        let moment = self.cores.skip_idle()?;
+        self.clock = moment;
+        Ok(moment)
+    }
+
+    /// Takes the turns of all cores at this moment, in rising order, and moves on to the next
+    /// moment. Appends the rows of these turns, which are those of the schedule at this moment. On
+    /// `NoMemory` no row is appended, and each later call returns it too.
+    pub fn turn(&mut self, rows: &mut Vec<Row>) -> Result<(), NoMemory>
+        requires { self.old.clock ≤ self.old.horizon }
+        ensures going { OnOk result (self.old.failed ≡ false) }
+        ensures together { OnOk result (self.new ≡ at_moment self.old (self.old.clock + 1)) }
+        ensures rows { OnOk result (rows.new.items ≡ rows.old.items ++ rows_at self.old.system self.old.clock) }
+        ensures schedule { OnOk result (rows_before self.old.system (self.old.clock + 1)
+            ≡ rows_before self.old.system self.old.clock ++ rows_at self.old.system self.old.clock) }
+        ensures err { OnErr result (self.new ≡ with_failed self.old) }
+        ensures refused { OnErr result (rows.new.items ≡ rows.old.items) }
+    {
+        if self.failed {
+            return Err(NoMemory);
+        }
+        self.failed = true;
+        let alloc: Global = *rows.allocator();
+        let mut made = Vec::new(alloc);
+        take_turns(&self.system, &mut self.cores, self.clock, &mut made)?;
+        rows.append(&mut made)?;
+        self.clock = self.clock.plus(1).unwrap();
+        self.failed = false;
+        Ok(())
+    }
+}

@@ -1,0 +1,65 @@
+ghost use Rattle.std.specs.Prelude.{◌≡◌, ◌<◌, false, map, IfOk};
+ghost use Rattle.mcs_core.specs.Clock.{core_shown, world};
+ghost use Rattle.mcs_laws.specs.Turns.{cores};
+ghost use Rattle.mcs_ever_again.specs.Snapshot.{IsOfClock};
+
+use crate::lockstep::Lockstep;
+use mcs_ever_again::{CoreImage, Snapshot, UnderWay};
+use mcs_mail::Mail;
+use mcs_system::System;
+use mcs_ticks::{CoreId, NoMemory};
+use std::alloc::Global;
+
+fn image(
+    alloc: Global,
+    system: &System,
+    lockstep: &Lockstep,
+    core: CoreId,
+) -> Result<CoreImage, NoMemory>
+    requires known { core < system.now.cores }
+    requires same { lockstep.now.system ≡ system.now }
+    requires going { lockstep.now.failed ≡ false }
+    ensures { IfOk result (λ image. image ≡ core_shown system.now (world system.now lockstep.now.clock) core) }
+{
+    let image = CoreImage::new(alloc, system, lockstep.state(core))?;
+    Ok(image)
+}
+
+/// Returns the images of all cores, by their numbers.
+fn images(alloc: Global, system: &System, lockstep: &Lockstep) -> Result<Vec<CoreImage>, NoMemory>
+    requires same { lockstep.now.system ≡ system.now }
+    requires going { lockstep.now.failed ≡ false }
+    ensures { IfOk result (λ images.
+        images.items ≡ map (core_shown system.now (world system.now lockstep.now.clock)) (cores system.now)) }
+{
+    let count = system.parts().cores;
+    let mut images = Vec::with_capacity(alloc, count)?;
+    for core in 0..count {
+        images.push(image(alloc, system, lockstep, CoreId(core))?)?;
+    }
+    Ok(images)
+}
+
+fn copied(alloc: Global, mails: &[Mail]) -> Result<Vec<Mail>, NoMemory>
+    ensures { IfOk result (λ copy. copy.items ≡ mails.now) }
+{
+    Ok(mails.iter().copied().collect(alloc)?)
+}
+
+/// Returns the images of all cores and the signals under way.
+pub(crate) fn snapshot(
+    alloc: Global,
+    system: &System,
+    lockstep: &Lockstep,
+    under_way: &UnderWay,
+) -> Result<Snapshot, NoMemory>
+    requires same { lockstep.now.system ≡ system.now }
+    requires going { lockstep.now.failed ≡ false }
+    requires mails { under_way.now ≡ (world system.now lockstep.now.clock).mails }
+    ensures clock { IfOk result (IsOfClock system.now) }
+    ensures moment { IfOk result (λ snapshot. snapshot.moment ≡ lockstep.now.clock) }
+{
+    let cores = images(alloc, system, lockstep)?;
+    let mails = copied(alloc, under_way.as_slice())?;
+    Ok(Snapshot::new(lockstep.clock(), cores, mails))
+}

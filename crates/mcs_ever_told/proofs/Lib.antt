@@ -1,0 +1,10 @@
+mod Sets
+mod Worked
+pub mod Numbers
+pub mod Places
+pub mod Counted
+pub mod Unended
+pub mod Settling
+pub mod Since
+pub mod Telling
+pub mod Keeping

@@ -1,0 +1,25 @@
+use Rattle.std.proofs.Common.{◌≡◌, ◌-◌, true, Option, refl, sym, subst, rules}
+use Rattle.std.specs.Prelude.{IfSome}
+use Rattle.mcs_system.specs.System.{System}
+use Rattle.mcs_ever.specs.Recurs.{IsClosed}
+use Rattle.mcs_ever.specs.Closed.{has}
+use Rattle.mcs_ever_again.specs.declared.recurs.shifts.Shifts.{Shifts}
+use Rattle.mcs_ever_search.specs.Compared.{RecursSince}
+use Rattle.mcs_ever_told.proofs.Since.{has-recurred, recurs-here}
+use Rattle.mcs_ever_told.proofs.outlook.tell.told_now.Goals as goal
+
+pub returns : goal.returns
+returns c = λ horizon.
+    let s = c.args.look.now.system.now in
+    let run = c.args.look.now.search.now in
+    let look = c.requires.look in
+    let set = c.args.group.now.set in
+    let C : System → Type 0 = λ x. IsClosed x (has set) in
+    let found = c.in_ok-shifts.ensures.recurs (subst C (sym look.same) c.requires.closed) in
+    let F : Option Shifts → Type 0 = λ o. IfSome o (λ (shifts : Shifts). RecursSince run set shifts) in
+    let since : RecursSince run set c.in-Some.shifts = subst F c.in-Some.is found in
+    let finds : c.finds_again.result ≡ true = search rules in
+    let settled : c.are_settled.result ≡ true = search rules in
+    let recurred = has-recurred s run look set c.in-Some.shifts since
+    (c.finds_again.ensures finds _ refl since.period (recurs-here s run look set c.in-Some.shifts since)) in
+    c.in_ok-told_for_ever.ensures horizon recurred (c.are_settled.ensures settled recurred)

@@ -1,0 +1,100 @@
+-- The lines of one set of cores.
+use Rattle.std.specs.Prelude.{ℕ, ◌+◌, ◌-◌, Bool, true, false, ◌&&◌, not, ◌==◌, if◌then◌else◌, List, [], ◌∷◌, ◌++◌, length, get_or, Option, Some, None}
+use Rattle.std.specs.List.{filter_map, range_with_len}
+use Rattle.mcs_system.specs.System.{System, thread_part, note_part, core_of}
+use Rattle.mcs_verdict.specs.declared.finding.Finding.{Finding}
+use Rattle.mcs_verdict.specs.declared.finding.Finding.TheVariants as finding
+use Rattle.mcs_ever.specs.Closed.{has}
+use Rattle.mcs_ever_found.specs.Course.{Course}
+use Rattle.mcs_ever_told.specs.declared.line.Line.{Line}
+use Rattle.mcs_ever_told.specs.declared.line.Line.TheVariants as line
+use Rattle.mcs_ever_told.specs.declared.line.Often.{Often}
+use Rattle.mcs_ever_told.specs.declared.line.Often.TheVariants.{Forever, SoFar}
+
+-- the count in each period, and the count before the first one; or the count so far
+abbrev pub often_of : Bool → ℕ → ℕ → Often
+often_of true before times = Forever before (times - before)
+often_of false before times = SoFar times
+
+-- whether the count is not 0
+abbrev pub is_some : Often → Bool
+is_some (Forever before each_period) = not (before + each_period == 0)
+is_some (SoFar times) = not (times == 0)
+
+-- the time from which on a thread ends no round, if none ended in the first period
+abbrev pub silent_from : ℕ → Bool → Option ℕ
+silent_from from true = None
+silent_from from false = Some from
+
+-- the line of a thread's finding at the horizon
+abbrev pub end_told : ℕ → ℕ → Option Finding → Option Line
+end_told horizon thread (Some (finding.Overdue x deadline activated queued stood)) = Some (line.Overdue thread horizon)
+end_told horizon thread (Some (finding.Never x deadline)) = Some (line.Never thread horizon)
+end_told horizon thread _ = None
+
+module _ (system : System) where
+  -- a line for each thread of the system, if there is one, and for each notification
+  abbrev pub of_threads : (ℕ → Option Line) → List Line
+  of_threads tell = filter_map tell (range_with_len 0 (length system.threads))
+
+  abbrev pub of_notes : (ℕ → Option Line) → List Line
+  of_notes tell = filter_map tell (range_with_len 0 (length system.notes))
+
+module _ (system : System) (own : List Bool) where
+  -- whether a thread and a notification are on one of these cores
+  abbrev pub is_own_thread : ℕ → Bool
+  is_own_thread thread = has own (core_of system (thread_part system thread))
+
+  abbrev pub is_own_note : ℕ → Bool
+  is_own_note note = has own (note_part system note).core
+
+  -- the counts of the rows before the first period and up to its end; or both so far
+  module _ (forever : Bool) (before after : Course) where
+    abbrev pub misses_of : ℕ → Often
+    misses_of thread = often_of forever (get_or before.misses thread 0) (get_or after.misses thread 0)
+
+    abbrev pub losses_of : ℕ → Often
+    losses_of note = often_of forever (get_or before.losses note 0) (get_or after.losses note 0)
+
+    -- the rounds of the thread that missed their deadline
+    abbrev pub miss_line : ℕ → Option Line
+    miss_line thread =
+        if is_own_thread thread && is_some (misses_of thread) then Some (line.Miss thread (misses_of thread)) else None
+
+    -- the signals that the notification lost, unless it may lose signals
+    abbrev pub lost_line : List Bool → ℕ → Option Line
+    lost_line allowed note =
+        if is_own_note note && (not (has allowed note) && is_some (losses_of note)) then Some (line.Lost note (losses_of note)) else None
+
+    abbrev pub count_lines : List Bool → List Line
+    count_lines allowed = of_threads system miss_line ++ of_notes system (lost_line allowed)
+
+  abbrev pub end_line : ℕ → (ℕ → Option Finding) → ℕ → Option Line
+  end_line horizon unended thread = if is_own_thread thread then end_told horizon thread (unended thread) else None
+
+  abbrev pub end_lines : ℕ → (ℕ → Option Finding) → List Line
+  end_lines horizon unended = of_threads system (end_line horizon unended)
+
+  -- the maximum response of the thread, whether it never exhausted its budget, and the time from
+  -- which on it ends no round
+  abbrev pub thread_line : Course → ℕ → List Bool → ℕ → Option Line
+  thread_line course from ended thread =
+      if is_own_thread thread
+      then Some (line.Thread thread (get_or course.greatest thread None) (not (get_or course.spent thread false))
+      (silent_from from (get_or ended thread false)))
+      else None
+
+  abbrev pub thread_lines : Course → ℕ → List Bool → List Line
+  thread_lines course from ended = of_threads system (thread_line course from ended)
+
+  abbrev pub thread_so_far : Course → ℕ → Option Line
+  thread_so_far course thread =
+      if is_own_thread thread then Some (line.ThreadSoFar thread (get_or course.greatest thread None)) else None
+
+  abbrev pub threads_so_far : Course → List Line
+  threads_so_far course = of_threads system (thread_so_far course)
+
+-- the line `nothing is ever found`, if there are no lines of findings
+abbrev pub clean_lines : List Bool → List Line → List Line
+clean_lines set [] = line.Clean set ∷ []
+clean_lines set (l ∷ lines) = []

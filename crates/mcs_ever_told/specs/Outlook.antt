@@ -1,0 +1,146 @@
+-- The results of a check for all time, and what they mean.
+use Rattle.std.specs.Prelude.{◌≡◌, ℕ, ◌+◌, ◌-◌, ◌<◌, ◌≤◌, Bool, true, false, List, [], ◌∷◌, ◌++◌, length, get_or, Option, Some, None}
+use Rattle.mcs_system.specs.System.{System}
+use Rattle.mcs_core.specs.Clock.{schedule}
+use Rattle.mcs_verdict.specs.declared.finding.Finding.{Finding}
+use Rattle.mcs_verdict.specs.Misses.{unended}
+use Rattle.mcs_verdict.specs.Findings.{past_of}
+use Rattle.mcs_ever.specs.Recurs.{Shifts}
+use Rattle.mcs_ever.specs.Closed.{has, AreLeastClosed}
+use Rattle.mcs_ever_again.specs.Period.{told_between}
+use Rattle.mcs_ever_found.specs.Recurs.{past_before, FindingsRecur}
+use Rattle.mcs_ever_found.specs.laws.Never.{has_lost_of, told_up_to, NothingIsFoundOf}
+use Rattle.mcs_ever_found.specs.Doings.{doings_of}
+use Rattle.mcs_ever_found.specs.Course.{Course, course_of}
+use Rattle.mcs_ever_told.specs.declared.line.Line.{Line}
+use Rattle.mcs_ever_told.specs.declared.line.Line.TheVariants as line
+use Rattle.mcs_ever_told.specs.declared.outlook.told.Period.{Period}
+use Rattle.mcs_ever_told.specs.declared.outlook.told.Told.{Told}
+use Rattle.mcs_ever_told.specs.Sets.{own_of, firsts}
+use Rattle.mcs_ever_told.specs.Lines.{count_lines, end_line, end_lines, thread_lines, threads_so_far, clean_lines, miss_line, lost_line, is_own_thread, is_own_note}
+
+module _ (system : System) where
+  -- the counts of the rows before a moment, and of those up to a horizon
+  abbrev pub course_before : ℕ → Course
+  course_before t = course_of system (past_before system t)
+
+  abbrev pub course_up_to : ℕ → Course
+  course_up_to horizon = course_of system (past_of [] (schedule system horizon))
+
+  -- for each thread, whether a round of it ended between two moments
+  abbrev pub ended_between : ℕ → ℕ → List Bool
+  ended_between from past = (doings_of system (told_between system from past)).ended
+
+  -- the finding of a thread at the end of a run
+  abbrev pub unended_at : ℕ → ℕ → Option Finding
+  unended_at horizon thread = unended system (past_of [] (schedule system horizon)) horizon thread
+
+  -- a thread has no finding at any horizon from some moment on; a notification loses no signal up
+  -- to any horizon
+  abbrev pub IsNeverFound : ℕ → ℕ → Type 0
+  IsNeverFound from thread = (h : ℕ) → from ≤ h → NothingIsFoundOf system h thread
+
+  abbrev pub NeverLoses : ℕ → Type 0
+  NeverLoses note = (h : ℕ) → has_lost_of note (told_up_to system h) ≡ false
+
+-- the last moment of the first period
+abbrev pub last_of : Period → ℕ
+last_of p = p.from + p.ticks - 1
+
+module _ (system : System) (own : List Bool) (p : Period) where
+  -- for a thread that is reported with the set: its missed deadlines, and its finding at the end of
+  -- the first period
+  abbrev pub told_miss : ℕ → Option Line
+  told_miss = miss_line system own true (course_before system p.from) (course_up_to system (last_of p))
+
+  abbrev pub told_end : ℕ → Option Line
+  told_end = end_line system own (last_of p) (unended_at system (last_of p))
+
+  -- a thread with neither line has no finding at any horizon from the first period on
+  abbrev pub ThreadIsSettled : ℕ → Type 0
+  ThreadIsSettled thread =
+      is_own_thread system own thread ≡ true → told_miss thread ≡ None → told_end thread ≡ None → IsNeverFound system p.from thread
+
+module _ (system : System) (allowed own : List Bool) (p : Period) where
+  -- the lost signals of a notification that may lose none
+  abbrev pub told_loss : ℕ → Option Line
+  told_loss = lost_line system own true (course_before system p.from) (course_up_to system (last_of p)) allowed
+
+  -- a notification without that line never loses a signal
+  abbrev pub NoteIsSettled : ℕ → Type 0
+  NoteIsSettled note =
+      is_own_note system own note ≡ true → has allowed note ≡ false → told_loss note ≡ None → NeverLoses system note
+
+  -- each thread and each notification is settled
+  pub record AreSettled : Type 0 where
+    pub threads : (thread : ℕ) → thread < length system.threads → ThreadIsSettled system own p thread
+    pub notes : (note : ℕ) → note < length system.notes → NoteIsSettled note
+
+  -- the findings of cores that recur
+  abbrev pub found_in_period : List Line
+  found_in_period =
+      count_lines system own true (course_before system p.from) (course_up_to system (last_of p)) allowed
+      ++ end_lines system own (last_of p) (unended_at system (last_of p))
+
+-- no finding for ever: no thread of these cores has a finding at any horizon from some moment on,
+-- and no notification of them that may lose no signal ever loses one
+pub record NothingIsEverFound (system : System) (allowed own : List Bool) (from : ℕ) : Type 0 where
+  pub threads : (thread : ℕ) → thread < length system.threads → is_own_thread system own thread ≡ true → IsNeverFound system from thread
+  pub notes : (note : ℕ) → note < length system.notes → is_own_note system own note ≡ true → has allowed note ≡ false →
+      NeverLoses system note
+
+-- notifications that may lose signals, the horizon, a set of cores, and those of its cores that are
+-- reported with it
+module _ (system : System) (allowed : List Bool) (horizon : ℕ) (set own : List Bool) where
+  -- all lines of a set that recurs
+  abbrev pub period_lines : Period → List Line
+  period_lines p =
+      line.Repeats set p.from p.ticks ∷ (found_in_period system allowed own p
+      ++ (thread_lines system own (course_up_to system (last_of p)) p.from (ended_between system p.from (p.from + p.ticks))
+      ++ clean_lines set (found_in_period system allowed own p)))
+
+  -- the findings of a set that was not found to recur
+  abbrev pub found_so_far : List Line
+  found_so_far =
+      count_lines system own false (course_up_to system horizon) (course_up_to system horizon) allowed
+      ++ end_lines system own horizon (unended_at system horizon)
+
+  abbrev pub open_lines : List Line
+  open_lines = line.Open set horizon ∷ (found_so_far ++ threads_so_far system own (course_up_to system horizon))
+
+  abbrev pub lines_of : Option Period → List Line
+  lines_of (Some p) = period_lines p
+  lines_of None = open_lines
+
+  abbrev pub found_of : Option Period → List Line
+  found_of (Some p) = found_in_period system allowed own p
+  found_of None = found_so_far
+
+  -- the set recurs with this period, in its findings, too; a thread or a notification without a
+  -- finding by the end of the first period never has one
+  pub record Repeats (p : Period) : Type 0 where
+    pub shifts : Shifts
+    pub by : shifts.by ≡ p.ticks
+    pub recurs : FindingsRecur system (has set) shifts p.from
+    pub settled : AreSettled system allowed own p
+    pub clean : found_in_period system allowed own p ≡ [] → NothingIsEverFound system allowed own p.from
+
+  abbrev pub IsTrueOf : Option Period → Type 0
+  IsTrueOf (Some p) = Repeats p
+  IsTrueOf None = Unit {0}
+
+  -- the result of the set is true, and these are its lines and the number of its findings
+  pub record IsTold (told : Told) : Type 0 where
+    pub cores : told.set ≡ set
+    pub so : IsTrueOf told.period
+    pub lines : told.lines.items ≡ lines_of told.period
+    pub findings : told.findings ≡ length (found_of told.period)
+
+-- each closed set, which no core outside it signals, has a result, in order of the first core whose
+-- smallest closed set it is
+pub record AreTold (system : System) (allowed : List Bool) (horizon : ℕ) (told : List Told) : Type 0 where
+  pub sets : List (List Bool)
+  pub closed : AreLeastClosed system sets
+  pub many : length told ≡ length (firsts sets)
+  pub each : (i : ℕ) (d : Told) → i < length told →
+      IsTold system allowed horizon (get_or sets (get_or (firsts sets) i 0) []) (own_of sets (get_or (firsts sets) i 0)) (get_or told i d)

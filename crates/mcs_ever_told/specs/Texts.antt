@@ -1,0 +1,57 @@
+-- The lines of a check for all time, in words.
+use Rattle.std.specs.Prelude.{ℕ, Bool, true, false, Option, Some, None, List, [], ◌∷◌, ◌++◌, codes, decimal, map}
+use Rattle.std.specs.List.{filter, join_with_byte, range_with_len}
+use Rattle.mcs_fields.specs.Fields.{Text}
+use Rattle.mcs_system.specs.System.{System}
+use Rattle.mcs_text.specs.Text.{after, counted, line, note_name, thread_name}
+use Rattle.mcs_ever.specs.Closed.{has}
+use Rattle.mcs_ever_told.specs.declared.line.Line.{Line}
+use Rattle.mcs_ever_told.specs.declared.line.Line.TheVariants as line
+use Rattle.mcs_ever_told.specs.declared.line.Often.{Often}
+use Rattle.mcs_ever_told.specs.declared.line.Often.TheVariants.{Forever, SoFar}
+
+-- those cores of a set that the system has, in rising order, with a space between two of them
+abbrev pub cores_text : System → List Bool → Text
+cores_text system set = join_with_byte 32 (map decimal (filter (has set) (range_with_len 0 system.cores)))
+
+-- a name and a colon
+abbrev pub named : Text → Text
+named name = name ++ codes ":"
+
+-- how often something is found
+abbrev pub often_words : Often → List Text
+often_words (Forever before each_period) = decimal each_period ∷ codes "in each period," ∷ decimal before ∷ codes "before" ∷ []
+often_words (SoFar times) = decimal times ∷ codes "so far" ∷ []
+
+-- a number; `-` for none
+abbrev pub known_word : Option ℕ → Text
+known_word None = codes "-"
+known_word (Some n) = decimal n
+
+-- that a thread never stops with its budget exhausted, if that is so
+abbrev pub throttled_text : Bool → Text
+throttled_text false = []
+throttled_text true = codes ", throttled: never"
+
+-- the time from which on a thread ends no round, if there is one
+abbrev pub silent_text : Option ℕ → Text
+silent_text None = []
+silent_text (Some moment) = codes ", ends no round from" ++ after (decimal moment ∷ codes "on" ∷ [])
+
+abbrev pub words_text : System → Line → Text
+words_text system (line.Repeats cores from period) =
+    line (codes "cores") (named (cores_text system cores) ∷ codes "repeats from" ∷ decimal from ∷ codes "with period" ∷ decimal period ∷ [])
+words_text system (line.Open cores horizon) =
+    line (codes "cores") (named (cores_text system cores) ∷ codes "no repetition found up to" ∷ decimal horizon ∷ [])
+words_text system (line.Miss thread often) = line (codes "miss") (named (thread_name system thread) ∷ often_words often)
+words_text system (line.Lost note often) = line (codes "lost") (named (note_name system note) ∷ often_words often)
+words_text system (line.Overdue thread moment) = line (codes "overdue") (thread_name system thread ∷ codes "at" ∷ decimal moment ∷ [])
+words_text system (line.Never thread moment) = line (codes "never") (thread_name system thread ∷ codes "up to" ∷ decimal moment ∷ [])
+words_text system (line.Thread thread greatest never_throttled silent_from) =
+    line (codes "thread") (named (thread_name system thread) ∷ codes "greatest response"
+    ∷ (known_word greatest ++ throttled_text never_throttled ++ silent_text silent_from) ∷ [])
+words_text system (line.ThreadSoFar thread greatest) =
+    line (codes "thread") (named (thread_name system thread) ∷ codes "greatest response" ∷ known_word greatest ∷ codes "so far" ∷ [])
+words_text system (line.Clean cores) = line (codes "nothing is ever found") []
+words_text system (line.Sets sets repeating findings) =
+    line (codes "sets") (decimal sets ∷ counted ((codes "repeating", repeating) ∷ (codes "findings", findings) ∷ []))

@@ -1,0 +1,55 @@
+-- Facts that a search at one moment shows about a set of cores.
+use Rattle.std.specs.Prelude.{◌≡◌, ◌≢◌, ℕ, ◌+◌, ◌-◌, ◌<◌, Bool, true, false, List, length, get_or, Option, None, IfSome}
+use Rattle.mcs_system.specs.System.{System, thread_part, core_of}
+use Rattle.mcs_ever.specs.Recurs.{Shifts, IsClosed}
+use Rattle.mcs_ever.specs.Closed.{has}
+use Rattle.mcs_verdict_laws.specs.laws.Horizons.{WaitsAlone}
+use Rattle.mcs_ever_found.specs.Recurs.{EndRecurs, FindingsRecur}
+use Rattle.mcs_ever_search.specs.Compared.{Compared}
+use Rattle.mcs_ever_told.specs.Outlook.{unended_at, IsTold}
+use Rattle.mcs_ever_told.specs.declared.outlook.sets.Group.{Group}
+use Rattle.mcs_ever_told.specs.declared.outlook.told.Period.{Period}
+use Rattle.mcs_ever_told.specs.declared.outlook.told.Told.{Told}
+
+-- the time since the kept moment, as a period
+abbrev pub period_of : Compared → ℕ → Period
+period_of search by = record { from = search.kept; ticks = by }
+
+module _ (system : System) where
+  -- a search of the system in which memory has not run out
+  pub record IsLook (search : Compared) : Type 0 where
+    pub same : search.system ≡ system
+    pub going : search.failed ≡ false
+
+  -- the set recurs since the kept moment, in its findings, too
+  pub record HasRecurred (search : Compared) (set : List Bool) (by : ℕ) : Type 0 where
+    pub shifts : Shifts
+    pub by_is : shifts.by ≡ by
+    pub recurs : FindingsRecur system (has set) shifts search.kept
+    pub period : search.kept + by ≡ search.clock
+
+  -- the thread is on a core of the set, and its finding at horizons recurs. If it has a deadline,
+  -- no other script waits for its first word. It has no finding at the horizon one tick before
+  -- `from`
+  pub record EndIsKnown (set : List Bool) (by from thread : ℕ) : Type 0 where
+    pub own : has set (core_of system (thread_part system thread)) ≡ true
+    pub recurs : EndRecurs system by from thread
+    pub alone : (thread_part system thread).deadline ≢ 0 → WaitsAlone system thread
+    pub at_first : unended_at system (from - 1) thread ≡ None
+
+  -- each set is closed: no core outside it signals one in it
+  abbrev pub AreClosed : List Group → Type 0
+  AreClosed groups = (i : ℕ) (d : Group) → i < length groups → IsClosed system (has (get_or groups i d).set)
+
+  module _ (allowed : List Bool) (horizon : ℕ) (groups : List Group) where
+    -- each result so far is true
+    abbrev pub AreToldSoFar : List (Option Told) → Type 0
+    AreToldSoFar told =
+        (i : ℕ) (d : Group) → i < length groups →
+        IfSome (get_or told i None) (IsTold system allowed horizon (get_or groups i d).set (get_or groups i d).own)
+
+    -- the first sets have true results
+    pub record AreToldBelow (below : ℕ) (all : List Told) : Type 0 where
+      pub many : length all ≡ below
+      pub each : (d : Group) (e : Told) (i : ℕ) → i < below →
+          IsTold system allowed horizon (get_or groups i d).set (get_or groups i d).own (get_or all i e)

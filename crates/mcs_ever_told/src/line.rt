@@ -1,0 +1,92 @@
+//! The lines of a check for all time, in words or as JSON objects.
+
+mod cores;
+mod object;
+mod put;
+mod text;
+mod thread;
+mod word;
+
+use mcs_ever::CoreSet;
+use mcs_ticks::{NoteId, ThreadId, Tick};
+pub use put::{put_line, put_lines};
+
+/// The format of lines.
+#[derive(Clone, Copy, Debug, PartialEq, Eq)]
+pub enum LineFormat {
+    /// Words.
+    Text,
+    /// A JSON object for each line.
+    Json,
+}
+
+/// How often something is found.
+#[derive(Clone, Copy, Debug, PartialEq, Eq)]
+pub enum Often {
+    /// The counts in each period, for ever, and before the first one.
+    Forever { before: u64, each_period: u64 },
+    /// The count up to the horizon, for cores that were not found to recur.
+    SoFar { times: u64 },
+}
+
+/// A line of a check for all time. A set of cores is written as those of its cores that the system
+/// has.
+#[derive(Clone, Copy, Debug, PartialEq, Eq)]
+pub enum Line {
+    /// All that these cores do recurs with this period in ticks, from this time on, for ever.
+    Repeats {
+        cores: CoreSet,
+        from: Tick,
+        period: u64,
+    },
+    /// No recurrence of these cores was found up to the horizon.
+    Open {
+        cores: CoreSet,
+        horizon: Tick,
+    },
+    /// The deadline misses of the thread.
+    Miss {
+        thread: ThreadId,
+        often: Often,
+    },
+    /// The signals lost at the notification.
+    Lost {
+        note: NoteId,
+        often: Often,
+    },
+    /// A round of the thread is overdue at this time.
+    Overdue {
+        thread: ThreadId,
+        moment: Tick,
+    },
+    /// The thread has a deadline, and was not activated for a round up to this time.
+    Never {
+        thread: ThreadId,
+        moment: Tick,
+    },
+    /// The maximum response of all rounds of the thread that ever end, if one does; whether the
+    /// thread never stops with its budget exhausted; and the time from which on it ends no round,
+    /// if there is one.
+    Thread {
+        thread: ThreadId,
+        greatest: Option<u64>,
+        never_throttled: bool,
+        silent_from: Option<Tick>,
+    },
+    /// The maximum response of the rounds of the thread that ended up to the horizon, if one did;
+    /// no recurrence was found.
+    ThreadSoFar {
+        thread: ThreadId,
+        greatest: Option<u64>,
+    },
+    /// These cores have no finding at any horizon.
+    Clean {
+        cores: CoreSet,
+    },
+    /// The number of sets of cores, of those that recur, and of findings.
+    Sets {
+        sets: u64,
+        repeating: u64,
+        findings: u64,
+    },
+}

@@ -1,0 +1,268 @@
+//! The lines of one set of cores.
+ghost use Rattle.std.specs.Prelude.{◌≡◌, ◌++◌, ◌<◌, List, length, OnOk};
+ghost use Rattle.mcs_ticks.specs.declared.row.Row.{Row as TheRow};
+ghost use Rattle.mcs_verdict.specs.Findings.{UpTo};
+ghost use Rattle.mcs_verdict.specs.Misses.{unended};
+ghost use Rattle.mcs_verdict.specs.Watch.{watch_of};
+ghost use Rattle.mcs_ever_told.specs.Lines.{often_of, is_some, is_own_thread, of_threads, of_notes, miss_line, lost_line, count_lines, end_told, end_line, end_lines, silent_from, thread_line, thread_lines, thread_so_far, threads_so_far};
+ghost use Rattle.mcs_ever_told.specs.stored.Told.{if_some};
+
+use crate::line::{Line, Often};
+use mcs_ever::CoreSet;
+use mcs_ever_again::is_own;
+use mcs_ever_found::Course;
+use mcs_system::System;
+use mcs_ticks::{NoMemory, NoteId, ThreadId, Tick};
+use mcs_verdict::{Finding, Watch};
+
+fn often_of(forever: bool, before: u64, times: u64) -> Often
+    ensures { result ≡ often_of forever before times }
+{
+    if forever {
+        Often::Forever {
+            before,
+            each_period: times.saturating_sub(before),
+        }
+    } else {
+        Often::SoFar { times }
+    }
+}
+
+fn is_some(often: &Often) -> bool
+    ensures { result ≡ is_some often.now }
+{
+    match *often {
+        Often::Forever {
+            before,
+            each_period,
+        } => before != 0 || each_period != 0,
+        Often::SoFar { times } => times != 0,
+    }
+}
+
+/// A group of cores, with the counts of the rows before its first period and up to the period's
+/// end. Without a recurrence both are the counts so far.
+#[derive(Clone, Copy)]
+pub(crate) struct Span<'s> {
+    pub(crate) system: &'s System,
+    pub(crate) own: &'s CoreSet,
+    pub(crate) forever: bool,
+    pub(crate) before: &'s Course,
+    pub(crate) after: &'s Course,
+}
+
+/// Whether the thread is on one of these cores.
+pub(crate) fn is_own_thread(system: &System, own: &CoreSet, thread: ThreadId) -> bool
+    requires { thread < length system.now.threads }
+    ensures { result ≡ is_own_thread system.now own.now thread }
+{
+    let parts = system.parts();
+    is_own(own, parts.core_of_thread(parts.thread(thread)))
+}
+
+/// The line of the thread's deadline misses, if it is on one of these cores and has any.
+pub(crate) fn miss_line(span: &Span<'_>, thread: ThreadId) -> Option<Line>
+    requires { thread < length span.now.system.now.threads }
+    ensures { result ≡ miss_line span.now.system.now span.now.own.now span.now.forever span.now.before.now span.now.after.now thread }
+{
+    let often = often_of(
+        span.forever,
+        span.before.misses(thread),
+        span.after.misses(thread),
+    );
+    if is_own_thread(span.system, span.own, thread) && is_some(&often) {
+        Some(Line::Miss { thread, often })
+    } else {
+        None
+    }
+}
+
+/// The line of the notification's lost signals, if it is on one of these cores, has any, and may
+/// lose none.
+pub(crate) fn lost_line(span: &Span<'_>, allowed: &[bool], note: NoteId) -> Option<Line>
+    requires { note < length span.now.system.now.notes }
+    ensures { result ≡ lost_line span.now.system.now span.now.own.now span.now.forever span.now.before.now span.now.after.now allowed.now note }
+{
+    let often = often_of(
+        span.forever,
+        span.before.losses(note),
+        span.after.losses(note),
+    );
+    let is_allowed = note.0 < allowed.len() && allowed[note.0];
+    if is_own(span.own, span.system.home_of(note)) && !is_allowed && is_some(&often) {
+        Some(Line::Lost { note, often })
+    } else {
+        None
+    }
+}
+
+/// The line of a thread's finding at the horizon, if there is one.
+fn end_told(moment: Tick, thread: ThreadId, found: &Option<Finding>) -> Option<Line>
+    ensures { result ≡ end_told moment thread found.now }
+{
+    match *found {
+        Some(Finding::Overdue { .. }) => Some(Line::Overdue { thread, moment }),
+        Some(Finding::Never { .. }) => Some(Line::Never { thread, moment }),
+        _ => None,
+    }
+}
+
+/// The line of the thread at the end of a run, by a watch of the run's rows.
+pub(crate) fn end_line(
+    system: &System,
+    own: &CoreSet,
+    watch: &Watch,
+    moment: Tick,
+    thread: ThreadId,
+) -> Option<Line>
+    requires { thread < length system.now.threads }
+    ensures { (past : List TheRow) → watch.now ≡ watch_of system.now past → UpTo moment past →
+        result ≡ end_line system.now own.now moment (unended system.now past moment) thread }
+{
+    if is_own_thread(system, own, thread) {
+        end_told(moment, thread, &watch.unended(moment, thread))
+    } else {
+        None
+    }
+}
+
+/// The time from which on the thread ends no round, if it ended none in the first period.
+fn silent_from(from: Tick, ended: bool) -> Option<Tick>
+    ensures { result ≡ silent_from from ended }
+{
+    if ended { None } else { Some(from) }
+}
+
+/// The line of a thread whose set recurs.
+fn thread_line(
+    system: &System,
+    own: &CoreSet,
+    course: &Course,
+    from: Tick,
+    ended: &[bool],
+    thread: ThreadId,
+) -> Option<Line>
+    requires { thread < length system.now.threads }
+    ensures { result ≡ thread_line system.now own.now course.now from ended.now thread }
+{
+    if is_own_thread(system, own, thread) {
+        Some(Line::Thread {
+            thread,
+            greatest: course.greatest(thread),
+            never_throttled: !course.was_spent(thread),
+            silent_from: silent_from(from, thread.0 < ended.len() && ended[thread.0]),
+        })
+    } else {
+        None
+    }
+}
+
+/// The line of a thread whose set was not found to recur.
+fn thread_so_far(system: &System, own: &CoreSet, course: &Course, thread: ThreadId) -> Option<Line>
+    requires { thread < length system.now.threads }
+    ensures { result ≡ thread_so_far system.now own.now course.now thread }
+{
+    if is_own_thread(system, own, thread) {
+        Some(Line::ThreadSoFar {
+            thread,
+            greatest: course.greatest(thread),
+        })
+    } else {
+        None
+    }
+}
+
+/// Appends the item, if there is one.
+pub(crate) fn push<T: Copy>(items: &mut Vec<T>, one: Option<T>) -> Result<(), NoMemory>
+    ensures { OnOk result (items.new.items ≡ items.old.items ++ if_some one) }
+{
+    if let Some(one) = one {
+        items.push(one)?;
+    }
+    Ok(())
+}
+
+fn push_misses(lines: &mut Vec<Line>, span: &Span<'_>) -> Result<(), NoMemory>
+    ensures { OnOk result (lines.new.items ≡ lines.old.items ++ of_threads span.now.system.now
+        (miss_line span.now.system.now span.now.own.now span.now.forever span.now.before.now span.now.after.now)) }
+{
+    for thread in 0..span.system.parts().threads.len() {
+        push(lines, miss_line(span, ThreadId(thread)))?;
+    }
+    Ok(())
+}
+
+fn push_losses(lines: &mut Vec<Line>, span: &Span<'_>, allowed: &[bool]) -> Result<(), NoMemory>
+    ensures { OnOk result (lines.new.items ≡ lines.old.items ++ of_notes span.now.system.now
+        (lost_line span.now.system.now span.now.own.now span.now.forever span.now.before.now span.now.after.now allowed.now)) }
+{
+    for note in 0..span.system.parts().notes.len() {
+        push(lines, lost_line(span, allowed, NoteId(note)))?;
+    }
+    Ok(())
+}
+
+/// Appends the lines of deadline misses and of lost signals.
+pub(crate) fn push_counts(
+    lines: &mut Vec<Line>,
+    span: &Span<'_>,
+    allowed: &[bool],
+) -> Result<(), NoMemory>
+    ensures { OnOk result (lines.new.items ≡ lines.old.items
+        ++ count_lines span.now.system.now span.now.own.now span.now.forever span.now.before.now span.now.after.now allowed.now) }
+{
+    push_misses(lines, span)?;
+    push_losses(lines, span, allowed)
+}
+
+/// Appends the lines of findings at the end of a run, by a watch of the run's rows.
+pub(crate) fn push_ends(
+    lines: &mut Vec<Line>,
+    system: &System,
+    own: &CoreSet,
+    watch: &Watch,
+    moment: Tick,
+) -> Result<(), NoMemory>
+    ensures { (past : List TheRow) → watch.now ≡ watch_of system.now past → UpTo moment past →
+        OnOk result (lines.new.items ≡ lines.old.items ++ end_lines system.now own.now moment (unended system.now past moment)) }
+{
+    for thread in 0..system.parts().threads.len() {
+        push(
+            lines,
+            end_line(system, own, watch, moment, ThreadId(thread)),
+        )?;
+    }
+    Ok(())
+}
+
+pub(crate) fn push_threads(
+    lines: &mut Vec<Line>,
+    system: &System,
+    own: &CoreSet,
+    course: &Course,
+    from: Tick,
+    ended: &[bool],
+) -> Result<(), NoMemory>
+    ensures { OnOk result (lines.new.items ≡ lines.old.items ++ thread_lines system.now own.now course.now from ended.now) }
+{
+    for thread in 0..system.parts().threads.len() {
+        let line = thread_line(system, own, course, from, ended, ThreadId(thread));
+        push(lines, line)?;
+    }
+    Ok(())
+}
+
+/// Appends the threads' lines, for a set that was not found to recur.
+pub(crate) fn push_so_far(
+    lines: &mut Vec<Line>,
+    system: &System,
+    own: &CoreSet,
+    course: &Course,
+) -> Result<(), NoMemory>
+    ensures { OnOk result (lines.new.items ≡ lines.old.items ++ threads_so_far system.now own.now course.now) }
+{
+    for thread in 0..system.parts().threads.len() {
+        push(lines, thread_so_far(system, own, course, ThreadId(thread)))?;
+    }
+    Ok(())
+}

@@ -1,5 +1,0 @@
-use Rattle.mcs_forever.proofs.Closing.{AreLeastUntil}
-use Rattle.mcs_forever.proofs.closed.closed_sets.Given as goal
-
-abbrev pub invariant-loop-core : goal.invariant-loop-core
-invariant-loop-core l = AreLeastUntil l.system l.core l.sets.items

@@ -1,5 +1,0 @@
-use Rattle.mcs_forever.proofs.Repeats.{no-round-ends-again}
-use Rattle.mcs_forever.proofs.laws.no_round_ends_again.Goals as goal
-
-pub returns : goal.returns
-returns c = no-round-ends-again

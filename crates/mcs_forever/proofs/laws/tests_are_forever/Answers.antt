@@ -1,5 +1,0 @@
-use Rattle.mcs_forever.proofs.Repeats.{tests-are-forever}
-use Rattle.mcs_forever.proofs.laws.tests_are_forever.Goals as goal
-
-pub returns : goal.returns
-returns c = tests-are-forever

@@ -1,4 +1,0 @@
-pub mod Lines
-pub mod Fields
-pub mod Formats
-pub mod stored

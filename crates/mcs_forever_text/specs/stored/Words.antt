@@ -1,9 +1,0 @@
--- The words of a line, as the code keeps them.
-use Rattle.std.specs.Prelude.{List, ℕ, ◌++◌, codes, decimal}
-use Rattle.mcs_forever_text.specs.declared.word.Word.{Word}
-use Rattle.mcs_forever_text.specs.declared.word.Word.TheVariants.{Number, Plain, Named}
-
-abbrev pub word_of : Word → List ℕ
-word_of (Number n) = decimal n
-word_of (Plain word) = word.now
-word_of (Named name) = name.now ++ codes ":"

@@ -1,3 +1,0 @@
-pub mod Lag
-pub mod Lags
-pub mod stored

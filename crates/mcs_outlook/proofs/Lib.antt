@@ -1,8 +1,0 @@
-pub mod Numbers
-pub mod Places
-pub mod Counted
-pub mod Unended
-pub mod Settling
-pub mod Since
-pub mod Telling
-pub mod Keeping

@@ -1,7 +1,0 @@
-use Rattle.std.proofs.Common.{◌≡◌, ◌++◌}
-use Rattle.std.specs.List.{filter_map, range_with_len}
-use Rattle.mcs_outlook.specs.Lines.{miss_line}
-use Rattle.mcs_outlook.proofs.lines.push_misses.Given as goal
-
-abbrev pub invariant-loop-thread : goal.invariant-loop-thread
-invariant-loop-thread l = l.lines.items ≡ l.initial.lines.items ++ filter_map (miss_line l.span.system.now l.span.own.now l.span.forever l.span.before.now l.span.after.now) (range_with_len 0 l.thread)

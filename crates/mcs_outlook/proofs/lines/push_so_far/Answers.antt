@@ -1,8 +1,0 @@
-use Rattle.mcs_outlook.specs.Lines.{thread_so_far}
-use Rattle.mcs_outlook.proofs.Numbers.{lines-more}
-use Rattle.mcs_outlook.proofs.lines.push_so_far.Goals as goal
-
-pub loop-thread-preserved : goal.loop-thread-preserved
-loop-thread-preserved c =
-    lines-more (thread_so_far c.args.system.now c.args.own.now c.args.course.now)
-    c.loop-thread.thread _ _ _ _ c.loop-thread.invariant c.in_ok-push.ensures c.thread_so_far.ensures

@@ -1,5 +1,0 @@
-pub mod Sets
-pub mod Lines
-pub mod Outlook
-pub mod Progress
-pub mod stored

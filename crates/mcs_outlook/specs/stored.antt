@@ -1,5 +1,0 @@
-pub mod Told
-pub mod Groups
-pub mod Left
-pub mod Looks
-pub mod Kept

@@ -1,5 +1,0 @@
-pub mod Flags
-pub mod Quiet
-pub mod Kept
-pub mod Ending
-mod Worked

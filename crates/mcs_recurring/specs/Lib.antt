@@ -1,4 +1,0 @@
-pub mod Doings
-pub mod Period
-pub mod Tests
-pub mod stored

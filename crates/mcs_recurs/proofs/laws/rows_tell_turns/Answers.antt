@@ -1,5 +1,0 @@
-use Rattle.mcs_recurs.proofs.Schedule.{rows-tell}
-use Rattle.mcs_recurs.proofs.laws.rows_tell_turns.Goals as goal
-
-pub returns : goal.returns
-returns c = λ system well. rows-tell system (c.rows_are_of_turns.ensures system well)

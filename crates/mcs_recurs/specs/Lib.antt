@@ -1,5 +1,0 @@
-pub mod Snapshot
-pub mod Told
-pub mod Period
-pub mod Schedule
-pub mod Sources

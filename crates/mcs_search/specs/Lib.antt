@@ -1,4 +1,0 @@
-pub mod Compared
-pub mod Sampling
-pub mod Repeats
-pub mod stored

@@ -1,5 +1,0 @@
-pub mod Telling
-pub mod Clock
-pub mod Seen
-pub mod Grouped
-mod Worked

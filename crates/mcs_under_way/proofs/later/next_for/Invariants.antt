@@ -1,6 +1,0 @@
-use Rattle.std.proofs.Common.{◌≡◌}
-use Rattle.mcs_under_way.proofs.Grouped.{rest}
-use Rattle.mcs_under_way.proofs.later.next_for.Given as goal
-
-abbrev pub invariant-loop-i : goal.invariant-loop-i
-invariant-loop-i l = rest l.system l.group l.mails l.place ≡ rest l.system l.group l.mails l.i
