@@ -122,7 +122,7 @@ class Trial:
                 continue
             built = self.folder / f'by_{source.suffix[1:]}'
             if self.expect(f'{compiler} with pkg-config', self.run(compiler, standard, *STRICT, source, '-o', built, *options)):
-                words = (SYSTEM, HORIZON) if compiler == 'cc' else ()
+                words: tuple[str, ...] = (str(SYSTEM), HORIZON) if compiler == 'cc' else ()
                 self.expect(f'what {compiler} built', self.run(built, *words, stdin=SYSTEM.read_bytes()), self.wanted.stdout)
 
     def try_cmake(self) -> None:
