@@ -19,11 +19,12 @@ sys.path[0] = str(pathlib.Path(__file__).resolve().parents[2])
 from checks import common
 from checks.common import TOP, Count, Ran
 
-LAUNCHER, EXAMPLE = TOP / 'mcsim', TOP / 'examples' / 'c' / 'reports.c'
+LAUNCHER, EXAMPLE, TEST = TOP / 'mcsim', TOP / 'examples' / 'c' / 'reports.c', TOP / 'examples' / 'c' / 'test_design.c'
 SYSTEM = TOP / 'examples' / 'systems' / 'network_driver.toml'
 HORIZON = '100'
 # bytes of the shared library
 MOST = 600_000
+SANITIZED = ('-fsanitize=address,undefined',)
 STRICT = ('-Wall', '-Wextra', '-Wpedantic', '-Werror')
 # prints the reports of standard input
 IN_CPP = r'''
@@ -140,6 +141,18 @@ class Trial:
                 for kind in ('mcsim', 'static'):
                     self.expect(f'what CMake built with mcsim::{kind}', self.run(project / 'out' / f'with_{kind}', SYSTEM, HORIZON), self.wanted.stdout)
 
+    def try_test(self) -> None:
+        """The unit test in C: the driver takes 14 ticks of each period, so its budget is exhausted 200 times in 10,000 with 14, and never with 15."""
+        built, text = self.folder / 'test_design', SYSTEM.read_text()
+        words = ('-std=c99', *STRICT, *SANITIZED, '-I', self.prefix / 'include', '-o', built, TEST, self.prefix / 'lib' / 'libmcs_c.a')
+        if not self.needs('cc') or not self.expect('cc of the unit test', self.run('cc', *words)):
+            return
+        for budget, status, times in ((14, 1, 200), (15, 0, 0)):
+            file = self.folder / f'{budget}.toml'
+            file.write_text(text.replace('budget = 12', f'budget = {budget}'))
+            ran, last = self.run(built, file, 'Driver'), f'the budget of Driver is exhausted {times} times\n'
+            self.count.expect(f'a unit test of a budget of {budget}: {ran}', ran.status == status and ran.stdout.decode().endswith(last) and not ran.stderr)
+
     def all(self) -> None:
         self.try_versions()
         if not self.expect('--install', self.run(LAUNCHER, '--install', self.prefix)) or not self.shared.is_file():
@@ -148,6 +161,7 @@ class Trial:
         self.try_library()
         self.try_pkg_config()
         self.try_cmake()
+        self.try_test()
         self.expect('--uninstall', self.run(LAUNCHER, '--uninstall', self.prefix))
         left = [path for path in self.prefix.rglob('*') if not path.is_dir()]
         self.count.expect(f'--uninstall left {left}', not left)
