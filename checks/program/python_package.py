@@ -116,6 +116,11 @@ class Trial:
         lines = ran.stdout.decode().splitlines()
         self.count.expect(f'the sweep: {ran}', len(lines) == 5 and lines[-1] == 'budget 14: worst response 11, 0 missed, 0 findings')
         self.count.expect(f'the page has other lines than the sweep: {lines}', '\n'.join(['```', *lines, '```', '']) in PAGE.read_text())
+        shown, = re.findall(r'^```python\n(.*?)^```', PAGE.read_text(), re.M | re.S)
+        shutil.copy(EXAMPLES / 'systems' / 'network_driver.toml', self.folder / 'system.toml')
+        # the job of the tick at 0 begins when the wait ends, at 1, and ends at 4, a tick late; that of 10 ends at 13
+        ran = self.run(inside, '-c', shown + 'print(system.check(14).counts.missed, len(same.threads))')
+        self.count.expect(f'what the page shows: {ran}', ran.stdout == b'1 2\n')
         if not has(str(inside), 'pandas'):
             self.count.skip('the notebook, since there is no pandas')
             return
