@@ -74,6 +74,7 @@ CHECKS = (
     Check('program', 'units', 350, tries_program=False),
     Check('program', 'lint', 15, tries_program=False, needs='`mypy`, `pyflakes3`'),
     Check('program', 'library', 3, needs='`cc`'),
+    Check('program', 'library_strain', 5, tries_program=False, needs='`cc`'),
     Check('program', 'python_package', 20, tries_program=False, needs='`cc`, `setuptools`, `wheel`, `build`, `mypy`, `pandas`'),
     Check('program', 'packages', 6, needs='`cc`, `c++`, `pkg-config`, `cmake`, `nm`'),
     Check('proofs', 'theorems', tries_program=False),
