@@ -1,4 +1,4 @@
-/* mcsim.h: the mcsim simulator as a library. Link libmcs_c.a.
+/* mcsim.h: the mcsim simulator as a library. Link libmcs.so (-lmcs), or libmcs_c.a.
  *
  * The library has one function. It takes the text of a system, and writes the lines that the
  * program mcsim prints, or the line of the text's first fault, to memory of the caller. Its results
@@ -12,6 +12,11 @@
 #ifdef __cplusplus
 extern "C" {
 #endif
+
+/* The version of this interface. A new minor number adds calls or values, and a program that was
+ * built with an earlier one still runs. The major number is that of libmcs.so.1. */
+#define MCS_VERSION_MAJOR 1
+#define MCS_VERSION_MINOR 0
 
 /* The maximum horizon, in ticks: 2^40. */
 #define MCS_HORIZON_MAX (UINT64_C(1) << 40)

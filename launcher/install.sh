@@ -111,10 +111,30 @@ sources_of_built() {
     done
 }
 
+# Makes the shared library in the room, and puts beside it the files by which pkg-config and CMake find it. Without it these are left out.
+make_library() {
+    mkdir "$room/library" || exit 1
+    made=$room/library/libmcs.so.1
+    . "$top/launcher/shared.sh"
+    with=$(compiler)
+    if [ ! -f "$room/bin/libmcs_c.a" ]; then
+        missing='which needs bin/libmcs_c.a'
+    elif [ -z "$with" ]; then
+        missing='since there is no C compiler: set CC, or put cc, gcc or clang on PATH'
+    elif said=$(make_shared "$with" "$room/bin/libmcs_c.a" "$made" 2>&1); then
+        cp "$top"/library/mcsim* "$room/library" || stop "$nothing: library cannot be copied"
+        return
+    else
+        missing="since $with failed: $(printf '%s\n' "$said" | head -n 1)"
+    fi
+    rm -f "$made"
+    say "left out: the shared library libmcs.so.1, with mcsim.pc and its CMake config, $missing"
+}
+
 # where a file is read
 read_at() {
     case $1 in
-        bin/*) printf '%s\n' "$room/$1" ;;
+        bin/* | library/*) printf '%s\n' "$room/$1" ;;
         *) printf '%s\n' "$top/$1" ;;
     esac
 }
@@ -133,7 +153,8 @@ plan() {
             continue
         elif [ -f "$(read_at "$source")" ]; then
             echo "$source $place $link"
-        else
+        elif [ "${source%/*}" != library ]; then
+            # make_library says what is left out of library
             say "left out: $source, which is not there, or not built of these sources"
         fi
     done <"$top/launcher/installed"
@@ -316,6 +337,7 @@ install_below() {
     set_prefix "$1"
     open_room
     copy_built
+    ! grep -q '^library/' "$top/launcher/installed" || make_library
     plan >"$room/plan"
     list_plan >"$room/unsorted"
     by_place <"$room/unsorted" >"$room/lines"
@@ -386,6 +408,8 @@ tell() {
             ):\${XDG_DATA_DIRS:-/usr/local/share:/usr/share}"
             ;;
     esac
+    ! grep -qx 'lib/pkgconfig/mcsim.pc' "$room/now" ||
+        printf '%s\n' "pkg-config looks for mcsim in PKG_CONFIG_PATH: export PKG_CONFIG_PATH=$(quoted "$prefix/lib/pkgconfig")\${PKG_CONFIG_PATH:+:\$PKG_CONFIG_PATH}"
     printf '%s\n' "an editor with a TOML plugin checks a file that begins with the line: #:schema file://$prefix/share/mcsim/mcsim.schema.json"
     printf '%s\n' "./mcsim --uninstall $(quoted "${prefix:-/}") takes all this away"
 }

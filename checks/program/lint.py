@@ -1,5 +1,5 @@
 #!/usr/bin/env python3
-"""Checks the Python of checks, tools and examples with mypy (--strict) and pyflakes.
+"""Checks the Python of checks, tools, examples and the package with mypy (--strict) and pyflakes.
 
 Both are Debian's (apt-get install mypy pyflakes3); pyproject.toml has the settings. One that is not installed is skipped by its name. Each finding is
 a failure, with its file and line; a file in which nothing is found is a pass."""
@@ -18,8 +18,8 @@ sys.path[0] = str(pathlib.Path(__file__).resolve().parents[2])
 from checks import common
 from checks.common import TOP, Count
 
-PACKAGES = {'checks': TOP / 'checks', 'mcsim_tools': TOP / 'tools' / 'mcsim_tools'}
-FOLDERS = ('checks', 'tools', 'examples')
+PACKAGES = {'checks': TOP / 'checks', 'mcsim_tools': TOP / 'tools' / 'mcsim_tools', 'mcsim': TOP / 'python' / 'src' / 'mcsim'}
+FOLDERS = ('checks', 'tools', 'examples', 'python')
 SECONDS = 600
 
 

@@ -46,11 +46,22 @@ file = pathlib.Path(__file__).parents[2] / 'crates/mcs_c/out/libmcs_c.a'
 file.parent.mkdir(exist_ok=True)
 file.write_text('archive\\n')
 """
+# in place of a C compiler: what it links says so
+CC = """#!/bin/sh
+while [ $# != 0 ]; do
+    [ "$1" != -o ] || echo shared >"$2"
+    shift
+done
+"""
 PROGRAM, CHECKER, ARCHIVE = SAYS.format(name='gate'), SAYS.format(name='check'), 'archive\n'
 # the files of which each is built
 BELOW_BOTH = ('crates.txt', 'crates/mcs_cli/src/asked/words.rt', 'crates/mcs_cli/src/lib.rt', 'crates/mcs_ticks/src/lib.rt')
 BELOW, BELOW_CHECKER = (*BELOW_BOTH, 'crates/mcsim/src/main.rt'), (*BELOW_BOTH, 'crates/mcscheck/src/main.rt')
 BELOW_LIBRARY = ('crates.txt', 'crates/mcs_c/src/lib.rt', 'crates/mcs_ticks/src/lib.rt')
+
+# what an installation has with a shared library alone, and how it says that there is none
+OF_LIBRARY = {'lib/libmcs.so.1', 'lib/libmcs.so', 'lib/pkgconfig/mcsim.pc', 'lib/cmake/mcsim/mcsimConfig.cmake', 'lib/cmake/mcsim/mcsimConfigVersion.cmake'}
+NO_LIBRARY = 'mcsim: left out: the shared library libmcs.so.1, with mcsim.pc and its CMake config'
 
 
 def sum_of(text: bytes) -> str:
@@ -74,6 +85,7 @@ class InFolder(unittest.TestCase):
         for tool in TOOLS:
             (self.tools / tool).symlink_to(shutil.which(tool) or self.fail(f'there is no {tool}'))
         (self.tools / 'python3').symlink_to(sys.executable)
+        self.put_tool('cc', CC)
         self.write('crates.txt', CRATES)
         self.write('bin/README.md', PAGE)
         for name, text in SOURCES.items():
@@ -86,9 +98,13 @@ class InFolder(unittest.TestCase):
         file.chmod(mode)
         return file
 
+    def put_tool(self, name: str, text: str) -> None:
+        """Puts a command on PATH."""
+        (self.tools / name).write_text(text)
+        (self.tools / name).chmod(0o755)
+
     def rt(self) -> None:
-        (self.tools / 'rt').write_text(f'#!/bin/sh\n{RT}\n')
-        (self.tools / 'rt').chmod(0o755)
+        self.put_tool('rt', f'#!/bin/sh\n{RT}\n')
 
     def run_in(self, command: list[str], **how: Any) -> subprocess.CompletedProcess[str]:
         how = {'cwd': self.top.parent, 'env': {'PATH': str(self.tools), 'HOME': str(self.home)}, 'stdin': subprocess.DEVNULL, **how}
@@ -343,8 +359,40 @@ class Installed(InFolder):
     def test_a_library_of_other_sources_is_left_out(self) -> None:
         self.write('crates/mcs_c/src/lib.rt', 'changed\n')
         status, _, stderr = self.launch('--install')
-        self.assertEqual((status, stderr), (0, 'mcsim: left out: bin/libmcs_c.a, which is not there, or not built of these sources\n'))
+        self.assertEqual((status, stderr), (0, (
+            f'{NO_LIBRARY}, which needs bin/libmcs_c.a\n'
+            'mcsim: left out: bin/libmcs_c.a, which is not there, or not built of these sources\n'
+        )))
         self.assertNotIn('lib/libmcs_c.a', self.files(self.home / '.local'))
+        self.assertEqual(OF_LIBRARY & self.files(self.home / '.local'), set())
+
+    def test_the_shared_library_is_made_and_taken_away(self) -> None:
+        status, stdout, stderr = self.launch('--install')
+        self.assertEqual((status, stderr), (0, ''))
+        prefix = self.home / '.local'
+        self.assertEqual(OF_LIBRARY - self.files(prefix), set())
+        self.assertEqual((prefix / 'lib' / 'libmcs.so').read_text(), 'shared\n')
+        self.assertEqual(os.readlink(prefix / 'lib' / 'libmcs.so'), '../lib/libmcs.so.1')
+        self.assertIn(f'PKG_CONFIG_PATH={prefix}/lib/pkgconfig', stdout)
+        self.assertEqual(self.launch('--uninstall')[0], 0)
+        self.assertEqual(self.files(prefix), set())
+
+    def test_without_a_compiler_the_shared_library_is_left_out(self) -> None:
+        self.launch('--install')
+        (self.tools / 'cc').unlink()
+        status, stdout, stderr = self.launch('--install')
+        self.assertEqual((status, stderr), (0, f'{NO_LIBRARY}, since there is no C compiler: set CC, or put cc, gcc or clang on PATH\n'))
+        self.assertNotIn('PKG_CONFIG_PATH', stdout)
+        files = self.files(self.home / '.local')
+        self.assertEqual(OF_LIBRARY & files, set())
+        self.assertIn('lib/libmcs_c.a', files)
+
+    def test_the_compiler_is_the_one_of_the_environment_or_one_on_the_path(self) -> None:
+        (self.tools / 'cc').rename(self.tools / 'clang')
+        self.assertEqual(self.launch('--install')[::2], (0, ''))
+        self.put_tool('mine', '#!/bin/sh\necho no room >&2\nexit 1\n')
+        env = {'PATH': str(self.tools), 'HOME': str(self.home), 'CC': 'mine -m64'}
+        self.assertEqual(self.launch('--install', env=env)[::2], (0, f'{NO_LIBRARY}, since mine -m64 failed: no room\n'))
 
     def test_a_second_program_is_installed_under_its_name(self) -> None:
         self.launch('--install')

@@ -1,0 +1,169 @@
+/* strain FILE: calls the library with allocations that fail, from 8 threads, and with damaged texts.
+ * A line tells what was tried, and one what is wrong.
+ * malloc, realloc and free of the library are those below (-Wl,--wrap). */
+#include <mcsim.h>
+#include <pthread.h>
+#include <stdatomic.h>
+#include <stdio.h>
+#include <stdlib.h>
+#include <string.h>
+
+#define HORIZON 200
+#define ROOM (1 << 16)
+#define THREADS 8
+#define TEXTS 5000
+
+void *__real_malloc(size_t bytes);
+void *__real_realloc(void *at, size_t bytes);
+void __real_free(void *at);
+
+/* allocations until one is refused, all after it if refuses_all; below 0 none is */
+static _Thread_local long left = -1;
+static _Thread_local int refuses_all;
+static atomic_long kept;
+
+static int is_refused(void)
+{
+    return left >= 0 && (left == 0 ? !refuses_all ? (left = -1, 1) : 1 : (left--, 0));
+}
+
+void *__wrap_malloc(size_t bytes)
+{
+    void *at = is_refused() ? NULL : __real_malloc(bytes);
+    kept += at != NULL;
+    return at;
+}
+
+void *__wrap_realloc(void *at, size_t bytes)
+{
+    void *now = is_refused() ? NULL : __real_realloc(at, bytes);
+    kept += at == NULL && now != NULL;
+    return now;
+}
+
+void __wrap_free(void *at)
+{
+    kept -= at != NULL;
+    __real_free(at);
+}
+
+static uint8_t text[1 << 16], wanted[ROOM];
+static size_t text_bytes, wanted_bytes;
+static atomic_int wrong;
+
+static void expect(const char *what, long number, int is_good)
+{
+    if (!is_good) {
+        printf("wrong: %s %ld\n", what, number);
+        wrong++;
+    }
+}
+
+/* whether a room has the lines, or is as it was */
+static int is_whole(const uint8_t *room, size_t length)
+{
+    return length == wanted_bytes && memcmp(room, wanted, length) == 0;
+}
+
+static int is_clear(const uint8_t *room, size_t from)
+{
+    for (size_t at = from; at < ROOM; at++)
+        if (room[at] != 0)
+            return 0;
+    return 1;
+}
+
+static long refuse_each(int all)
+{
+    static uint8_t room[ROOM];
+    long first = 0;
+
+    for (;; first++) {
+        size_t length = 7;
+        memset(room, 0, ROOM);
+        left = first, refuses_all = all;
+        uint32_t result = mcs_run(text, text_bytes, HORIZON, MCS_BOTH, room, ROOM, &length);
+        int was_refused = left <= 0 && (all ? left == 0 : left == -1);
+        left = -1;
+        expect("memory is kept after a refusal at", first, kept == 0);
+        if (result == MCS_LINES) {
+            expect("lines after a refusal at", first, is_whole(room, length) && is_clear(room, length));
+            if (!was_refused)
+                return first;
+        } else {
+            expect("the result of a refusal at", first, result == MCS_NO_MEMORY && length == 0 && is_clear(room, 0));
+        }
+    }
+}
+
+static void *call_often(void *number)
+{
+    uint8_t *room = calloc(ROOM, 1);
+    for (int call = 0; call < 50; call++) {
+        size_t length = 0;
+        uint32_t result = mcs_run(text, text_bytes, HORIZON, MCS_BOTH, room, ROOM, &length);
+        expect("a call of thread", (long)(intptr_t)number, result == MCS_LINES && is_whole(room, length));
+    }
+    free(room);
+    return NULL;
+}
+
+/* texts with bytes that were changed, taken away or doubled */
+static long damage(void)
+{
+    static uint8_t own[1 << 17], room[ROOM];
+    long results[5] = {0};
+
+    srand(1);
+    for (int number = 0; number < TEXTS; number++) {
+        size_t bytes = text_bytes, length = 0;
+        memcpy(own, text, bytes);
+        for (int change = rand() % 4; change >= 0 && bytes > 0; change--) {
+            size_t at = (size_t)rand() % bytes, some = 1 + (size_t)rand() % 9;
+            if (at + some > bytes)
+                some = bytes - at;
+            switch (rand() % 3) {
+            case 0:
+                own[at] = (uint8_t)(rand() % 2 ? rand() : "09\"[]{}=,\n #-"[rand() % 13]);
+                break;
+            case 1:
+                memmove(own + at, own + at + some, bytes - at - some);
+                bytes -= some;
+                break;
+            default:
+                memmove(own + at + some, own + at, bytes - at);
+                bytes += some;
+            }
+        }
+        /* memory of just the text, so that a read behind it is found */
+        uint8_t *just = malloc(bytes + (bytes == 0));
+        memcpy(just, own, bytes);
+        uint32_t result = mcs_run(just, bytes, HORIZON, MCS_REPORTS, room, ROOM, &length);
+        free(just);
+        expect("the result of text", number, result <= MCS_FAULT && length > 0 && length < ROOM);
+        results[result < 5 ? result : 4]++;
+    }
+    expect("texts that are systems", results[0], results[0] > 20);
+    return results[1];
+}
+
+int main(int count, char **words)
+{
+    pthread_t threads[THREADS];
+    FILE *file = count == 2 ? fopen(words[1], "rb") : NULL;
+
+    if (file == NULL)
+        return 2;
+    text_bytes = fread(text, 1, sizeof text, file);
+    fclose(file);
+    kept = 0;
+    expect("the first call", 0, mcs_run(text, text_bytes, HORIZON, MCS_BOTH, wanted, ROOM, &wanted_bytes) == MCS_LINES);
+    expect("memory is kept after the first call", kept, kept == 0);
+    long once = refuse_each(0), all = refuse_each(1), faults = damage();
+    for (intptr_t number = 0; number < THREADS; number++)
+        pthread_create(&threads[number], NULL, call_often, (void *)number);
+    for (int number = 0; number < THREADS; number++)
+        pthread_join(threads[number], NULL);
+    printf("refused %ld and %ld, faults %ld of %d texts, wrong %d\n", once, all, faults, TEXTS, wrong);
+    return wrong != 0;
+}

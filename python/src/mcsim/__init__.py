@@ -1,0 +1,12 @@
+"""mcsim: a simulator of seL4 MCS scheduling, proved. Build a `System`, or read one, and simulate, check or view it."""
+from .faults import Fault
+from .parts import Chain, Context, Link, Note, Order, Server, Source, Thread
+from .system import System
+from .verdict import Counts, Figures, Finding, Hint, Job, Lost, Miss, Never, Other, Overdue, Verdict
+from .views import View
+
+__version__ = '1.0'
+__all__ = [
+    'Chain', 'Context', 'Counts', 'Fault', 'Figures', 'Finding', 'Hint', 'Job', 'Link', 'Lost', 'Miss', 'Never', 'Note', 'Order', 'Other', 'Overdue',
+    'Server', 'Source', 'System', 'Thread', 'Verdict', 'View',
+]

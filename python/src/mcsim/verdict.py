@@ -1,0 +1,222 @@
+"""What a check finds, and the figures of threads. The names are those of the JSON of mcscheck (docs/CHECK.md)."""
+from __future__ import annotations
+
+import dataclasses
+import json
+from collections.abc import Iterator, Mapping, Sequence
+from dataclasses import dataclass
+from typing import Any, Optional, Union
+
+
+@dataclass(frozen=True)
+class Miss:
+    """A job that ended after its deadline, with the ticks for which it waited and ran."""
+
+    moment: int
+    core: int
+    thread: str
+    number: int
+    response: int
+    deadline: int
+    activated: int
+    queued: int
+    ready: int
+    running: int
+    throttled: int
+    blocked: int
+    woken: int
+
+
+@dataclass(frozen=True)
+class Overdue:
+    """A job that has not ended at the horizon, and whose deadline has passed."""
+
+    moment: int
+    core: int
+    thread: str
+    deadline: int
+    activated: int
+    queued: int
+    ready: int
+    running: int
+    throttled: int
+    blocked: int
+    woken: int
+
+
+@dataclass(frozen=True)
+class Lost:
+    """A signal or an interrupt that added no bit to the word: an activation that is lost."""
+
+    moment: int
+    core: int
+    note: str
+    word: int
+
+
+@dataclass(frozen=True)
+class Never:
+    """A thread with a deadline, of which no job was activated."""
+
+    moment: int
+    core: int
+    thread: str
+    deadline: int
+
+
+@dataclass(frozen=True)
+class Other:
+    """A finding of a kind that this package does not know, with all of its values."""
+
+    moment: int
+    core: int
+    kind: str
+    values: Mapping[str, Union[int, str]]
+
+
+Finding = Union[Miss, Overdue, Lost, Never, Other]
+
+
+@dataclass(frozen=True)
+class Hint:
+    """A likely mistake in the file: `unsignalled` has a note, `unbound` a context, `overcommitted` a core and what it grants, in millionths."""
+
+    hint: str
+    note: Optional[str] = None
+    context: Optional[str] = None
+    core: Optional[int] = None
+    grants: Optional[int] = None
+
+
+@dataclass(frozen=True)
+class Counts:
+    """How many findings there are of each kind. Merged and allowed ones are none, nor are hints."""
+
+    missed: int
+    overdue: int
+    lost: int
+    never: int
+    merged: int
+    allowed: int
+    hints: int
+
+
+@dataclass(frozen=True)
+class Verdict:
+    """The findings in the order of the schedule, then those at the horizon; the hints; and the counts."""
+
+    findings: Sequence[Finding]
+    hints: Sequence[Hint]
+    counts: Counts
+
+    @property
+    def is_clean(self) -> bool:
+        """Whether nothing was found. Hints are no findings."""
+        return not self.findings
+
+    def __iter__(self) -> Iterator[Finding]:
+        return iter(self.findings)
+
+    def __len__(self) -> int:
+        return len(self.findings)
+
+
+@dataclass(frozen=True)
+class Job:
+    """A job that ended. The response counts from its activation."""
+
+    moment: int
+    core: int
+    thread: str
+    number: int
+    activated: int
+    begun: int
+    response: int
+    queued: int
+    preemptions: int
+    ready: int
+    running: int
+    throttled: int
+    blocked: int
+    woken: int
+
+
+@dataclass(frozen=True)
+class Figures:
+    """The figures of a thread. Shares are in millionths; None stands where there is no such number."""
+
+    thread: str
+    core: int
+    priority: int
+    budget: int
+    period: int
+    granted: int
+    used: int
+    rounds: int
+    greatest: Optional[int] = None
+    p50: Optional[int] = None
+    p90: Optional[int] = None
+    p99: Optional[int] = None
+    deadline: Optional[int] = None
+    margin: Optional[int] = None
+    missed: int = 0
+    late: int = 0
+    lost: Optional[int] = None
+    merged: Optional[int] = None
+    ticks_pending: int = 0
+    ticks_ready: int = 0
+    ticks_running: int = 0
+    ticks_throttled: int = 0
+    ticks_blocked: int = 0
+    ticks_woken: int = 0
+    ticks_done: int = 0
+
+
+FINDINGS: Mapping[str, type[Union[Miss, Overdue, Lost, Never]]] = {'miss': Miss, 'overdue': Overdue, 'lost': Lost, 'never': Never}
+
+
+def objects_of(lines: bytes) -> Iterator[tuple[str, dict[str, Any]]]:
+    """The objects of the lines that mcscheck writes: the kind of each, and its other values."""
+    for line in lines.splitlines():
+        values: dict[str, Any] = json.loads(line)
+        yield values.pop('kind'), values
+
+
+def known(of: type[Any], values: Mapping[str, Any]) -> dict[str, Any]:
+    """The values that a class has; a later program may write more."""
+    names = {field.name for field in dataclasses.fields(of)}
+    return {name: value for name, value in values.items() if name in names}
+
+
+def finding_of(kind: str, values: Mapping[str, Any]) -> Finding:
+    if kind in FINDINGS:
+        return FINDINGS[kind](**known(FINDINGS[kind], values))
+    return Other(values['moment'], values['core'], kind, values)
+
+
+def verdict_of(lines: bytes) -> Verdict:
+    """The verdict that these lines tell."""
+    findings: list[Finding] = []
+    hints: list[Hint] = []
+    for kind, values in objects_of(lines):
+        if kind == 'hint':
+            hints.append(Hint(**known(Hint, values)))
+        elif kind == 'counts':
+            return Verdict(tuple(findings), tuple(hints), Counts(**known(Counts, values)))
+        else:
+            findings.append(finding_of(kind, values))
+    raise EOFError('the verdict has no line of counts')
+
+
+def jobs_of(lines: bytes) -> Iterator[Job]:
+    for kind, values in objects_of(lines):
+        if kind == 'job':
+            yield Job(**known(Job, values))
+
+
+def table_of(lines: bytes) -> list[Figures]:
+    return [Figures(**known(Figures, values)) for kind, values in objects_of(lines) if kind == 'thread']
+
+
+def unused_of(lines: bytes) -> dict[str, Optional[int]]:
+    return {values['context']: values.get('unused') for kind, values in objects_of(lines) if kind == 'context'}

@@ -1,0 +1,241 @@
+"""The package, on systems whose schedules were worked by hand from docs/FORMAT.md and docs/CHECK.md."""
+from __future__ import annotations
+
+import concurrent.futures
+import dataclasses
+import importlib
+import pathlib
+import tempfile
+import unittest
+from collections.abc import Callable
+from typing import Any, Union, cast
+
+import mcsim
+from mcsim import library, rows, verdict
+
+# A job of `H` takes 3 ticks and its wait 1. The tick at 0 is pending when `H` waits for the first time, from 0 to 1: its job is activated at 0, begins at 1
+# and ends at 4. `H` waits from 4 to 5, is woken at 10, computes until 13, and waits until 14.
+TICKING = mcsim.System(
+    contexts=[mcsim.Context('own', core=0, budget=10, period=20)],
+    notes=[mcsim.Note('tick', core=0)],
+    sources=[mcsim.Source('clock', note='tick', badge=1, period=10)],
+    threads=[mcsim.Thread('H', context='own', priority=20, script=['wait tick', 'compute 3'], deadline=3)],
+)
+# A budget of 2 in 5 is exhausted at 2 and at 7, and replenished at 5 and at 10. The job of 5 ticks ends at 11.
+EXHAUSTED = mcsim.System(contexts=[mcsim.Context('a', 0, 2, 5)], threads=[mcsim.Thread('A', 'a', 5, ['compute 5'], rounds=1)])
+
+
+class Simulated(unittest.TestCase):
+    def test_each_row_of_a_budget_that_is_exhausted(self) -> None:
+        self.assertEqual(list(EXHAUSTED.simulate(12)), [
+            rows.Release(0, 0, 'A'), rows.Run(0, 0, 'A'), rows.Stop(2, 0, 'A', 'spent', 2, 5),
+            rows.Release(5, 0, 'A'), rows.Run(5, 0, 'A'), rows.Stop(7, 0, 'A', 'spent', 2, 10),
+            rows.Release(10, 0, 'A'), rows.Run(10, 0, 'A'), rows.Round(11, 0, 'A', 1, 11), rows.Stop(11, 0, 'A', 'done', 1),
+        ])
+
+    def test_each_row_of_a_thread_that_waits(self) -> None:
+        self.assertEqual(list(TICKING.simulate(14)), [
+            rows.Interrupt(0, 0, 'clock', 'tick', 1), rows.Hold(0, 0, 'tick', 1), rows.Release(0, 0, 'H'), rows.Run(0, 0, 'H'),
+            rows.Got(1, 0, 'H', 'tick', 1), rows.Round(4, 0, 'H', 1, 3), rows.Stop(5, 0, 'H', 'wait', 5),
+            rows.Interrupt(10, 0, 'clock', 'tick', 1), rows.Wake(10, 0, 'H', 'tick', 1), rows.Run(10, 0, 'H'),
+            rows.Round(13, 0, 'H', 2, 3), rows.Stop(14, 0, 'H', 'wait', 4),
+        ])
+
+    def test_a_signal_to_another_core_and_a_server(self) -> None:
+        # `A` pays a tick to signal, and its signal takes 4 to the other core. `B` pays one to enter and one to leave, and computes 2 inside
+        system = mcsim.System(
+            cores=2, delay=4, contexts=[mcsim.Context('a', 0, 9, 99), mcsim.Context('b', 1, 9, 99)], notes=[mcsim.Note('n', 1)],
+            servers=[mcsim.Server('v', 1, 9, ['compute 2'])],
+            threads=[mcsim.Thread('A', 'a', 5, ['signal n 6'], rounds=1), mcsim.Thread('B', 'b', 5, ['call v 1'], rounds=1)],
+            orders=[mcsim.Order(7, 0, 'a', 8, 99)],
+        )
+        found = [row for row in system.simulate(8) if not isinstance(row, (rows.Release, rows.Run, rows.Stop, rows.Round))]
+        self.assertEqual(found, [
+            rows.Signal(1, 0, 'A', 'n', 6), rows.Enter(1, 1, 'B', 'v'), rows.Leave(4, 1, 'B', 'v'),
+            rows.Arrive(5, 1, 'n', 6, 0), rows.Hold(5, 1, 'n', 6), rows.Ordered(7, 0, 'a'),
+        ])
+
+    def test_a_long_run_takes_more_than_the_first_room(self) -> None:
+        # a job each 10 ticks, from the tick at 0 on; that of the tick at 100,000 has not ended
+        ends = [row.moment for row in TICKING.simulate(100_000) if isinstance(row, rows.Round)]
+        self.assertEqual((len(ends), ends[:2], ends[-1]), (10_000, [4, 13], 99_993))
+
+    def test_several_threads_at_once(self) -> None:
+        wanted = list(TICKING.simulate(5000))
+        with concurrent.futures.ThreadPoolExecutor(8) as pool:
+            found = list(pool.map(lambda _: list(TICKING.simulate(5000)), range(64)))
+        self.assertTrue(all(one == wanted for one in found))
+
+
+class Checked(unittest.TestCase):
+    def test_a_miss(self) -> None:
+        found = TICKING.check(14)
+        self.assertEqual(list(found), [mcsim.Miss(4, 0, 'H', 1, 4, 3, activated=0, queued=1, ready=0, running=3, throttled=0, blocked=0, woken=0)])
+        self.assertEqual(found.counts, mcsim.Counts(missed=1, overdue=0, lost=0, never=0, merged=0, allowed=0, hints=0))
+        self.assertFalse(found.is_clean)
+
+    def test_a_deadline_that_is_met(self) -> None:
+        found = TICKING.put(dataclasses.replace(TICKING.thread('H'), deadline=4)).check(14)
+        self.assertEqual((found.is_clean, len(found), found.hints), (True, 0, ()))
+
+    def test_what_is_overdue_never_and_lost(self) -> None:
+        # `H` starts at 25: the ticks at 10 and 20 find the word of that at 0
+        late = TICKING.put(dataclasses.replace(TICKING.thread('H'), start=25))
+        lost = [mcsim.Lost(10, 0, 'tick', 1), mcsim.Lost(20, 0, 'tick', 1)]
+        found = late.check(24)
+        self.assertEqual(list(found)[:2], lost)
+        self.assertEqual([(type(one), one.moment) for one in found][2:], [(mcsim.Overdue, 24)])
+        silent = TICKING.put(dataclasses.replace(TICKING.source('clock'), start=50)).check(24)
+        self.assertEqual(list(silent), [mcsim.Never(24, 0, 'H', 3)])
+        allowed = late.check(24, allow_lost=['tick'])
+        self.assertEqual((len(allowed), allowed.counts.allowed, allowed.counts.lost), (1, 2, 0))
+
+    def test_hints(self) -> None:
+        system = TICKING.put(mcsim.Context('spare', 0, 15, 20)).put(mcsim.Note('none', 0)).put(mcsim.Context('more', 0, 15, 20))
+        system = system.put(mcsim.Thread('L', 'more', 1, ['wait none', 'compute 1']))
+        found = system.check(14)
+        # 10/20 and 15/20 have a thread
+        self.assertEqual(list(found.hints), [
+            mcsim.Hint('unsignalled', note='none'), mcsim.Hint('unbound', context='spare'), mcsim.Hint('overcommitted', core=0, grants=1_250_000),
+        ])
+        self.assertEqual(found.counts.hints, 3)
+
+    def test_figures(self) -> None:
+        # up to 20: 5 ticks from 0 on and 4 from 10 on; the interrupt at 20 wakes it, and no tick follows
+        figures, = TICKING.table(20)
+        self.assertEqual((figures.thread, figures.rounds, figures.greatest, figures.p50, figures.margin), ('H', 2, 4, 3, -1))
+        self.assertEqual((figures.granted, figures.used, figures.ticks_running, figures.ticks_blocked), (500_000, 450_000, 9, 11))
+        self.assertEqual(TICKING.unused(20), {'own': 1})
+        none = TICKING.put(dataclasses.replace(TICKING.source('clock'), start=50)).table(20)[0]
+        self.assertEqual((none.rounds, none.greatest, none.margin), (0, None, None))
+
+    def test_figures_in_pandas(self) -> None:
+        try:
+            pandas = importlib.import_module('pandas')
+        except ImportError:
+            self.skipTest('pandas is not installed')
+        frame = pandas.DataFrame(TICKING.table(20))
+        self.assertEqual(frame.shape, (1, len(dataclasses.fields(mcsim.Figures))))
+        self.assertEqual((frame['thread'][0], frame['greatest'][0]), ('H', 4))
+
+    def test_jobs(self) -> None:
+        first, second = TICKING.jobs(14)
+        self.assertEqual((first.number, first.activated, first.begun, first.moment, first.response, first.queued), (1, 0, 1, 4, 4, 1))
+        self.assertEqual((second.number, second.activated, second.begun, second.moment, second.response, second.queued), (2, 10, 10, 13, 3, 0))
+
+    def test_a_kind_of_finding_that_is_not_known(self) -> None:
+        counts = b'{"kind":"counts","missed":0,"overdue":0,"lost":0,"never":0,"merged":0,"allowed":0,"hints":0,"new":1}\n'
+        found = verdict.verdict_of(b'{"moment":3,"core":1,"kind":"slow","chain":"way","latency":9}\n' + counts)
+        self.assertEqual(list(found), [mcsim.Other(3, 1, 'slow', {'moment': 3, 'core': 1, 'chain': 'way', 'latency': 9})])
+        self.assertFalse(found.is_clean)
+
+    def test_a_verdict_that_was_cut_off(self) -> None:
+        with self.assertRaises(EOFError):
+            verdict.verdict_of(b'{"moment":20,"core":0,"kind":"lost","note":"tick","word":1}\n')
+
+
+class Files(unittest.TestCase):
+    def test_a_file_that_was_written_is_read(self) -> None:
+        with tempfile.TemporaryDirectory() as folder:
+            file = pathlib.Path(folder, 'ticking.toml')
+            TICKING.write(file)
+            read = mcsim.System.read(file)
+        self.assertEqual((read.name, read.text()), ('ticking', TICKING.text()))
+        self.assertEqual(list(read.simulate(50)), list(TICKING.simulate(50)))
+
+    def test_parts_of_the_text(self) -> None:
+        system = mcsim.System(version=2, cores=3, links=[mcsim.Link(0, 1, 7)], contexts=[mcsim.Context('c', 1, 2, 3, mode='bandwidth')])
+        self.assertEqual(system.text().splitlines(), [
+            'version = 2', 'cores = 3', 'delay = 1', 'call = 1', 'min_budget = 1',
+            'context = [', '  { name = "c", core = 1, budget = 2, period = 3, mode = "bandwidth" },', ']',
+            'link = [', '  { maker = 0, home = 1, delay = 7 },', ']',
+        ])
+
+    def test_all_worked_systems_mean_the_same_when_they_are_written(self) -> None:
+        files = sorted(pathlib.Path(__file__).resolve().parents[2].glob('crates/mcs_corpus/data/*/*.toml'))
+        read = 0
+        for file in files:
+            with self.subTest(file.name):
+                try:
+                    system = mcsim.System.read(file)
+                except mcsim.Fault:
+                    continue
+                read += 1
+                horizon = 300
+                self.assertEqual(library.run(system.data(), horizon, library.SCHEDULE), library.run(file.read_bytes(), horizon, library.SCHEDULE))
+        self.assertTrue(not files or read > 50, read)
+
+    def test_parts_by_name(self) -> None:
+        changed = TICKING.put(mcsim.Context('own', 0, 7, 20))
+        self.assertEqual((changed.context('own').budget, TICKING.context('own').budget, len(changed.contexts)), (7, 10, 1))
+        self.assertEqual([note.name for note in changed.put(mcsim.Note('more', 0)).notes], ['tick', 'more'])
+        with self.assertRaisesRegex(KeyError, "there is no 'other': there are H"):
+            TICKING.thread('other')
+
+
+class Refused(unittest.TestCase):
+    def fault(self, system: mcsim.System) -> str:
+        said = []
+        calls: list[Callable[[], object]] = [system.simulate, system.check, system.table, system.view]
+        for call in calls:
+            with self.assertRaises(mcsim.Fault) as caught:
+                call()
+            said.append(str(caught.exception))
+        self.assertEqual(set(said), {said[0]})
+        return said[0]
+
+    def test_a_fault_of_a_part(self) -> None:
+        self.assertEqual(self.fault(TICKING.put(mcsim.Thread('L', 'none', 1, ['compute 1']))), 'unknown name at thread 2 context')
+        self.assertEqual(self.fault(TICKING.put(mcsim.Context('own', 0, 30, 20))), 'control: budget over period at context 1 budget')
+
+    def test_values_of_any_kind(self) -> None:
+        texts = ('', 'a"b', 'a\\', 'a\nb', 'a\0b', '\x7f', 'ü', '🙂', "'''", '# "', 'x' * 100_000, '}]')
+        for text in texts:
+            with self.subTest(text[:20]):
+                self.assertEqual(self.fault(TICKING.put(mcsim.Note(text, 0))), 'bad name at note 2 name')
+        for value in (1.5, True, '1', None, float('nan'), [1], {}):
+            with self.subTest(value=value):
+                self.assertIn(self.fault(TICKING.put(mcsim.Note('n', cast(Any, value)))), {'wrong kind at note 2 core', 'not TOML at file'})
+        for number in (-1, 1, 2**40, 2**64, 10**4000):
+            with self.subTest(number=number % 1000):
+                self.assertIn(self.fault(TICKING.put(mcsim.Note('n', number))), {'out of range at note 2 core', 'not TOML at file'})
+
+    def test_a_horizon_out_of_range(self) -> None:
+        for horizon in (-1, 2**40 + 1, 2**64, cast(Any, 1.5), cast(Any, '9')):
+            calls: list[Callable[[int], object]] = [TICKING.simulate, TICKING.check, TICKING.table]
+            for call in calls:
+                with self.subTest(horizon=horizon), self.assertRaisesRegex(ValueError, 'a whole number of 0 to 2\\^40 is allowed'):
+                    call(horizon)
+
+    def test_a_text_that_is_no_system(self) -> None:
+        texts: list[tuple[Union[str, bytes], str]] = [
+            ('', 'missing key at top version'), (b'\xff', 'not TOML at file'), ('version = 4', 'out of range at top version'),
+        ]
+        for text, said in texts:
+            with self.assertRaises(mcsim.Fault) as caught:
+                mcsim.System.of(text)
+            self.assertEqual(str(caught.exception), said)
+        with self.assertRaises(FileNotFoundError):
+            mcsim.System.read('/nowhere/system.toml')
+
+    def test_a_notification_that_is_not_there(self) -> None:
+        with self.assertRaisesRegex(ValueError, 'no notification is called "tack": the nearest is tick'):
+            TICKING.check(14, allow_lost=['tack'])
+
+
+class Seen(unittest.TestCase):
+    def test_a_picture(self) -> None:
+        view = dataclasses.replace(TICKING, name='ticking').view(40, begin=10, end=30)
+        for text in ('<svg ', '>ticking</', '>H<', '10 to 30 of a run of 40 ticks'):
+            self.assertIn(text, view._repr_svg_())
+        with tempfile.TemporaryDirectory() as folder:
+            view.save(pathlib.Path(folder, 'picture.svg'))
+            self.assertEqual(pathlib.Path(folder, 'picture.svg').read_text(), view.svg)
+
+    def test_a_window_that_is_none(self) -> None:
+        with self.assertRaisesRegex(ValueError, '--from 50 is not before the end, 40'):
+            TICKING.view(40, begin=50)
+
+
+if __name__ == '__main__':
+    unittest.main()
