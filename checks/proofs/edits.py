@@ -72,7 +72,6 @@ def kit() -> types.ModuleType:
     loader.exec_module(rt)
     sys.argv = words
     rt.rtlib.Crate = rt.Crate
-    rt.Crate.cuts_libraries = True
     rt.Crate.allowed = rt.handles_of(str(TOP))
     # (a crate's sum asks for those of all below it, along each path of crates.txt)
     rt.rtlib.Crate.stamp = functools.cache(rt.rtlib.Crate.stamp)
