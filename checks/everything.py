@@ -73,6 +73,7 @@ CHECKS = (
     Check('program', 'engines', 10),
     Check('program', 'refused_runs', 10, needs='`cc`'),
     Check('proofs', 'early', 8, tries_program=False, needs='`rt`'),
+    Check('proofs', 'lazy', 110, tries_program=False, needs='`rt`'),
     Check('pages', 'site', 60, tries_program=False, needs='`sphinx`, `myst_parser`'),
     Check('program', 'units', 350, tries_program=False),
     Check('program', 'lint', 15, tries_program=False, needs='`mypy`, `pyflakes3`'),
@@ -286,9 +287,10 @@ def run_all(words: argparse.Namespace) -> int:
 def try_edits(shard: str | None) -> int:
     """Tries all edits for the table, and then holds the table to the sources."""
     part = ['--shard', shard] if shard else []
+    given: dict[str, list[str]] = {'edits': ['--table', '--all', *part], 'edits_table': []}
     total = Tally()
-    for name, given in (('edits', ['--table', '--all', *part]), ('edits_table', [])):
-        total = total.plus(counted([sys.executable, str(HERE / 'proofs' / f'{name}.py'), *given], name))
+    for name in given:
+        total = total.plus(counted([sys.executable, str(HERE / 'proofs' / f'{name}.py'), *given[name]], name))
     print(total)
     return total.status
 
