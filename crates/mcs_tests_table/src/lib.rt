@@ -1,4 +1,4 @@
-//! Tests of `mcs_table`, over its public items.
+//! Tests of `mcs_verdict`, `mcs_table` and `mcs_why`, over their public items.
 #![tactic(auto)]
 
 #[cfg(test)]

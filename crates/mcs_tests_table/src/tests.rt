@@ -1,1 +1,3 @@
+mod found;
 mod told;
+mod why;
