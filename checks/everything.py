@@ -73,7 +73,7 @@ CHECKS = (
     Check('program', 'engines', 10),
     Check('program', 'refused_runs', 10, needs='`cc`'),
     Check('proofs', 'early', 8, tries_program=False, needs='`rt`'),
-    Check('proofs', 'lazy', 110, tries_program=False, needs='`rt`'),
+    Check('proofs', 'lazy', 40, tries_program=False, needs='`rt`'),
     Check('pages', 'site', 60, tries_program=False, needs='`sphinx`, `myst_parser`'),
     Check('program', 'units', 350, tries_program=False),
     Check('program', 'lint', 15, tries_program=False, needs='`mypy`, `pyflakes3`'),
