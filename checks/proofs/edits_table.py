@@ -50,7 +50,7 @@ class Row(NamedTuple):
 
 def goal_of(why: str) -> str:
     """The goal that a refusal names, without its place in a file."""
-    return re.sub(r'^\S+:\d+:\d+: (error: )?', '', why).strip()
+    return re.sub(r'^(note: )?\S+:\d+:\d+: (error: )?', '', why).strip()
 
 
 def below(crates: str) -> dict[str, list[str]]:

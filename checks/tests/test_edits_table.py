@@ -108,6 +108,7 @@ class Judged(Checkout):
         self.assertEqual(edits_table.read(self.top / 'none.csv'), {})
 
     def test_a_goal_has_no_place(self) -> None:
+        self.assertEqual(edits_table.goal_of('note: src/beside.rt:56:5: it is not proved that it returns'), 'it is not proved that it returns')
         self.assertEqual(edits_table.goal_of('src/tick.rt:9:5: error: `Tick::get`: ensures value is not proved'), '`Tick::get`: ensures value is not proved')
 
 
