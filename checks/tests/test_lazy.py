@@ -199,9 +199,9 @@ class Table(unittest.TestCase):
         self.assertEqual(told, 'crates in the table: 2; stale: high; not tried: other')
         self.assertEqual(lazy.standing([self.row('a')], {'low': '0'}), 'crates in the table: 1; stale: none; not tried: none')
 
-    def test_a_tables_survivors_have_tests(self) -> None:
+    def test_a_table_says_of_each_survivor_which_test_fails_with_it_or_none(self) -> None:
         rows = lazy.read(lazy.TABLE).values()
-        self.assertEqual([row.name for row in rows if row.came == lazy.SURVIVES and row.test in ('', lazy.NO_TEST)], [])
+        self.assertEqual([row.name for row in rows if row.came == lazy.SURVIVES and not row.test], [])
 
 
 if __name__ == '__main__':
