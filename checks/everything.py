@@ -6,6 +6,9 @@ proved, the line before it says why. The gate leaves its programs in crates/mcsi
 then the library for C is built. With --program or --no-proofs, or if the command rt is not on PATH, nothing is proved: the checks take the program that
 is given, or else crates/mcsim/out/mcsim or bin/mcsim, and the mcscheck beside it, or that of crates/mcscheck/out or bin.
 
+With --all-edits it tries each edit that the prover must refuse, of must-fail and of edits, whose row in checks/proofs/edits.csv is not of these sources,
+and nothing else. --shard K/N tries the K-th of N parts of the crates, so that several machines or runs share the work.
+
 --list writes tables of the checks and of the scripts that are run by hand, from their docstrings; --write puts them on checks/README.md."""
 from __future__ import annotations
 
@@ -70,6 +73,7 @@ CHECKS = (
     Check('program', 'engines', 10),
     Check('program', 'refused_runs', 10, needs='`cc`'),
     Check('proofs', 'early', 8, tries_program=False, needs='`rt`'),
+    Check('proofs', 'lazy', 40, tries_program=False, needs='`rt`'),
     Check('pages', 'site', 60, tries_program=False, needs='`sphinx`, `myst_parser`'),
     Check('program', 'units', 350, tries_program=False),
     Check('program', 'lint', 15, tries_program=False, needs='`mypy`, `pyflakes3`'),
@@ -140,8 +144,13 @@ def asked() -> argparse.Namespace:
     parser.add_argument('--anew', action='store_true', help='takes nothing of what earlier gates kept on this machine')
     parser.add_argument('--list', action='store_true', help='writes tables of the checks and of the scripts that are run by hand')
     parser.add_argument('--write', action='store_true', help='puts these tables on checks/README.md')
+    parser.add_argument('--all-edits', action='store_true', help='tries all edits that the prover must refuse, and keeps what came of them in checks/proofs/edits.csv')
+    parser.add_argument('--shard', metavar='K/N', help='with --all-edits: only the K-th of N parts of the crates')
     parser.add_argument('--only', action='append', choices=[check.name for check in CHECKS], help='of the checks after the gate only this one; may be given several times')
-    return parser.parse_args()
+    words = parser.parse_args()
+    if words.shard and not words.all_edits:
+        parser.error('--shard is for --all-edits')
+    return words
 
 
 def why_no_proofs(words: argparse.Namespace) -> str | None:
@@ -171,8 +180,8 @@ def judged(told: Tally | None, status: int, what: str) -> tuple[str, Tally]:
     return '', told
 
 
-def gate(command: Sequence[str]) -> Tally:
-    """Runs the gate, and shows what it writes; its count is told with a name, so that nobody takes it for the last line."""
+def counted(command: Sequence[str], name: str) -> Tally:
+    """Runs a command, and shows what it writes; its count is told with a name, so that nobody takes it for the last line."""
     told = None
     with common.started(command) as running:
         assert running.stdout
@@ -182,8 +191,8 @@ def gate(command: Sequence[str]) -> Tally:
                 print(line, end='', flush=True)
             else:
                 told = count
-    said, count = judged(told, running.returncode, 'rt ci')
-    say(f'{said}rt ci: {count}')
+    said, count = judged(told, running.returncode, name)
+    say(f'{said}{name}: {count}')
     return count
 
 
@@ -212,7 +221,7 @@ def prove(words: argparse.Namespace) -> Tally:
         say(f'nothing was proved: {why}')
         return Tally(skipped=1)
     began = time.time()
-    count = gate(gate_command(words))
+    count = counted(gate_command(words), 'rt ci')
     for name in common.PROGRAMS:
         stamp(common.built_of(name), began)
     return count if count.failed else count.plus(build_library(began))
@@ -278,8 +287,21 @@ def run_all(words: argparse.Namespace) -> int:
     return total.status
 
 
+def try_edits(shard: str | None) -> int:
+    """Tries all edits for the table, and then holds the table to the sources."""
+    part = ['--shard', shard] if shard else []
+    given: dict[str, list[str]] = {'edits': ['--table', '--all', *part], 'edits_table': []}
+    total = Tally()
+    for name in given:
+        total = total.plus(counted([sys.executable, str(HERE / 'proofs' / f'{name}.py'), *given[name]], name))
+    print(total)
+    return total.status
+
+
 def main() -> int:
     words = asked()
+    if words.all_edits:
+        return try_edits(words.shard)
     if words.list:
         print(tables(), end='')
     if words.write:

@@ -4,7 +4,7 @@
 They turn functions whose contracts pin the result, so that any wrong body is refused; who changes a crate tries them. With --all those of
 crates/CRATE/must-fail are tried too, which the gate tries. With --look each is only read: whether it can be applied is told at once.
 
-With --table what came of each is kept in checks/proofs/edits.csv (edits_table.py), crate by crate, and edits whose row is of these sources are passed
+With --table what came of each is kept in checks/proofs/edits.csv (edits_table.py), as it comes, and edits whose row is of these sources are passed
 over. --shard K/N takes the K-th of N parts of the crates, of about the same cost, so that N machines or runs can share the work.
 
 Each edit is tried by the kit's own means, on a copy of the crate, over what a check of the crate as it stands proved. A line for each says
@@ -72,7 +72,6 @@ def kit() -> types.ModuleType:
     loader.exec_module(rt)
     sys.argv = words
     rt.rtlib.Crate = rt.Crate
-    rt.Crate.cuts_libraries = True
     rt.Crate.allowed = rt.handles_of(str(TOP))
     # (a crate's sum asks for those of all below it, along each path of crates.txt)
     rt.rtlib.Crate.stamp = functools.cache(rt.rtlib.Crate.stamp)
@@ -253,14 +252,13 @@ class Book:
         fresh = {name for name, row in rows.items() if row.digest == self.digests.get(name) and row.verdict in (REFUSED, GAVE_UP)}
         return [edit for edit in edits if f'{crate.name}/{edit.stem}' not in fresh]
 
-    def keep(self, tries: Sequence[Tried]) -> None:
-        """Puts rows into the table, and drops those whose edit is gone."""
+    def keep(self, tried: Tried) -> None:
+        """Puts a row into the table at once, and drops rows whose edit is gone."""
         if not self.is_kept:
             return
         rows = {name: row for name, row in edits_table.read(edits_table.TABLE).items() if name in self.digests}
-        for each in tries:
-            crate, edit = each.name.split('/')
-            rows[each.name] = edits_table.Row(crate, edit, each.verdict, f'{each.seconds:.0f}', edits_table.goal_of(each.why)[:SHOWN], self.digests[each.name])
+        crate, edit = tried.name.split('/')
+        rows[tried.name] = edits_table.Row(crate, edit, tried.verdict, f'{tried.seconds:.0f}', edits_table.goal_of(tried.why)[:SHOWN], self.digests[tried.name])
         edits_table.write(edits_table.TABLE, rows.values())
 
 
@@ -276,13 +274,11 @@ def main(words: Sequence[str]) -> int:
     counts, book = {True: 0, False: 0}, Book(asked.table and not asked.look)
     work = [(crate, left) for crate, edits in chosen(crates, asked) if (left := book.left(crate, edits))]
     for crate, edits in sharded(work, *asked.shard):
-        tries = []
         for a_try in look(rt, crate, edits) if asked.look else try_crate(rt, crate, edits, asked.jobs):
-            tries.append(a_try)
+            book.keep(a_try)
             counts[a_try.passed] += 1
             if not (asked.look and a_try.passed):
                 print(a_try, flush=True)
-        book.keep(tries)
     print(f'{counts[True]} passed, {counts[False]} failed')
     return 1 if counts[False] else 0
 

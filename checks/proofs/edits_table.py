@@ -5,10 +5,11 @@ The table has a row for each edit of crates/*/must-fail and crates/*/edits that 
 goal that refused it, and the digest of the sources on which it was tried. The digest sums src, specs and proofs of the crate and of those
 below it, without lines that are a comment alone. A row is stale if the sources have another digest now, or the edit has another text.
 
-A row fails if the prover did not refuse the edit for a goal, and if its edit is gone. Stale rows and edits without a row are counted; with --release
-they fail too. The last line is 'N passed, M failed'."""
+A row fails if the prover did not refuse the edit for a goal, and if its edit is gone. Stale rows and edits without a row are counted for each crate;
+with --release they fail too, and so does a missing table. The last line is 'N passed, M failed'."""
 from __future__ import annotations
 
+import collections
 import csv
 import functools
 import hashlib
@@ -49,7 +50,7 @@ class Row(NamedTuple):
 
 def goal_of(why: str) -> str:
     """The goal that a refusal names, without its place in a file."""
-    return re.sub(r'^\S+:\d+:\d+: (error: )?', '', why).strip()
+    return re.sub(r'^(note: )?\S+:\d+:\d+: (error: )?', '', why).strip()
 
 
 def below(crates: str) -> dict[str, list[str]]:
@@ -97,10 +98,17 @@ class Sources:
         found = [edit for place in PLACES for edit in self.top.glob(f'crates/*/{place}/*.edit')]
         return {f'{edit.parent.parent.name}/{edit.stem}': edit for edit in sorted(found)}
 
+    def sums(self, crate: str) -> bytes:
+        """The digests of a crate and of those below it."""
+        return ' '.join(own_digest(self.top / 'crates' / name) for name in cone(crate, self.known)).encode()
+
+    def of_crate(self, crate: str) -> str:
+        """The digest of a crate and those below it, in 16 digits."""
+        return hashlib.sha256(self.sums(crate)).hexdigest()[:16]
+
     def digest(self, crate: str, edit: pathlib.Path) -> str:
         """The digest of an edit, its crate and those below that, in 16 digits."""
-        sums = [own_digest(self.top / 'crates' / name) for name in cone(crate, self.known)]
-        return hashlib.sha256(' '.join(sums).encode() + edit.read_bytes()).hexdigest()[:16]
+        return hashlib.sha256(self.sums(crate) + edit.read_bytes()).hexdigest()[:16]
 
 
 def read(table: pathlib.Path) -> dict[str, Row]:
@@ -111,14 +119,24 @@ def read(table: pathlib.Path) -> dict[str, Row]:
         return {row.name: row for row in (Row(**each) for each in csv.DictReader(file))}
 
 
-def write(table: pathlib.Path, rows: Iterable[Row]) -> None:
-    """Writes a table in order of crate and edit, whole or not at all."""
+def write_rows(table: pathlib.Path, fields: Sequence[str], rows: Iterable[tuple[str, ...]]) -> None:
+    """Writes a table in order of its rows, whole or not at all."""
     with tempfile.NamedTemporaryFile('w', newline='', dir=table.parent, delete=False) as file:
         writer = csv.writer(file, lineterminator='\n')
-        writer.writerow(Row._fields)
+        writer.writerow(fields)
         writer.writerows(sorted(rows))
     os.chmod(file.name, 0o644)
     os.replace(file.name, table)
+
+
+def write(table: pathlib.Path, rows: Iterable[Row]) -> None:
+    write_rows(table, Row._fields, rows)
+
+
+def by_crate(names: Iterable[str]) -> str:
+    """How many edits each crate has among these."""
+    counts = collections.Counter(name.split('/')[0] for name in names)
+    return ', '.join(f'{crate} {many}' for crate, many in sorted(counts.items()))
 
 
 def judged(rows: dict[str, Row], sources: Sources, is_release: bool) -> Count:
@@ -131,7 +149,12 @@ def judged(rows: dict[str, Row], sources: Sources, is_release: bool) -> Count:
         count.expect(f'{name}: there is no such edit; edits.py --table drops its row', name in edits)
         count.expect(f'{name}: {row.verdict}: {row.goal}', row.verdict in REFUSED)
     print(f'{len(edits)} edits, {len(rows) - len(stale)} tried on these sources, {len(stale)} stale, {len(missing)} not tried')
-    if is_release:
+    for what, names in (('stale', stale), ('not tried', missing)):
+        if names:
+            print(f'{what}: {by_crate(names)}')
+    if is_release and not rows:
+        count.expect('checks/proofs/edits.csv has no rows: ./test --all-edits writes them', False)
+    elif is_release:
         for name in stale + missing:
             count.expect(f'{name}: not tried on these sources', False)
     return count

@@ -91,6 +91,16 @@ class Judged(Checkout):
         self.assertIn('1 stale, 1 not tried', self.judged(stale)[2])
         self.assertEqual(self.judged(stale, is_release=True)[1], 2)
 
+    def test_stale_rows_are_told_by_crate(self) -> None:
+        said = self.judged(self.row('low')._replace(digest='0' * 16))[2]
+        self.assertIn('\nstale: low 1\nnot tried: high 1\n', said)
+
+    def test_a_release_without_a_table_fails_once(self) -> None:
+        self.assertEqual(self.judged()[:2], (0, 0))
+        passed, failed, said = self.judged(is_release=True)
+        self.assertEqual((passed, failed), (0, 1))
+        self.assertIn('edits.csv has no rows: ./test --all-edits writes them', said)
+
     def test_a_table_is_read_as_it_was_written(self) -> None:
         rows = [self.row('low'), self.row('high')]
         edits_table.write(self.top / 'edits.csv', rows)
@@ -98,6 +108,7 @@ class Judged(Checkout):
         self.assertEqual(edits_table.read(self.top / 'none.csv'), {})
 
     def test_a_goal_has_no_place(self) -> None:
+        self.assertEqual(edits_table.goal_of('note: src/beside.rt:56:5: it is not proved that it returns'), 'it is not proved that it returns')
         self.assertEqual(edits_table.goal_of('src/tick.rt:9:5: error: `Tick::get`: ensures value is not proved'), '`Tick::get`: ensures value is not proved')
 
 

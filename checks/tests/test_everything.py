@@ -212,6 +212,31 @@ class OfChecks(InFolder):
         self.assertEqual(self.told('print("9 passed, 0 failed")\nsys.exit(1)'), (1, '11 passed, 1 failed, 1 skipped'))
 
 
+class AllEdits(InFolder):
+    """--all-edits tries the edits and holds their table, and runs neither the gate nor other checks."""
+
+    def told(self, *words: str, tried: str = '7 passed, 1 failed') -> tuple[int, list[str]]:
+        self.folder.gate('echo the gate ran; echo 1 passed, 0 failed')
+        for name, count in (('edits', tried), ('edits_table', '9 passed, 0 failed')):
+            self.folder.check(f'proofs/{name}', f'print("{name}", *sys.argv[1:])\nprint("{count}")')
+        return self.folder.run('./test', '--all-edits', *words)
+
+    def test_all_are_tried_for_the_table_which_is_held_to_the_sources(self) -> None:
+        lines = ['edits --table --all', 'edits: 7 passed, 0 failed', 'edits_table', 'edits_table: 9 passed, 0 failed', '16 passed, 0 failed']
+        self.assertEqual(self.told(tried='7 passed, 0 failed'), (0, lines))
+
+    def test_an_edit_that_is_not_refused_fails(self) -> None:
+        status, lines = self.told()
+        self.assertEqual((status, lines[-1]), (1, '16 passed, 1 failed'))
+
+    def test_a_part_is_handed_on(self) -> None:
+        self.assertIn('edits --table --all --shard 2/4', self.told('--shard', '2/4')[1])
+
+    def test_a_part_of_something_else_is_refused(self) -> None:
+        status, lines = self.folder.run('./test', '--shard', '1/4')
+        self.assertEqual((status, lines[-1]), (2, 'test: error: --shard is for --all-edits'))
+
+
 class Tables(unittest.TestCase):
     def test_the_page_of_checks_has_the_tables_of_today(self) -> None:
         page = everything.PAGE.read_text(encoding='utf-8')

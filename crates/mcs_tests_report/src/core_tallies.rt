@@ -86,6 +86,21 @@ fn counted_apart(alloc: Global, system: Arc<System>) -> Result<Reports, Fail> {
     Ok(room.together(&places, tallies.as_slice()))
 }
 
+/// Returns the reports up to time 6 of the tallies of all cores.
+fn counted_by_all(alloc: Global, system: Arc<System>) -> Result<Reports, Fail> {
+    let horizon = tick(6)?;
+    let room = Tally::new(alloc, &system, horizon)?;
+    let places = Arc::new(alloc, Places::new(alloc, system)?)?;
+    let mut tallies = CoreTally::of_all_cores(alloc, &places, horizon)?;
+    let rows = rows(alloc)?;
+    for tally in &mut tallies {
+        for row in &rows {
+            tally.add(row);
+        }
+    }
+    Ok(room.together(&places, tallies.as_slice()))
+}
+
 const NEVER_RAN: ThreadReport = ThreadReport {
     ran: 0,
     rounds: 0,
@@ -129,6 +144,17 @@ fn cores_count_by_themselves(rt: HostRuntime) -> Result<(), Fail> {
         ..NEVER_RAN
     };
     assert!(&rt; threads == [of_a, of_b, of_c].as_slice());
+    let whole = CoreReport { busy: 6, idle: 0 };
+    assert!(&rt; reports.cores.as_slice() == [whole, whole].as_slice());
+    Ok(())
+}
+
+/// From time 0 on a thread can run on each core, as above.
+#[test]
+fn all_cores_have_a_tally(rt: HostRuntime) -> Result<(), Fail> {
+    let alloc = rt.alloc();
+    let system = Arc::new(alloc, load(alloc, TWO_CORES.as_bytes())?)?;
+    let reports = counted_by_all(alloc, system)?;
     let whole = CoreReport { busy: 6, idle: 0 };
     assert!(&rt; reports.cores.as_slice() == [whole, whole].as_slice());
     Ok(())
