@@ -2,6 +2,9 @@ mod Told
 mod Threads
 mod Sums
 mod Words
+mod Placed
+mod Standing
+mod InPlace
 mod Rows
 mod Finders
 mod Seekers
@@ -16,6 +19,7 @@ mod Texts
 mod Unknown
 mod Values
 mod Worked
+mod ChainsWorked
 mod Answered
 mod Figured
 mod Pages

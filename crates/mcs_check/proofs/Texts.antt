@@ -1,8 +1,8 @@
 -- The text of a check: what rows tell, and then the rest.
-use Rattle.std.proofs.Common.{◌≡◌, ◌∙◌, ◌++◌, [], ℕ, Bool, List, None, length, refl, ap, sym, append_assoc, append-nil}
+use Rattle.std.proofs.Common.{◌≡◌, ◌∙◌, ◌++◌, [], ℕ, Bool, List, None, length, flat_map, refl, ap, sym, append_assoc, append-nil}
 use Rattle.mcs_system.specs.System.{System}
 use Rattle.mcs_core.specs.Clock.{schedule}
-use Rattle.mcs_verdict.specs.Findings.{found_at_end, found_in, past_of}
+use Rattle.mcs_verdict.specs.Findings.{InOrder, found_at_end, found_in, past_of}
 use Rattle.mcs_check_words.specs.declared.asked.Format.{Format}
 use Rattle.mcs_check_words.specs.declared.asked.Show.{Show}
 use Rattle.mcs_check_words.specs.declared.asked.Show.TheVariants as show
@@ -15,12 +15,14 @@ use Rattle.mcs_check.specs.declared.all_found.AllFound.{AllFound}
 use Rattle.mcs_check.specs.declared.checked.Checked.{Checked}
 use Rattle.mcs_check.specs.declared.counts.Counts.{Counts}
 use Rattle.mcs_check.specs.Allowed.{flags_of}
-use Rattle.mcs_check.specs.Check.{check_text, counts_of, figures_lines, shown_lines, thread_counts_of}
+use Rattle.mcs_check.specs.Check.{check_text, counts_of, figures_lines, findings_lines, shown_lines, thread_counts_of}
 use Rattle.mcs_check.specs.Counts.{no_counts, with_hints}
-use Rattle.mcs_check.specs.Formats.{counts_line, head_text}
-use Rattle.mcs_check.specs.Told.{counts_with, merged_in}
+use Rattle.mcs_check.specs.Formats.{counts_line, head_text, hint_line}
+use Rattle.mcs_check.specs.Told.{counts_with, found_lines, merged_in}
 use Rattle.mcs_check.specs.stored.AllFound.{checked_of}
 use Rattle.mcs_check.specs.stored.Rows.{counts_found, counts_in, ends_lines, lines_of, rest_lines, row_lines, rows_text, tabled_lines}
+use Rattle.mcs_check.specs.Chains.{chain_found_lines}
+use Rattle.mcs_check.proofs.InPlace.{in-place}
 use Rattle.mcs_check.proofs.Told.{all-jobs, both-rows, jobs-are, no-rows}
 use Rattle.mcs_check.proofs.Sums.{none-within, rows-within, sums-all, sums-found, sums-rows}
 
@@ -40,27 +42,43 @@ module _ (names : List (List ℕ)) (system : System) (horizon : ℕ) where
   abbrev flags : List Bool
   flags = flags_of names system.notes
 
-  shown-is : (how : Format) (asked : Show) → lines_of (row_lines system flags how asked) [] (schedule system horizon) ++ rest_of how asked names system horizon ≡ shown_lines names system horizon how asked
-  shown-is how show.Findings = ap (λ l. lines_of (row_lines system flags how show.Findings) [] (schedule system horizon) ++ l) (append-nil _)
-  shown-is how show.Jobs = append-nil _ ∙ all-jobs how system flags [] (schedule system horizon) ∙ jobs-are how system flags [] (schedule system horizon)
-  shown-is how show.Table = ap (λ l. l ++ rest_of how show.Table names system horizon) (no-rows how system flags [] (schedule system horizon))
-  shown-is how show.Both =
-      let rows = lines_of (row_lines system flags how show.Findings) [] (schedule system horizon) in
-      let past = past_of [] (schedule system horizon) in
-      let ends = ends_lines how system flags (all_due None 0 (chains_of system past).each) (found_at_end system past horizon 0 system.threads) (all_unanswered system past horizon 0 system.chains) in
-      let figures = figures_lines names system horizon how in
-      ap (λ l. l ++ (ends ++ figures)) (both-rows how system flags [] (schedule system horizon))
-      ∙ sym (append_assoc rows ends figures)
+  module _ (order : InOrder [] (schedule system horizon)) where
+    findings-are : (how : Format) → lines_of (row_lines system flags how show.Findings) [] (schedule system horizon)
+        ++ ends_lines how system flags (all_due None 0 (chains_of system (past_of [] (schedule system horizon))).each)
+        (found_at_end system (past_of [] (schedule system horizon)) horizon 0 system.threads) (all_unanswered system (past_of [] (schedule system horizon)) horizon 0 system.chains)
+        ≡ findings_lines names system horizon how
+    findings-are how =
+        let past = past_of [] (schedule system horizon) in
+        let lines = lines_of (row_lines system flags how show.Findings) [] (schedule system horizon) in
+        let due = chain_found_lines how system (all_due None 0 (chains_of system past).each) in
+        let ends = found_lines how system flags (found_at_end system past horizon 0 system.threads) in
+        let left = chain_found_lines how system (all_unanswered system past horizon 0 system.chains) in
+        let hinted = flat_map (hint_line how system) (hints_of system) in
+        sym (append_assoc lines (due ++ ends ++ left) hinted)
+        ∙ ap (λ l. l ++ hinted) (sym (append_assoc lines (due ++ ends) left) ∙ ap (λ l. l ++ left) (sym (append_assoc lines due ends)
+        ∙ ap (λ l. l ++ ends) (in-place how system flags (schedule system horizon) order)))
 
-  pub text-is : (how : Format) (asked : Show)
+    shown-is : (how : Format) (asked : Show) → lines_of (row_lines system flags how asked) [] (schedule system horizon) ++ rest_of how asked names system horizon ≡ shown_lines names system horizon how asked
+    shown-is how show.Findings = ap (λ l. lines_of (row_lines system flags how show.Findings) [] (schedule system horizon) ++ l) (append-nil _) ∙ findings-are how
+    shown-is how show.Jobs = append-nil _ ∙ all-jobs how system flags [] (schedule system horizon) ∙ jobs-are how system flags [] (schedule system horizon)
+    shown-is how show.Table = ap (λ l. l ++ rest_of how show.Table names system horizon) (no-rows how system flags [] (schedule system horizon))
+    shown-is how show.Both =
+        let rows = lines_of (row_lines system flags how show.Findings) [] (schedule system horizon) in
+        let past = past_of [] (schedule system horizon) in
+        let ends = ends_lines how system flags (all_due None 0 (chains_of system past).each) (found_at_end system past horizon 0 system.threads) (all_unanswered system past horizon 0 system.chains) in
+        let figures = figures_lines names system horizon how in
+        ap (λ l. l ++ (ends ++ figures)) (both-rows how system flags [] (schedule system horizon))
+        ∙ sym (append_assoc rows ends figures) ∙ ap (λ l. l ++ figures) (findings-are how)
+
+  pub text-is : InOrder [] (schedule system horizon) → (how : Format) (asked : Show)
       → rows_text system flags how asked (schedule system horizon) ++ rest_text how asked names system horizon (counts_of names system horizon)
       ≡ check_text names system horizon how asked
-  text-is how asked =
+  text-is order how asked =
       let lines = lines_of (row_lines system flags how asked) [] (schedule system horizon) in
       let rest = rest_of how asked names system horizon in
       let counted = counts_line how (counts_of names system horizon) in
       append_assoc (head_text how asked system) lines (rest ++ counted)
-      ∙ ap (λ l. head_text how asked system ++ l) (sym (append_assoc lines rest counted) ∙ ap (λ l. l ++ counted) (shown-is how asked))
+      ∙ ap (λ l. head_text how asked system ++ l) (sym (append_assoc lines rest counted) ∙ ap (λ l. l ++ counted) (shown-is order how asked))
       ∙ sym (append_assoc (head_text how asked system) (shown_lines names system horizon how asked) counted)
 
   pub counts-are : with_hints (length (hints_of system))

@@ -1,13 +1,12 @@
 -- The lines of what is shown, put together as the rows go by, are those of all that is found, or of all rounds that ended.
-use Rattle.std.proofs.Common.{◌≡◌, ◌∙◌, ◌++◌, ◌∷◌, [], ℕ, Bool, true, false, List, Option, Some, None, IfSome, length, refl, ap, sym, append_assoc, append-nil}
+use Rattle.std.proofs.Common.{◌≡◌, ◌∙◌, ◌++◌, ◌∷◌, [], ℕ, Bool, true, false, List, Option, Some, None, IfSome, length, refl, ap, sym, append-nil}
 use Rattle.std.specs.Prelude.{option_to_list}
 use Rattle.std.proofs.lemmas.List.Concat.{flat_map-append}
 use Rattle.mcs_ticks.specs.declared.row.Row.{Row}
 use Rattle.mcs_system.specs.System.{System}
 use Rattle.mcs_verdict.specs.declared.finding.Finding.{Finding}
-use Rattle.mcs_verdict.specs.declared.finding.Found.{Found}
 use Rattle.mcs_verdict.specs.declared.job.Job.{Job}
-use Rattle.mcs_verdict.specs.Findings.{finding, found_at, found_in}
+use Rattle.mcs_verdict.specs.Findings.{found_at}
 use Rattle.mcs_verdict.specs.Jobs.{job_of, jobs_in}
 use Rattle.mcs_check_words.specs.declared.asked.Format.{Format}
 use Rattle.mcs_check_words.specs.declared.asked.Show.{Show}
@@ -17,22 +16,11 @@ use Rattle.mcs_chain.specs.Found.{all_unanswered}
 use Rattle.mcs_check.specs.declared.seen.Tables.{Tables}
 use Rattle.mcs_table.proofs.Ended.{length-accounts}
 use Rattle.mcs_check.specs.Counts.{is_allowed, told_of}
-use Rattle.mcs_check.specs.Formats.{found_line, job_line}
+use Rattle.mcs_check.specs.Formats.{job_line}
 use Rattle.mcs_check.specs.Told.{found_lines, job_lines}
 use Rattle.mcs_check.specs.stored.Rows.{due_lines, figures_of_all, kept_table, lines_in, lines_of, row_lines, tables_of, tabled_lines, shown_found, shown_job, told_at, told_line}
 
 module _ (how : Format) (system : System) (allowed : List Bool) where
-  append-one : (x : Found) (xs ys : List Found) (b : Bool) → is_allowed allowed x.finding ≡ b
-      → found_lines how system allowed (xs ++ ys) ≡ found_lines how system allowed xs ++ found_lines how system allowed ys
-      → found_lines how system allowed ((x ∷ xs) ++ ys) ≡ found_lines how system allowed (x ∷ xs) ++ found_lines how system allowed ys
-  append-one x xs ys true e rest = rw e rest
-  append-one x xs ys false e rest =
-      rw e (ap (λ l. found_line how system x ++ l) rest ∙ sym (append_assoc (found_line how system x) (found_lines how system allowed xs) (found_lines how system allowed ys)))
-
-  pub lines-append : (xs ys : List Found) → found_lines how system allowed (xs ++ ys) ≡ found_lines how system allowed xs ++ found_lines how system allowed ys
-  lines-append [] ys = refl
-  lines-append (x ∷ xs) ys = append-one x xs ys (is_allowed allowed x.finding) refl (lines-append xs ys)
-
   one-line : (moment core : ℕ) (f : Finding) (b : Bool) → is_allowed allowed f ≡ b
       → found_lines how system allowed (found_at moment core (Some f)) ≡ told_line how system (shown_found moment core (told_of allowed (Some f)))
   one-line moment core f true e = rw e refl
@@ -41,14 +29,6 @@ module _ (how : Format) (system : System) (allowed : List Bool) where
   pub line-is : (moment core : ℕ) (f : Option Finding) → found_lines how system allowed (found_at moment core f) ≡ told_line how system (shown_found moment core (told_of allowed f))
   line-is moment core None = refl
   line-is moment core (Some f) = one-line moment core f (is_allowed allowed f) refl
-
-  pub lines-are : (past rows : List Row) → lines_in system allowed how show.Findings past rows ≡ found_lines how system allowed (found_in system past rows)
-  lines-are past [] = refl
-  lines-are past (r ∷ rows) =
-      let first = line-is r.moment r.core (finding system past r.moment r.what) in
-      ap (λ l. told_at system allowed how show.Findings past r ++ l) (lines-are (r ∷ past) rows)
-      ∙ ap (λ l. l ++ found_lines how system allowed (found_in system (r ∷ past) rows)) (sym first)
-      ∙ sym (lines-append (found_at r.moment r.core (finding system past r.moment r.what)) (found_in system (r ∷ past) rows))
 
   -- with figures alone, rows have no lines
   pub no-rows : (past rows : List Row) → lines_of (row_lines system allowed how show.Table) past rows ≡ []

@@ -1,5 +1,5 @@
 -- The lines of chains.
-use Rattle.std.specs.Prelude.{ℕ, suc, List, [], ◌∷◌, ◌++◌, codes, decimal, flat_map, get_or}
+use Rattle.std.specs.Prelude.{ℕ, suc, nat_lt, if◌then◌else◌, List, [], ◌∷◌, ◌++◌, codes, decimal, flat_map, fold, get_or}
 use Rattle.mcs_fields.specs.Fields.{Text, Value, amount, empty, name}
 use Rattle.mcs_system.specs.declared.part.ChainPart.{ChainPart}
 use Rattle.mcs_system.specs.System.{System}
@@ -87,3 +87,16 @@ chain_line how system n f = unless_rows how (chain_text system n f) (chain_field
 abbrev pub chain_lines : Format → System → ℕ → List Figures → Text
 chain_lines how system n [] = []
 chain_lines how system n (f ∷ figures) = chain_line how system n f ++ chain_lines how system (suc n) figures
+
+-- a line and its time
+abbrev pub Entry : Type 0
+Entry = ℕ × Text
+
+-- a line at its time, after all lines of that time and before
+abbrev pub placed : Entry → List Entry → List Entry
+placed entry [] = entry ∷ []
+placed entry (first ∷ rest) = if nat_lt entry.0 first.0 then entry ∷ first ∷ rest else first ∷ placed entry rest
+
+-- these lines, which are in order of time, with each of the others at its time
+abbrev pub with_placed : List Entry → List Entry → Text
+with_placed lines others = flat_map (λ entry. entry.1) (fold (λ all entry. placed entry all) lines others)

@@ -7,7 +7,7 @@ use Rattle.mcs_core.specs.Clock.{schedule}
 use Rattle.mcs_load.specs.Memory.{no_memory}
 use Rattle.mcs_hints.specs.Hints.{hints_of}
 use Rattle.mcs_verdict.specs.declared.finding.Found.{Found}
-use Rattle.mcs_verdict.specs.Findings.{findings, found_at_end, past_of}
+use Rattle.mcs_verdict.specs.Findings.{findings, found_at_end, found_in, past_of}
 use Rattle.mcs_verdict.specs.Jobs.{jobs_in}
 use Rattle.mcs_cli.specs.Devices.{AppendsPrefix}
 use Rattle.mcs_cli.specs.Run.{IsFaultOfInput, IsRead, IsTooLong}
@@ -17,20 +17,18 @@ use Rattle.mcs_check_words.specs.declared.asked.Options.{Options}
 use Rattle.mcs_check_words.specs.declared.asked.Show.{Show}
 use Rattle.mcs_check_words.specs.declared.asked.Show.TheVariants as show
 use Rattle.mcs_chain.specs.Figures.{all_figures}
-use Rattle.mcs_chain.specs.Found.{all_unanswered}
-use Rattle.mcs_chain.specs.Watch.{all_due, watch_of as chains_of}
+use Rattle.mcs_chain.specs.Found.{all_slow, all_unanswered}
 use Rattle.mcs_check.specs.declared.checked.Checked.{Checked}
 use Rattle.mcs_check.specs.declared.counts.Counts.{Counts}
 use Rattle.mcs_check.specs.declared.fault.CheckFault.{CheckFault}
 use Rattle.mcs_check.specs.declared.fault.CheckFault.TheVariants.{Run, Unknown, Mixed}
 use Rattle.mcs_check.specs.Allowed.{IsUnknownFault, first_unknown, flags_of, notifications}
-use Rattle.mcs_check.specs.Chains.{chain_lines}
+use Rattle.mcs_check.specs.Chains.{chain_found_line, chain_found_lines, chain_lines, with_placed}
 use Rattle.mcs_check.specs.Checked.{chain_counts}
 use Rattle.mcs_check.specs.Counts.{no_counts}
-use Rattle.mcs_check.specs.Formats.{counts_line, head_text, is_mixed}
+use Rattle.mcs_check.specs.Formats.{counts_line, found_line, head_text, hint_line, is_mixed}
 use Rattle.mcs_check.specs.Figures.{table_lines}
-use Rattle.mcs_check.specs.Told.{counts_with, job_lines, merged_in}
-use Rattle.mcs_check.specs.stored.Rows.{ends_lines, lines_of, row_lines}
+use Rattle.mcs_check.specs.Told.{counts_with, found_lines, job_lines, merged_in, told}
 
 -- the findings in the schedule of the one clock over all cores
 abbrev pub found_of : System → ℕ → List Found
@@ -50,12 +48,20 @@ module _ (names : List (List ℕ)) (system : System) (horizon : ℕ) where
   abbrev pub counts_of : Checked
   counts_of = record { counts = thread_counts_of; chains = chain_counts system all_rows horizon }
 
+  -- the lines of the rows' findings, in order of time; each slow answer stands after the findings of
+  -- all rows of its time, chain by chain
+  abbrev pub rows_lines : Format → List ℕ
+  rows_lines how =
+      with_placed (map (λ f. (f.moment, found_line how system f)) (told (flags_of names system.notes) (found_in system [] (schedule system horizon))))
+      (map (λ f. (f.moment, chain_found_line how system f)) (all_slow system all_rows 0 system.chains))
+
   -- the lines of findings and hints: those of the rows, and those at the horizon
   abbrev pub findings_lines : Format → List ℕ
   findings_lines how =
-      lines_of (row_lines system (flags_of names system.notes) how show.Findings) [] (schedule system horizon)
-      ++ ends_lines how system (flags_of names system.notes) (all_due None 0 (chains_of system all_rows).each)
-      (found_at_end system all_rows horizon 0 system.threads) (all_unanswered system all_rows horizon 0 system.chains)
+      rows_lines how
+      ++ found_lines how system (flags_of names system.notes) (found_at_end system all_rows horizon 0 system.threads)
+      ++ chain_found_lines how system (all_unanswered system all_rows horizon 0 system.chains)
+      ++ flat_map (hint_line how system) (hints_of system)
 
   -- the lines of the figures
   abbrev pub figures_lines : Format → List ℕ

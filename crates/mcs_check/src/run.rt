@@ -15,6 +15,7 @@ use mcs_check_words::Options;
 use mcs_cli::{FromRead, RunFault, Source, Target, read_system, write_text};
 use mcs_system::System;
 use mcs_team::SimFault;
+use mcs_verdict_laws::schedules_are_in_order;
 use std::alloc::Global;
 use std::fs::File;
 use std::rt::Files;
@@ -109,6 +110,8 @@ fn write_check<H: Threads + Wait + Sync, T: Target, P: Progress>(
         (IsWriteFault (T.contents target.old) (T.contents target.new) (T.has_failed target.new)
         (check_text (names_of options.now) system options.now.horizon options.now.format options.now.show)) }
 {
+    schedules_are_in_order();
+    let _parts = system.parts();
     let Ok(system) = Arc::new(alloc, system) else {
         return Err(RunFault::Sim(SimFault::NoMemory));
     };

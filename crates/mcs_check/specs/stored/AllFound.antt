@@ -14,7 +14,6 @@ use Rattle.mcs_check.specs.declared.all_found.AllFound.{AllFound}
 use Rattle.mcs_check.specs.declared.all_found.Kept.{Kept}
 use Rattle.mcs_check.specs.declared.seen.Seen.{Seen}
 use Rattle.mcs_check.specs.declared.seen.Tables.{Tables}
-use Rattle.mcs_check.specs.declared.seen.Watches.{Watches}
 use Rattle.mcs_check.specs.declared.checked.Checked.{Checked}
 use Rattle.mcs_check.specs.Checked.{if_chains}
 use Rattle.mcs_check.specs.Counts.{no_counts}

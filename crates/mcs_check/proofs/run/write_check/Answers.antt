@@ -5,7 +5,7 @@ use Rattle.std.proofs.lemmas.Result.{IfErr-weaker}
 use Rattle.mcs_system.specs.System.{System}
 use Rattle.mcs_core.specs.Clock.{schedule}
 use Rattle.mcs_hints.specs.Hints.{hints_of}
-use Rattle.mcs_verdict.specs.Findings.{UpTo, found_at_end, past_of}
+use Rattle.mcs_verdict.specs.Findings.{InOrder, UpTo, found_at_end, past_of}
 use Rattle.mcs_cli.specs.Devices.{AppendsPrefix}
 use Rattle.mcs_cli.specs.Flow.{AppendsBefore, IsWriteFault}
 use Rattle.mcs_cli.proofs.Flow.{before-all, before-longer, before-none, fault-longer, fault-then, prefix-before, prefix-longer}
@@ -38,11 +38,12 @@ returns-in_err-all-clause-fault g c =
     let asked = c.args.options.now.show in
     let how = c.args.options.now.format in
     let flags_are : c.as_slice-allowed.result.now ≡ flags_of names system.notes = search rules in
+    let ordered : InOrder [] (schedule c.args.system c.args.options.now.horizon) = search rules in
     let system_is : arc_value c.in-Ok.system ≡ system = search rules in
     let short : IfErr c.from_residual.result (IsWriteFault (held c.args.target.now) (held c.find_rows-found.new.target) (failed c.find_rows-found.new.target)
     (rows_text (arc_value c.in-Ok.system) c.as_slice-allowed.result.now how asked (schedule (arc_value c.in-Ok.system) horizon))) = search rules in
     IfErr-weaker c.from_residual.result _ _ (λ f fault.
-    subst (λ text. IsWriteFault (held c.args.target.now) (held c.find_rows-found.new.target) (failed c.find_rows-found.new.target) text f) (text-is names system horizon how asked)
+    subst (λ text. IsWriteFault (held c.args.target.now) (held c.find_rows-found.new.target) (failed c.find_rows-found.new.target) text f) (text-is names system horizon ordered how asked)
     (fault-longer _ _ _ _ (rest_text how asked names system horizon (counts_of names system horizon)) f (rw (flags_are, system_is) at fault))) short
 
 pub returns-then-is_err-clause-fault : goal.returns-then-is_err-clause-fault
@@ -54,11 +55,12 @@ returns-then-is_err-clause-fault g c =
     let asked = c.args.options.now.show in
     let how = c.args.options.now.format in
     let flags_are : c.as_slice-allowed.result.now ≡ flags_of names system.notes = search rules in
+    let ordered : InOrder [] (schedule c.args.system c.args.options.now.horizon) = search rules in
     let system_is : arc_value c.in-Ok.system ≡ system = search rules in
     let begun : AppendsPrefix (held c.args.target.now) (held c.find_rows-found.new.target) (rows_text system (flags_of names system.notes) how asked (schedule system horizon)) =
     rw (← flags_are, ← system_is) (prefix-before _ _ _ _ c.in_ok-all.ensures.ok.text) in (
       c.in_ok-all.ensures.working,
-      subst (AppendsPrefix (held c.args.target.now) (held c.find_rows-found.new.target)) (text-is names system horizon how asked)
+      subst (AppendsPrefix (held c.args.target.now) (held c.find_rows-found.new.target)) (text-is names system horizon ordered how asked)
           (prefix-longer _ _ _ (rest_text how asked names system horizon (counts_of names system horizon)) begun),
     )
 
@@ -71,6 +73,7 @@ returns-in_err-write_text-clause-fault g c =
     let asked = c.args.options.now.show in
     let how = c.args.options.now.format in
     let flags_are : c.as_slice-allowed.result.now ≡ flags_of names system.notes = search rules in
+    let ordered : InOrder [] (schedule c.args.system c.args.options.now.horizon) = search rules in
     let system_is : arc_value c.in-Ok.system ≡ c.args.system = search rules in
     let own_is : c.deref-2.result.now ≡ c.args.system = search rules in
     let kept = c.in_ok-all.ensures.ok.kept ∙ ap (λ s. kept_of asked s horizon (past_of [] (schedule s horizon))) system_is
@@ -96,7 +99,7 @@ returns-in_err-write_text-clause-fault g c =
     let told = subst (λ flags. AppendsBefore (held c.args.target.now) (held c.find_rows-found.new.target) (rows_text system flags how asked (schedule system horizon)) c.in_ok-all.all.text.items) flags_are
     (subst (λ s. AppendsBefore (held c.args.target.now) (held c.find_rows-found.new.target) (rows_text s c.as_slice-allowed.result.now how asked (schedule s horizon)) c.in_ok-all.all.text.items) system_is c.in_ok-all.ensures.ok.text) in
     let longer = before-longer _ _ _ _ (rest_text how asked names system horizon (counts_of names system horizon)) told in
-    let all = subst (λ text. AppendsBefore (held c.args.target.now) (held c.find_rows-found.new.target) text c.put_rest.new.all.text.items) (text-is names system horizon how asked)
+    let all = subst (λ text. AppendsBefore (held c.args.target.now) (held c.find_rows-found.new.target) text c.put_rest.new.all.text.items) (text-is names system horizon ordered how asked)
     (subst (λ rest. AppendsBefore (held c.args.target.now) (held c.find_rows-found.new.target) (rows_text system (flags_of names system.notes) how asked (schedule system horizon) ++ rest_text how asked names system horizon (counts_of names system horizon)) rest) (sym rest_is) longer) in
     let prefix : OnErr c.write_text.result (AppendsPrefix (held c.find_rows-found.new.target) (held c.write_text.new.target) c.put_rest.new.all.text.items) =
     subst (λ text. OnErr c.write_text.result (AppendsPrefix (held c.find_rows-found.new.target) (held c.write_text.new.target) text)) c.as_slice-2.ensures.value c.write_text.ensures.prefix in
@@ -114,6 +117,7 @@ returns-clause-ok g c =
     let asked = c.args.options.now.show in
     let how = c.args.options.now.format in
     let flags_are : c.as_slice-allowed.result.now ≡ flags_of names system.notes = search rules in
+    let ordered : InOrder [] (schedule c.args.system c.args.options.now.horizon) = search rules in
     let system_is : arc_value c.in-Ok.system ≡ c.args.system = search rules in
     let own_is : c.deref-2.result.now ≡ c.args.system = search rules in
     let kept = c.in_ok-all.ensures.ok.kept ∙ ap (λ s. kept_of asked s horizon (past_of [] (schedule s horizon))) system_is
@@ -139,7 +143,7 @@ returns-clause-ok g c =
     let told = subst (λ flags. AppendsBefore (held c.args.target.now) (held c.find_rows-found.new.target) (rows_text system flags how asked (schedule system horizon)) c.in_ok-all.all.text.items) flags_are
     (subst (λ s. AppendsBefore (held c.args.target.now) (held c.find_rows-found.new.target) (rows_text s c.as_slice-allowed.result.now how asked (schedule s horizon)) c.in_ok-all.all.text.items) system_is c.in_ok-all.ensures.ok.text) in
     let longer = before-longer _ _ _ _ (rest_text how asked names system horizon (counts_of names system horizon)) told in
-    let all = subst (λ text. AppendsBefore (held c.args.target.now) (held c.find_rows-found.new.target) text c.put_rest.new.all.text.items) (text-is names system horizon how asked)
+    let all = subst (λ text. AppendsBefore (held c.args.target.now) (held c.find_rows-found.new.target) text c.put_rest.new.all.text.items) (text-is names system horizon ordered how asked)
     (subst (λ rest. AppendsBefore (held c.args.target.now) (held c.find_rows-found.new.target) (rows_text system (flags_of names system.notes) how asked (schedule system horizon) ++ rest_text how asked names system horizon (counts_of names system horizon)) rest) (sym rest_is) longer) in
     let rest : Appends (held c.find_rows-found.new.target) (held c.write_text.new.target) c.put_rest.new.all.text.items =
     subst (Appends (held c.find_rows-found.new.target) (held c.write_text.new.target)) c.as_slice-2.ensures.value c.in_ok-write_text.ensures.ok in
@@ -152,6 +156,7 @@ returns-clause-counted g c =
     let system = c.args.system in
     let horizon = c.args.options.now.horizon in
     let flags_are : c.as_slice-allowed.result.now ≡ flags_of names system.notes = search rules in
+    let ordered : InOrder [] (schedule c.args.system c.args.options.now.horizon) = search rules in
     let system_is : arc_value c.in-Ok.system ≡ c.args.system = search rules in
     let own_is : c.deref-2.result.now ≡ c.args.system = search rules in
     let in_time = subst (λ s. UpTo horizon (past_of [] (schedule s horizon))) system_is c.in_ok-all.ensures.ok.in_time in

@@ -1,4 +1,3 @@
-use Rattle.std.proofs.Common.{◌≡◌}
 use Rattle.mcs_check.proofs.seen.Seen.see.Goals as goal
 
 -- the tables of both are those of the figures
