@@ -45,7 +45,7 @@ WHY = 'mcs_check/src/why.rt'
 FOREVER = 'mcs_check_forever/src/run.rt'
 RUN = 'mcs_cli/src/streams.rt'
 WATCH = 'mcs_chain/src/watch.rt'
-TALLY = 'mcs_chain/src/tally.rt'
+TALLIES = 'mcs_chain/src/tallies.rt'
 
 
 def blamed(file: str, call: str) -> tuple[Clause, ...]:
@@ -110,15 +110,13 @@ ROOTS = (
     # (most clauses of a method have no name)
     Root('chains', (
         Clause(WATCH, 'Watch::new', '', ('watch_of',)),
-        Clause(WATCH, 'Watch::see', 'ok', ('watch_of',)),
-        Clause(WATCH, 'Watch::see', 'err', ()),
-        Clause(WATCH, 'Watch::answered', '', ('origins',)),
-        Clause(WATCH, 'Watch::unanswered', '', ('origins',)),
-        Clause(WATCH, 'Watch::slow', '', ('slow',)),
-        Clause(WATCH, 'Watch::unanswered_at', '', ('unanswered',)),
-        Clause(TALLY, 'Tally::new', '', ('tally_with',)),
-        Clause(TALLY, 'Tally::see', '', ('tally_of',)),
-        Clause(TALLY, 'Tally::figures', '', ('figures_of',)),
+        Clause(WATCH, 'Watch::see', '', ('watch_of',)),
+        Clause(WATCH, 'Watch::due', '', ('all_due',)),
+        Clause(WATCH, 'Watch::slow', '', ('all_slow_many',)),
+        Clause(WATCH, 'Watch::unanswered', '', ('all_unanswered',)),
+        Clause(TALLIES, 'Tallies::new', '', ('tallies_of',)),
+        Clause(TALLIES, 'Tallies::see', '', ('tallies_of',)),
+        Clause(TALLIES, 'Tallies::figures', '', ('all_figures',)),
     )),
     Root('check', (Clause(CHECK, 'check', 'check', ('IsCheck',)), *blamed(CHECK, 'check'))),
     Root('why', (Clause(WHY, 'explain', 'explained', ('IsExplained',)), *blamed(WHY, 'explain'))),

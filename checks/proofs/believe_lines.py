@@ -62,6 +62,8 @@ SAYS = {
         'tally_of': 'the tally of a chain after these rows',
         'Tally': 'what a tally keeps: the number of interrupts, and figures of the latencies',
         'figures_of': 'the figures of a chain after these rows',
+        'tallies_of': 'the tallies of all chains after these rows',
+        'all_figures': 'the figures of all chains, in the order of the file',
         'figures_with': 'the figures of a chain with this deadline, this number of interrupts and these latencies',
     },
     'mcs_chain/specs/Origins.antt': {
@@ -76,7 +78,12 @@ SAYS = {
         'moved': 'the sets after a row with this effect',
     },
     'mcs_chain/specs/Watch.antt': {
-        'Watch': 'what a watch of a chain keeps: how far each thread is, and the sets of origins',
+        'Watch': 'what a watch of all chains keeps: how far each thread is, and something of each chain',
+        'One': 'what is kept of a chain',
+        'due_of_one': 'the slow answers of a chain that are due',
+        'watch_of': 'what a watch keeps after these rows',
+        'slow_sum': 'the number of slow answers of a chain in these rows',
+        'slow_many': 'the same, at most 2^64 - 1',
     },
     'mcs_ticks/specs/Queue.antt': {
         'in_one_list': 'what the clock uses: one list in order of entering, whose best is the first of maximum priority',
@@ -347,7 +354,27 @@ SAYS = {
         'Text': 'bytes',
         'members_of': 'the members of a JSON object with these fields',
     },
+    'mcs_check/specs/Chains.antt': {
+        'chain_name': 'the name of the chain with this number',
+        'chain_words': 'the words of a finding of a chain, without its time and core',
+        'chain_kind': 'the word for a finding of a chain',
+        'latency_of': 'the latency of a slow answer',
+        'chain_deadline': 'the deadline that has passed',
+        'origin_of': 'the time of the interrupt',
+        'chain_found_line': 'the line of a finding of a chain',
+        'chain_found_lines': 'the lines of these findings of chains',
+        'chain_fields': "the fields of a chain's figures, with its name",
+        'chain_text': "the line of a chain's figures, in words",
+    },
+    'mcs_check/specs/Check.antt': {
+        'counts_of': 'the counts of threads and notifications, and those of chains',
+    },
+    'mcs_check/specs/Lines.antt': {
+        'chain_count_words': 'the words of the counts of chains, if the file has a chain',
+    },
     'mcs_check/specs/Fields.antt': {
+        'checked_fields': 'the fields of the counts, with those of chains',
+        'chain_count_fields': 'the fields of the counts of chains, if the file has a chain',
         'Fields': 'values, each with its name before it',
         'note_of': 'the notification of a lost signal',
         'word_of': 'the word that a lost signal left unchanged',
@@ -355,6 +382,7 @@ SAYS = {
         'deadline_of': 'the deadline that was missed, or that a thread without a job has',
     },
     'mcs_check/specs/Formats.antt': {
+        'head_text': 'the first line of CSV',
         'found_line': 'the line of a finding',
         'job_line': 'the line of a round that ended',
         'row_line': 'the line of a row of the schedule',
@@ -574,7 +602,6 @@ WORDS = {
         'None': 'no value',
         'not': 'the other of `true` and `false`',
         'Ok': 'the result of a call that succeeded',
-        'OnErr': '`OnErr result C`: if the call returns `Err`, `C` holds',
         'OnOk': '`OnOk result C`: if the call returns `Ok`, `C` holds',
         'Option': '`Some x` or `None`',
         'option_and_then': 'the result of this for the value, or `None`',
