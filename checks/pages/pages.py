@@ -53,7 +53,7 @@ CLEAN = 'nothing is ever found'
 FOREVER = ' --forever'
 # rows without a line of counts, which do not say how the verdict ends
 CSV = ' --format csv'
-COUNTS = re.compile(r'missed (\d+) overdue (\d+) lost (\d+) never (\d+) .*hints (\d+)')
+COUNTS = re.compile(r'missed (\d+) overdue (\d+) lost (\d+) never (\d+) .*hints (\d+)(?: slow (\d+) unanswered (\d+))?')
 # a block that ends with the status of any of its verdicts
 EXITS = 'exit $status'
 NONE_WILL_DO = re.compile(r'.*: under none of .*')
@@ -135,7 +135,8 @@ def plain(line: str) -> str:
 def is_found(line: str, block: str) -> bool:
     """Whether a line is the last one of a verdict that is not clean."""
     if counts := COUNTS.fullmatch(plain(line)):
-        return any(int(count) for count in counts.groups()[:None if '--strict' in block else -1])
+        missed, overdue, lost, never, hints, slow, unanswered = map(int, counts.groups(default='0'))
+        return any((missed, overdue, lost, never, slow, unanswered)) or ('--strict' in block and hints > 0)
     return NONE_WILL_DO.fullmatch(line) is not None
 
 

@@ -80,7 +80,8 @@ def example() -> Example:
     system = next(text for kind, text in blocks if kind == 'toml').encode()
     if system != SYSTEM.read_bytes():
         common.stop(f'{PAGE.name} shows another system than {SYSTEM.name}')
-    runs = [Shown(text.split()[2:], written.encode()) for (kind, text), (_, written) in zip(blocks, blocks[1:]) if kind == 'sh']
+    shown = [(text.split(), written.encode()) for (kind, text), (_, written) in zip(blocks, blocks[1:]) if kind == 'sh']
+    runs = [Shown(words[2:], written) for words, written in shown if words[:2] == ['./mcscheck', f'docs/{SYSTEM.name}']]
     asking = [run for run in runs if '--why' in run.words]
     return Example(system, [run for run in runs if run not in asking], asking[0])
 
