@@ -52,10 +52,7 @@ SETS = re.compile(r'sets (\d+) repeating (\d+) findings (\d+)')
 CLEAN = 'nothing is ever found'
 FOREVER = ' --forever'
 # what has no line of counts at its end, which says how the verdict ends
-WITHOUT_COUNTS = (' --format csv', ' --format pretty')
-# options that the launcher reads, and no program
-TYPED = (' --format pretty', ' --tick-us ')
-COUNTS = re.compile(r'missed (\d+) overdue (\d+) lost (\d+) never (\d+) .*hints (\d+)')
+WITHOUT_COUNTS = re.compile(r'missed (\d+) overdue (\d+) lost (\d+) never (\d+) .*hints (\d+)(?: slow (\d+) unanswered (\d+))?')
 # a block that ends with the status of any of its verdicts
 EXITS = 'exit $status'
 NONE_WILL_DO = re.compile(r'.*: under none of .*')
@@ -139,7 +136,8 @@ def plain(line: str) -> str:
 def is_found(line: str, block: str) -> bool:
     """Whether a line is the last one of a verdict that is not clean."""
     if counts := COUNTS.fullmatch(plain(line)):
-        return any(int(count) for count in counts.groups()[:None if '--strict' in block else -1])
+        missed, overdue, lost, never, hints, slow, unanswered = map(int, counts.groups(default='0'))
+        return any((missed, overdue, lost, never, slow, unanswered)) or ('--strict' in block and hints > 0)
     return NONE_WILL_DO.fullmatch(line) is not None
 
 

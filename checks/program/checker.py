@@ -81,8 +81,8 @@ def example() -> Example:
     if system != SYSTEM.read_bytes():
         common.stop(f'{PAGE.name} shows another system than {SYSTEM.name}')
     # options that the launcher reads are for pages.py
-    shown = [(text, written) for (kind, text), (_, written) in zip(blocks, blocks[1:]) if kind == 'sh' and not any(word in text for word in TYPED)]
-    runs = [Shown(text.split()[2:], written.encode()) for text, written in shown]
+    shown = [(text.split(), written.encode()) for (kind, text), (_, written) in zip(blocks, blocks[1:]) if kind == 'sh' and not any(word in text for word in TYPED)]
+    runs = [Shown(words[2:], written) for words, written in shown if words[:2] == ['./mcscheck', f'docs/{SYSTEM.name}']]
     asking = [run for run in runs if '--why' in run.words]
     return Example(system, [run for run in runs if run not in asking], asking[0])
 

@@ -177,6 +177,10 @@ class Rules(unittest.TestCase):
         ):
             self.assertEqual(pages.status_of(block, ['first', last]), status, (block, last))
         self.assertEqual(pages.status_of('./mcscheck one.toml || status=$?\nexit $status', [late, clean]), 5)
+        for counts, status in (('slow 0 unanswered 0', 0), ('slow 1 unanswered 0', 5), ('slow 0 unanswered 1', 5)):
+            self.assertEqual(pages.status_of('./mcscheck one.toml', [f'{hints} {counts}']), status, counts)
+        of_chains = '{"kind":"counts","missed":0,"overdue":0,"lost":0,"never":0,"merged":0,"allowed":0,"hints":0,"slow":0,"unanswered":1}'
+        self.assertEqual(pages.status_of('./mcscheck one.toml --format json', [of_chains]), 5)
 
     def test_a_block_ends_with_the_status_of_its_verdict_for_all_time(self) -> None:
         clean, last = 'nothing is ever found', 'sets {} repeating {} findings {}'
