@@ -1,9 +1,9 @@
 #!/usr/bin/env python3
 """Checks that mcscheck reports chains as a second, plain reading of the rows finds them, byte for byte, on 200 random systems of version 3.
 
-First come three systems whose lines are worked by hand. Then each random system with a chain is run up to two horizons: findings, the table and both of
-them, as text, CSV and JSON, with --strict and several workers or without, and the exit code. The percentiles of latencies follow the rule of those of
-responses. What was seen nowhere is a failure: a test that sees nothing of it tells nothing."""
+First come three systems whose lines are worked by hand. Then each random system with a chain is tried: findings, the table and both of them, as text, CSV
+and JSON, with --strict and several workers or without, and the exit code. It is tried again with a deadline that an answer just meets or just misses, up to
+the end of this answer or about the time at which an interrupt had to be answered. The percentiles of latencies follow the rule of those of responses. What was seen nowhere is a failure: a test that sees nothing of it tells nothing."""
 from __future__ import annotations
 
 import collections
@@ -23,13 +23,14 @@ from checks.program import reading, verdicts, ways
 from checks.program.chain_reading import ChainReading
 from checks.program.chained import Chained, figures
 from checks.program.verdicts import System, answer, parted
+from checks.random_systems import text_of
 
-HORIZONS = (0, 1, 30, 60, 200, 400, 400, 1000)
+HORIZONS = (0, 1, 60, 200, 400, 1000, 1000)
 FORMS = tuple(itertools.product(('findings', 'table', 'both'), ('text', 'csv', 'json')))
 SEEN = (
     'slow', 'unanswered', 'slow of two chains at one time', 'a row and an answer at one time', 'slow at the horizon', 'unanswered behind others', 'found of chains alone',
     'two slow answers of one job', 'a slow answer and another of one job', 'no answer', 'no deadline', 'margin above 0', 'margin 0', 'margin below 0', 'a percentile below the greatest',
-    'a percentile at the end of its bucket', 'without a chain', 'status 0', 'status 2', 'status 5',
+    'a percentile at the end of its bucket', 'status 0', 'status 2', 'status 5',
 )
 # how the lines of threads and contexts begin
 OF_OTHERS = ('thread ', 'context ', '{"kind":"thread"', '{"kind":"context"')
@@ -132,14 +133,19 @@ class Trial(verdicts.Trial):
         lines = [line for line in ran.stdout.decode().splitlines(keepends=True) if not line.startswith(OF_OTHERS)]
         self.count.expect(f'--horizon {known.horizon} {known.words}: {ran}', (ran.status, ''.join(lines), ran.stderr) == (known.status, known.wanted, b''))
 
-    def looks(self, system: System, rng: random.Random) -> None:
-        """Tries a system in all ways that say something of its chains."""
+    def read(self, system: System) -> Chained | None:
+        """The second reading of a system, if it has a chain and is not refused."""
         simulated = common.run([self.simulator, '--horizon', str(system.horizon), '--show', 'both'], system.text.encode())
         tables = tomllib.loads(system.text)
-        self.seen['without a chain'] += not tables.get('chain')
         if simulated.status or not tables.get('chain'):
-            return
-        found = Chained(tables, parted(simulated.stdout.decode())[0], system.horizon)
+            return None
+        return Chained(tables, parted(simulated.stdout.decode())[0], system.horizon)
+
+    def looks(self, system: System, rng: random.Random) -> Chained | None:
+        """Tries a system in all ways that say something of its chains."""
+        found = self.read(system)
+        if found is None:
+            return None
         self.seen.update(shown(found))
         for show, form in FORMS:
             is_strict = rng.random() < 0.3
@@ -149,6 +155,24 @@ class Trial(verdicts.Trial):
                 self.wants(system, words, Ran(2, b'', reading.MIXED.encode()))
             else:
                 self.wants(system, words, answer(found.wanted((), show, form), is_strict))
+        return found
+
+
+def edged(system: System, found: Chained, rng: random.Random) -> System:
+    """The system with a chain whose deadline is one of its latencies, or one less, up to the end of this latency or about the time at which an interrupt
+    is a deadline old."""
+    tables = tomllib.loads(system.text)
+    answered = [(part, chain) for part, chain in zip(tables['chain'], found.chains) if chain.answers]
+    part, chain = rng.choice(answered or list(zip(tables['chain'], found.chains)))
+    horizon = system.horizon
+    if chain.answers:
+        answer = max(chain.answers, key=lambda answer: answer.latency) if rng.random() < 0.7 else rng.choice(chain.answers)
+        part['deadline'], horizon = max(1, answer.latency - rng.choice([0, 1])), rng.choice([horizon, answer.moment])
+    elif chain.interrupts:
+        part['deadline'] = part.get('deadline') or rng.randint(1, 30)
+    if chain.unanswered and rng.random() < 0.5:
+        horizon = chain.unanswered[0] + part['deadline'] - rng.choice([0, 0, 1])
+    return System(f'{system.name}-edged', text_of(tables), horizon)
 
 
 def shown(found: Chained) -> Iterator[str]:
@@ -206,9 +230,9 @@ def main() -> None:
         trial.worked(known)
     for number in range(words.systems):
         rng = random.Random(f'latencies {words.seed} {number}')
-        text = ways.with_chains(rng)
-        for horizon in rng.sample(HORIZONS, 2):
-            trial.looks(System(f'{words.seed}-{number}', text, horizon), rng)
+        system = System(f'{words.seed}-{number}', ways.with_chains(rng), rng.choice(HORIZONS))
+        if found := trial.looks(system, rng):
+            trial.looks(edged(system, found, rng), rng)
     trial.count.expect_all(trial.seen, SEEN)
     trial.count.end()
 
