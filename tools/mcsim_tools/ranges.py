@@ -385,6 +385,6 @@ class Space:
 def known_thread(name: str, tables: Tables) -> None:
     names = [row['name'] for row in tables.get('thread', [])]
     if name not in names and name in [row['name'] for row in tables.get('chain', [])]:
-        raise Fault(f'--of {name}: a chain: mcscheck does not report latencies, so only threads are searched')
+        raise Fault(f'--of {name}: a chain: only the responses of threads are searched')
     if name not in names:
         raise Fault(f'--of {name}: there is no thread {name!r}: {named.known(name, names)}')

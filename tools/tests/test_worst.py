@@ -143,7 +143,7 @@ class Faults(Case):
 
     def test_a_chain(self) -> None:
         self.file.write_text(SYSTEM + 'chain = [{ name = "e", source = "s", thread = "B" }]\n')
-        self.expect('--of e: a chain: mcscheck does not report latencies, so only threads are searched', '--of', 'e', '--phases')
+        self.expect('--of e: a chain: only the responses of threads are searched', '--of', 'e', '--phases')
 
     def test_too_many_for_all(self) -> None:
         self.expect('--all: 100,000,000 combinations, of at most 1,000,000', '--vary', 'source.s.start=1..10000', '--vary', 'source.r.start=1..10000', '--all')
