@@ -24,9 +24,9 @@ ROWS = '''0 0 release L
 2 0 run L
 12 0 interrupt s n 1
 12 0 hold n 1
+22 0 round L 1 20
 22 0 interrupt s n 1
 22 0 hold n 1
-22 0 round L 1 20
 23 0 got L n 1
 32 0 interrupt s n 1
 32 0 hold n 1
@@ -39,8 +39,8 @@ ROWS = '''0 0 release L
 '''
 # what TWO_CORES shows up to 22 of D, C and Z
 TWO_CORES_ROWS = '''0 0 release D
-0 0 run D
 0 0 release Z
+0 0 run D
 0 1 release C
 0 1 run C
 1 0 stop D wait 1
