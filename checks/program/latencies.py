@@ -166,8 +166,8 @@ def edged(system: System, found: Chained, rng: random.Random) -> System:
     part, chain = rng.choice(answered or list(zip(tables['chain'], found.chains)))
     horizon = system.horizon
     if chain.answers:
-        answer = max(chain.answers, key=lambda answer: answer.latency) if rng.random() < 0.7 else rng.choice(chain.answers)
-        part['deadline'], horizon = max(1, answer.latency - rng.choice([0, 1])), rng.choice([horizon, answer.moment])
+        one = max(chain.answers, key=lambda each: each.latency) if rng.random() < 0.7 else rng.choice(chain.answers)
+        part['deadline'], horizon = max(1, one.latency - rng.choice([0, 1])), rng.choice([horizon, one.moment])
     elif chain.interrupts:
         part['deadline'] = part.get('deadline') or rng.randint(1, 30)
     if chain.unanswered and rng.random() < 0.5:
@@ -189,7 +189,7 @@ def shown(found: Chained) -> Iterator[str]:
     if lines and all(words[2] in reading.OF_CHAINS for words in lines):
         yield 'found of chains alone'
     for chain in found.chains:
-        latencies = sorted(answer.latency for answer in chain.answers)
+        latencies = sorted(one.latency for one in chain.answers)
         yield from shown_by_figures(figures(chain), latencies)
         yield from shown_by_jobs(chain)
 
@@ -197,8 +197,8 @@ def shown(found: Chained) -> Iterator[str]:
 def shown_by_jobs(chain: ChainReading) -> Iterator[str]:
     """What jobs show that answer several interrupts."""
     jobs: dict[tuple[int, int], list[bool]] = collections.defaultdict(list)
-    for answer in chain.answers:
-        jobs[answer.moment, answer.number].append(0 < chain.chain.get('deadline', 0) < answer.latency)
+    for one in chain.answers:
+        jobs[one.moment, one.number].append(0 < chain.chain.get('deadline', 0) < one.latency)
     for are_slow in jobs.values():
         if sum(are_slow) > 1:
             yield 'two slow answers of one job'

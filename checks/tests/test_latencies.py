@@ -99,8 +99,8 @@ class Readings(unittest.TestCase):
         self.assertEqual([line.split(',')[0] for line in loop().wanted(show='table', form='csv').text.splitlines()], ['kind', 'thread'])
 
     def test_an_exit_code_for_chains_alone(self) -> None:
-        counts = {**dict.fromkeys(reading.KINDS, 0), 'slow': 0, 'unanswered': 0}
-        statuses = [reading.Wanted('', {**counts, **more}).status() for more in ({}, {'slow': 1}, {'unanswered': 1})]
+        counts = [{**dict.fromkeys(reading.KINDS, 0), 'slow': slow, 'unanswered': unanswered} for slow, unanswered in ((0, 0), (1, 0), (0, 1))]
+        statuses = [reading.Wanted('', each).status() for each in counts]
         self.assertEqual(statuses, [0, 5, 5])
 
     def test_an_interrupt_of_the_deadlines_age_is_unanswered(self) -> None:
