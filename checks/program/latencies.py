@@ -3,7 +3,9 @@
 
 First come three systems whose lines are worked by hand. Then each random system with a chain is tried: findings, the table and both of them, as text, CSV
 and JSON, with --strict and several workers or without, and the exit code. It is tried again with a deadline that an answer just meets or just misses, up to
-the end of this answer or about the time at which an interrupt had to be answered. The percentiles of latencies follow the rule of those of responses. What was seen nowhere is a failure: a test that sees nothing of it tells nothing."""
+the end of this answer or about the time at which an interrupt had to be answered. The percentiles of latencies follow the rule of those of responses.
+
+What was seen nowhere is a failure: a test that sees nothing of it tells nothing."""
 from __future__ import annotations
 
 import collections
@@ -28,9 +30,9 @@ from checks.random_systems import text_of
 HORIZONS = (0, 1, 60, 200, 400, 1000, 1000)
 FORMS = tuple(itertools.product(('findings', 'table', 'both'), ('text', 'csv', 'json')))
 SEEN = (
-    'slow', 'unanswered', 'slow of two chains at one time', 'a row and an answer at one time', 'slow at the horizon', 'unanswered behind others', 'found of chains alone',
-    'two slow answers of one job', 'a slow answer and another of one job', 'no answer', 'no deadline', 'margin above 0', 'margin 0', 'margin below 0', 'a percentile below the greatest',
-    'a percentile at the end of its bucket', 'status 0', 'status 2', 'status 5',
+    'slow', 'unanswered', 'slow of two chains at one time', 'a row and an answer at one time', 'slow at the horizon', 'unanswered behind others',
+    'found of chains alone', 'two slow answers of one job', 'a slow answer and another of one job', 'no answer', 'no deadline', 'margin above 0', 'margin 0',
+    'margin below 0', 'a percentile below the greatest', 'a percentile at the end of its bucket', 'status 0', 'status 2', 'status 5',
 )
 # how the lines of threads and contexts begin
 OF_OTHERS = ('thread ', 'context ', '{"kind":"thread"', '{"kind":"context"')

@@ -2,7 +2,7 @@
 
 An interrupt of a chain's source is an *origin*. A post carries origins to the bits of a notification or of the thread that it wakes; a thread takes over
 what a notification holds, and each of its signals carries what the thread has at the bits of the signal's handler. A round of the chain's thread answers
-the origins that the thread has; then the thread has none. These numbers are the tool's own: mcscheck reports nothing of chains yet.
+the origins that the thread has; then the thread has none. The numbers are those of mcscheck, which tells no ways: so they are read off the rows here too.
 
 Origins of a source are numbered from 0, and are kept as stretches of numbers. An origin that all chains of its source have answered may be dropped."""
 from __future__ import annotations

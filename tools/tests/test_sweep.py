@@ -388,9 +388,9 @@ class Searches(Case):
         left = [MISS, CHAINED[2], f'{COUNTS} slow 0 unanswered 1']
         for budget, lines in ((1, [*CHAINED, f'{COUNTS} slow 2 unanswered 1']), (2, left), (3, [MISS, clean]), (4, [clean])):
             (self.programs / f'{budget}.out').write_text(''.join(f'{line}\n' for line in lines))
-        for names, wanted in ((['e'], '2: the least of 1 to 4 under which nothing of e is found'), (['A'], '4: the least of 1 to 4 under which nothing of A is found')):
-            told = self.ran(self.file, '--least', 'context.a.budget=1:4', '--of', *names, '--jobs', 1)
-            self.assertEqual((told.status, told.stdout), (0, f'context.a.budget {wanted}\n'))
+        for name, least in (('e', 2), ('A', 4)):
+            told = self.ran(self.file, '--least', 'context.a.budget=1:4', '--of', name, '--jobs', 1)
+            self.assertEqual((told.status, told.stdout), (0, f'context.a.budget {least}: the least of 1 to 4 under which nothing of {name} is found\n'))
 
     def test_each_value_is_tried_from_above(self) -> None:
         told = self.ran(self.file, '--greatest', 'context.a.budget=1:6', '--jobs', 1)
