@@ -67,6 +67,7 @@ CHECKS = (
     Check('program', 'rules', 10),
     Check('program', 'readers', 5),
     Check('program', 'ways', 10),
+    Check('program', 'latencies', 30),
     Check('program', 'analyses', 20),
     Check('program', 'worst', 45),
     Check('program', 'compare', 30),

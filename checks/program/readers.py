@@ -3,8 +3,9 @@
 
 One pass over rows (tools/mcsim_tools/reading.py) is behind pictures, traces, waves and sweeps. Its rounds that missed their deadline, those that are overdue,
 threads that were never activated, lost and merged signals, and how many ticks each thread stood in each way are those that `mcscheck --show both` tells. Of
-a thread that was woken and not chosen up to the horizon the tools know whether it is ready or throttled, by its budget, and mcscheck does not. A kind of
-finding that was seen nowhere is a failure: a test that sees nothing of it tells nothing."""
+a thread that was woken and not chosen up to the horizon the tools know whether it is ready or throttled, by its budget, and mcscheck does not. Of chains the
+slow answers, those that are unanswered and the figures are the same too; a third of the systems are made for them. A kind of finding that was seen nowhere
+is a failure: a test that sees nothing of it tells nothing."""
 from __future__ import annotations
 
 import collections
@@ -19,24 +20,29 @@ sys.dont_write_bytecode = True
 sys.path[0] = str(pathlib.Path(__file__).resolve().parents[2])
 from checks import common
 from checks.common import TOP, Count
-from checks.program import verdicts
+from checks.program import verdicts, ways
 from checks.random_systems import text_of
 
 sys.path.insert(1, str(TOP / 'tools'))
 from mcsim_tools import system as systems
+from mcsim_tools.chains import Answer, Chains
 from mcsim_tools.reading import LOST, MERGED, STANDINGS, Listener, Post, Reading, Round, Stood
 from mcsim_tools.system import System, Thread
 
 # of a line of a finding how many words are compared: those behind them are sums of standings
-COMPARED = {'miss': 10, 'overdue': 8, 'never': 6, 'lost': 4}
+COMPARED = {'miss': 10, 'overdue': 8, 'never': 6, 'lost': 4, 'slow': 9, 'unanswered': 8}
+# of the line of a chain's figures how many words are compared: the tools have no percentiles
+FIGURES = 12
 # what mcscheck tells apart, and the tools do not
 UNSETTLED = ('ready', 'throttled', 'woken')
 HORIZONS = (0, 10, 60, 60, 200, 400)
-SEEN = (*COMPARED, 'merged', 'woken', 'blocked', 'version 2', 'version 3')
+SEEN = (*COMPARED, 'figures of a chain', 'merged', 'woken', 'blocked', 'version 2', 'version 3')
 
 
 class Found(Listener):
     """What the tools find, as the lines of mcscheck."""
+
+    hears_chains = True
 
     def __init__(self, system: System, horizon: int) -> None:
         self.system, self.horizon = system, horizon
@@ -66,6 +72,22 @@ class Found(Listener):
             self.lines[f'{post.arrived} {self.system.home_of[post.note]} lost {post.note}'] += 1
         self.merged += post.outcome == MERGED
 
+    def answered(self, answer: Answer) -> None:
+        chain = answer.chain
+        if answer.is_first and answer.is_slow:
+            core = self.system.threads[chain.thread].core
+            self.lines[f'{answer.moment} {core} slow {chain.name} {answer.latency} deadline {chain.deadline} origin {answer.origin}'] += 1
+
+    def at_end(self, chains: Chains) -> None:
+        """What the tools find of chains at the horizon, and their figures."""
+        for name, figures in chains.figures.items():
+            chain, moments = figures.chain, chains.sources.moments[figures.chain.source]
+            if (origin := figures.unanswered(moments, self.horizon)) is not None:
+                core = self.system.threads[chain.thread].core
+                self.lines[f'{self.horizon} {core} unanswered {name} deadline {chain.deadline} origin {origin}'] += 1
+            least, greatest = (figures.least, figures.greatest) if figures.answered else ('-', '-')
+            self.lines[f'chain {name} interrupts {len(moments)} answers {figures.answered} least {least} greatest {greatest} total {figures.total}'] += 1
+
 
 class Told:
     """What mcscheck tells of a system."""
@@ -77,6 +99,8 @@ class Told:
         for words in map(str.split, text.splitlines()):
             if words[0].isdigit():
                 self.lines[' '.join(words[:COMPARED[words[2]]])] += 1
+            elif words[0] == 'chain':
+                self.lines[' '.join(words[:FIGURES])] += 1
             elif words[0] == 'thread':
                 values = dict(zip(words[::2], words[1::2]))
                 self.ticks[values['thread']] = {standing: int(values[f'ticks_{standing}']) for standing in (*STANDINGS, 'woken')}
@@ -114,7 +138,10 @@ class Trial:
         tables = tomllib.loads(text)
         system = systems.system_of(tables)
         found, told = Found(system, horizon), Told(ran.stdout.decode())
-        Reading(system, found).read(rows.stdout.decode().splitlines(), horizon)
+        reader = Reading(system, found)
+        reader.read(rows.stdout.decode().splitlines(), horizon)
+        if reader.chains:
+            found.at_end(reader.chains)
         wrong = list(differing(found, told))
         if wrong:
             file = pathlib.Path(tempfile.gettempdir(), f'readers-{name}.toml')
@@ -123,7 +150,7 @@ class Trial:
         self.count.expect(f'{name} --horizon {horizon}: {wrong}', not wrong)
         self.seen[f'version {tables["version"]}'] += 1
         self.seen['merged'] += told.merged
-        self.seen.update(line.split()[2] for line in told.lines.elements())
+        self.seen.update('figures of a chain' if line.startswith('chain ') else line.split()[2] for line in told.lines.elements())
         self.seen.update(standing for ticks in told.ticks.values() for standing in ('woken', 'blocked') if ticks[standing])
 
 
@@ -133,7 +160,8 @@ def main() -> None:
     trial = Trial(simulator, common.beside(simulator, 'mcscheck'))
     for number in range(words.systems):
         rng = random.Random(f'readers {words.seed} {number}')
-        trial.look(f'{words.seed}-{number}', text_of(verdicts.tables_of(rng)), rng.choice(HORIZONS))
+        text = ways.with_chains(rng) if number % 3 == 0 else text_of(verdicts.tables_of(rng))
+        trial.look(f'{words.seed}-{number}', text, rng.choice(HORIZONS))
     trial.count.expect_all(trial.seen, SEEN)
     trial.count.end()
 

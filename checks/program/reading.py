@@ -10,7 +10,7 @@ import csv
 import functools
 import io
 import json
-from collections.abc import Callable, Iterator, Sequence
+from collections.abc import Callable, Iterable, Iterator, Sequence
 from fractions import Fraction
 from typing import Any, NamedTuple, Optional
 
@@ -25,9 +25,16 @@ OF_THREADS = (*TELLING, 'got', 'round', 'enter', 'leave')
 PARTS = ('ready', 'running', 'throttled', 'blocked', 'woken')
 STANDINGS = ('pending', *PARTS, 'done')
 KINDS = ('missed', 'overdue', 'lost', 'never', 'merged', 'allowed', 'hints')
-FOUND = KINDS[:4]
+# what is counted of chains, in a file that has one
+OF_CHAINS = ('slow', 'unanswered')
+FOUND = (*KINDS[:4], *OF_CHAINS)
 # the words of a line before those that have their name before them
-FIRST = {'miss': ('thread', 'number', 'response'), 'overdue': ('thread',), 'lost': ('note', 'word'), 'never': ('thread',), 'job': ('thread', 'number')}
+FIRST = {
+    'miss': ('thread', 'number', 'response'), 'overdue': ('thread',), 'lost': ('note', 'word'), 'never': ('thread',), 'job': ('thread', 'number'),
+    'slow': ('chain', 'latency'), 'unanswered': ('chain',),
+}
+# the values that are names
+NAMES = ('thread', 'note', 'chain')
 COLUMNS = {
     'findings': ('moment', 'core', 'kind', 'thread', 'note', 'word', 'number', 'response', 'deadline', 'activated', 'queued', *PARTS),
     'jobs': ('moment', 'core', 'kind', 'thread', 'number', 'activated', 'begun', 'response', 'queued', 'preemptions', *PARTS),
@@ -214,11 +221,14 @@ class Wanted(NamedTuple):
     counts: dict[str, int]
 
     def status(self, is_strict: bool = False) -> int:
-        return 5 if any(self.counts[kind] for kind in FOUND) or is_strict and self.counts['hints'] else 0
+        return 5 if any(self.counts.get(kind) for kind in FOUND) or is_strict and self.counts['hints'] else 0
 
 
 class Reading:
     """A system and the rows of its schedule up to a horizon."""
+
+    # what is counted
+    kinds: Sequence[str] = KINDS
 
     def __init__(self, tables: Tables, text: str, horizon: int) -> None:
         self.contexts = {context['name']: context for context in tables.get('context', [])}
@@ -401,7 +411,7 @@ class Reading:
 
     def wanted(self, allowed: Sequence[str] = (), show: str = 'findings', form: str = 'text') -> Wanted:
         """What is written of all this, where these notifications may lose signals: findings and hints, jobs, or figures, and what is counted."""
-        counts, lines, hints = dict.fromkeys(KINDS, 0), [], list(self.hints())
+        counts, lines, hints = dict.fromkeys(self.kinds, 0), [], list(self.hints())
         for kind, line in self.all_found:
             if kind == 'lost' and line.split()[3] in allowed:
                 kind, line = 'allowed', ''
@@ -412,13 +422,17 @@ class Reading:
         figures = self.table() if show in ('table', 'both') else []
         if form == 'csv':
             rows = [*map(values_of, shown), *(values for values in figures if values['kind'] == 'thread')]
-            return Wanted(rows_text(COLUMNS[show], rows), counts)
+            return Wanted(self.rows_text(show, rows), counts)
         if form == 'json':
             known = ({name: value for name, value in values.items() if value is not None} for values in figures)
             objects = [*map(values_of, shown), *map(values_of_hint, hinted), *known, {'kind': 'counts', **counts}]
             return Wanted(''.join(json.dumps(each, separators=(',', ':')) + '\n' for each in objects), counts)
         told = [*shown, *hinted, *map(line_of, figures), ' '.join(f'{kind} {many}' for kind, many in counts.items())]
         return Wanted(''.join(f'{line}\n' for line in told), counts)
+
+    def rows_text(self, show: str, rows: Sequence[Values]) -> str:
+        """Values of lines as CSV."""
+        return csv_text(COLUMNS[show], ([values.get(name) for name in COLUMNS[show]] for values in rows))
 
 
 def percentile(responses: Sequence[int], percent: int) -> Optional[int]:
@@ -440,7 +454,7 @@ def values_of(line: str) -> dict[str, int | str]:
     moment, core, kind, *words = line.split()
     first = FIRST[kind]
     pairs = [*zip(first, words), *zip(words[len(first)::2], words[len(first) + 1::2])]
-    numbers: dict[str, int | str] = {name: int(word) if name not in ('thread', 'note') else word for name, word in pairs}
+    numbers: dict[str, int | str] = {name: word if name in NAMES else int(word) for name, word in pairs}
     return {'moment': int(moment), 'core': int(core), 'kind': kind, **numbers}
 
 
@@ -450,12 +464,10 @@ def values_of_hint(line: str) -> dict[str, int | str]:
     return {'kind': 'hint', 'hint': HINTS[what], **values}
 
 
-def rows_text(columns: Sequence[str], rows: Sequence[Values]) -> str:
-    """These values as rows of CSV."""
+def csv_text(columns: Sequence[str], rows: Iterable[Sequence[object]]) -> str:
+    """Rows of CSV below their columns."""
     text = io.StringIO()
-    writer = csv.DictWriter(text, columns, lineterminator='\n')
-    writer.writeheader()
-    writer.writerows(rows)
+    csv.writer(text, lineterminator='\n').writerows([columns, *rows])
     return text.getvalue()
 
 

@@ -22,7 +22,7 @@ sys.dont_write_bytecode = True
 sys.path[0] = str(pathlib.Path(__file__).resolve().parents[2])
 from checks import common
 from checks.common import DATA, TOP, Count, Ran
-from checks.program import answers, reading
+from checks.program import answers, chained, reading
 from checks.program.reading import Reading, Tables, Wanted
 from checks.random_systems import NEW, system_of, text_of, with_version_3
 
@@ -140,7 +140,7 @@ class Trial:
             self.wants(system, [], simulated._replace(stderr=simulated.stderr.replace(b'mcsim: ', b'mcscheck: ', 1)))
             return
         rows, reports = parted(simulated.stdout.decode())
-        found = Reading(tomllib.loads(system.text), rows, system.horizon)
+        found = chained.reading_of(tomllib.loads(system.text), rows, system.horizon)
         wrong = list(broken(found, reports))
         self.count.expect(f'{system.kept(wrong)}: {wrong}', not wrong)
         plain = found.wanted()
@@ -207,6 +207,8 @@ class Trial:
         for values in found.table():
             if values['kind'] == 'context':
                 self.seen['unused is not known' if values['unused'] is None else 'unused'] += 1
+                continue
+            if values['kind'] == 'chain':
                 continue
             margin, greatest = values['margin'], values['greatest']
             sign = 'no margin' if margin is None else f'margin {"above 0" if margin > 0 else "below 0" if margin else "0"}'

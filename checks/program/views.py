@@ -68,6 +68,13 @@ STANDINGS = ('pending', 'ready', 'running', 'throttled', 'blocked', 'done')
 KINDS = ('miss', 'overdue', 'lost', 'never')
 TABLE = """Object.fromEntries(view.schedule.threads.map(thread =>
   [thread.name, { ...thread, ...Object.fromEntries(view.schedule.standings.map((standing, place) => [standing, thread.stood[place]])) }]))"""
+# slow answers that a page lists at most
+LISTED_SLOW = 2_000
+# of a chain what a page and mcscheck say
+FIGURES = ('chain', 'interrupts', 'answers', 'least', 'greatest', 'total', 'deadline')
+CHAINS = """view.schedule.chains.map(chain =>
+  [chain.name, chain.interrupts, chain.answered, chain.least, chain.greatest, chain.total, chain.deadline || null, chain.unanswered])"""
+SLOW = 'view.schedule.slow.map(([chain, origin, end]) => [view.schedule.chains[chain].name, origin, end])'
 DRAWN = 'new Promise(done => requestAnimationFrame(() => requestAnimationFrame(done)))'
 PLACE = "[view.lo, view.hi].join()"
 A_BAR = """(() => {
@@ -328,6 +335,19 @@ def told(page: Browser, checker: pathlib.Path, system: pathlib.Path, horizon: in
             said.append(f'the table has {shown} of {name}, and mcscheck {wanted}')
     if sorted(page.value('findings.list.map(one => [one.kind, one.end, one.name])')) != sorted(findings):
         said.append('the findings are not those of mcscheck')
+    return said + told_of_chains(page, lines)
+
+
+def told_of_chains(page: Browser, lines: Sequence[dict[str, Any]]) -> list[str]:
+    """How the chains of a page differ from what mcscheck says of them."""
+    left = {line['chain']: line['origin'] for line in lines if line['kind'] == 'unanswered'}
+    wanted = [[*map(line.get, FIGURES), left.get(line['chain'])] for line in lines if line['kind'] == 'chain']
+    slow = sorted([line['chain'], line['origin'], line['moment']] for line in lines if line['kind'] == 'slow')
+    said = []
+    if (shown := page.value(CHAINS)) != wanted:
+        said.append(f'the page has the chains {shown}, and mcscheck {wanted}')
+    if len(slow) < LISTED_SLOW and sorted(page.value(SLOW)) != slow:
+        said.append('the slow answers are not those of mcscheck')
     return said
 
 

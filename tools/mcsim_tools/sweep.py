@@ -1,6 +1,6 @@
 """sweep SYSTEM --set PLACE=VALUES .. --horizon N [--jobs N] [-o FILE.csv]
-sweep SYSTEM --least PLACE=A:B --horizon N [--of THREAD ..]
-sweep SYSTEM --greatest PLACE=A:B --horizon N [--of THREAD ..]
+sweep SYSTEM --least PLACE=A:B --horizon N [--of NAME ..]
+sweep SYSTEM --greatest PLACE=A:B --horizon N [--of NAME ..]
 sweep SYSTEM --set PLACE=VALUES .. --horizon N --emit DIR; sweep --run FILE ..; sweep --collect DIR
 
 Runs a system with each combination of settings, and writes one CSV: the settings, the exit code of mcscheck and its fault, what was missed, lost,
@@ -9,8 +9,8 @@ a line with the exit code 1 and the fault. A run that fails in another way ends 
 
 A PLACE is context.NAME.KEY, thread.NAME.KEY, note.NAME.KEY, thread.NAME.script.K (the number of item K, from 1), order.K.KEY (the K-th order),
 link.MAKER-HOME.delay, or delay, call or min_budget, and in version 3 server.NAME.KEY, server.NAME.script.K, source.NAME.KEY, source.NAME.at.K (number K of its list) and chain.NAME.KEY. VALUES are
-A:B:STEP with B in it, A:B, or a list with commas. --of looks at the findings of these threads alone, at signals lost where they wait, and at chains that
-end with them. A sweep with -o that was interrupted goes on where it was, by the same words and the same programs:
+A:B:STEP with B in it, A:B, or a list with commas. --of looks at these threads and chains alone: at the findings of a thread, at signals lost where it
+waits and at chains that end with it, and at what is slow or unanswered of a chain. If both have a name, it means both. A sweep with -o that was interrupted goes on where it was, by the same words and the same programs:
 what is done stands in FILE.csv.part.
 
 --least tells the least value of a range under which nothing is found, and --greatest the greatest. Each value is tried, from that end on, since more is
@@ -97,7 +97,7 @@ def asked() -> argparse.Namespace:
     words.add_argument('--set', action='append', default=[], metavar='PLACE=VALUES', help='what is set to which values; may be given several times')
     words.add_argument('--least', metavar='PLACE=A:B', help='tells the least value under which nothing is found')
     words.add_argument('--greatest', metavar='PLACE=A:B', help='tells the greatest value under which nothing is found')
-    words.add_argument('--of', nargs='+', default=[], metavar='THREAD', help='looks at the findings of these threads alone')
+    words.add_argument('--of', nargs='+', default=[], metavar='NAME', help='looks at the findings of these threads and chains alone')
     words.add_argument('-n', '--horizon', type=source.moment, default=source.HORIZON, metavar='N', help='the last moment of each run (default: %(default)s)')
     jobs = options.number(f'no number of jobs, of 1 to {workers.MOST_JOBS}', 1, workers.MOST_JOBS)
     words.add_argument('--jobs', type=jobs, default=workers.processors(), metavar='N', help='how many runs at once (default: all processors, here %(default)s)')

@@ -17,6 +17,7 @@ from typing import Any
 from . import settings, system, workers, writing
 from .faults import Fault
 from .settings import Value
+from .system import System
 from .verdict import Programs, Result, check_names, kinds_of
 
 MOST = 10**6
@@ -56,10 +57,18 @@ class Sweep:
         twice = next((text for text in self.places if self.places.count(text) > 1), None)
         if twice:
             raise Fault(f'{twice}: it is set twice')
+        self.check_deadlines(known)
         self.count = math.prod(len(values) for _, values in self.settings)
         if self.count > MOST:
             raise Fault(f'{self.count} combinations, of at most {MOST}')
         self.columns = columns(self.places, kinds_of(known), [name for name, thread in known.threads.items() if thread.deadline])
+
+    def check_deadlines(self, known: System) -> None:
+        """Refuses a chain without a deadline, of which nothing is ever found."""
+        for name in self.of:
+            place = f'chain.{name}.deadline'
+            if name not in known.threads and not known.chains[name].deadline and place not in self.places:
+                raise Fault(f'--of {name}: the chain has no deadline, so nothing is found of it: set {place}')
 
     def head(self, programs: Programs) -> dict[str, Any]:
         """What a journal of this sweep begins with."""

@@ -143,12 +143,15 @@ class Programs:
         return listener.of
 
     def result(self, text: bytes, horizon: int, of: Sequence[str], wants_responses: bool = True) -> Result:
-        """What is found, of all or of some threads."""
+        """What is found, of all or of some threads and chains."""
         status, lines, said = self.check(text, horizon)
         if status == REFUSED:
             return Result(status, printable(first_line(said).removeprefix('mcscheck: '), LONGEST_FAULT))
         system = systems.system_of(tables.read(text))
         counts = counted(lines, system, of)
+        unread = next((name for name in of if name not in system.threads), None)
+        if unread is not None and not all(kind in counts for kind in OF_CHAINS):
+            raise Fault(f'--of {unread}: {self.checker} reports nothing of chains: take a later one')
         greatest = self.greatest(text, system, horizon) if wants_responses else {}
         return Result(FOUND if any(counts.values()) else NOTHING, '', counts, greatest)
 
@@ -159,10 +162,11 @@ def kinds_of(system: System) -> tuple[str, ...]:
 
 
 def counted(lines: Sequence[str], system: System, of: Collection[str]) -> dict[str, int]:
-    """How much was found of each kind; of threads where some are given, with the signals that were lost at notifications for which they wait, and the
-    chains that end with them."""
-    notes = {note for name in of for note in system.threads[name].waits}
-    chains = {chain.name for chain in system.chains.values() if chain.thread in of}
+    """How much was found of each kind; of threads and chains if some are named. A thread has the signals that were lost at notifications for which it waits,
+    and the chains that end with it."""
+    threads = [name for name in of if name in system.threads]
+    notes = {note for name in threads for note in system.threads[name].waits}
+    chains = {name for name, chain in system.chains.items() if name in of or chain.thread in threads}
     wanted = {'lost': notes, **dict.fromkeys(OF_CHAINS, chains)}
     counts: collections.Counter[str] = collections.Counter()
     for line in lines:
@@ -170,7 +174,7 @@ def counted(lines: Sequence[str], system: System, of: Collection[str]) -> dict[s
         if len(words) < 4 or not words[0].isdigit() or words[2] not in COUNTED:
             continue
         kind, name = words[2], words[3]
-        if not of or name in wanted.get(kind, of):
+        if not of or name in wanted.get(kind, threads):
             counts[COUNTED[kind]] += 1
     # a checker that does not look at chains counts none of theirs
     looked_at = {*KINDS, *counts, *(lines[-1].split() if lines else [])}
@@ -179,5 +183,6 @@ def counted(lines: Sequence[str], system: System, of: Collection[str]) -> dict[s
 
 def check_names(of: Sequence[str], system: System) -> None:
     for name in of:
-        if name not in system.threads:
-            raise Fault(f'--of {name}: there is no thread {name!r}: {named.known(name, system.threads)}')
+        if name not in system.threads and name not in system.chains:
+            what = 'thread or chain' if system.chains else 'thread'
+            raise Fault(f'--of {name}: there is no {what} {name!r}: {named.known(name, [*system.threads, *system.chains])}')

@@ -171,6 +171,27 @@ class Lines(Case):
         for name, wanted in (('A', '1,5,,0,0,0,0,2,0,7'), ('B', '1,5,,0,0,0,0,0,1,7')):
             self.assertEqual(self.ran(self.file, '--set', 'context.a.budget=1', '--of', name).stdout.splitlines()[1], wanted)
 
+    def test_some_chains_alone(self) -> None:
+        self.file.write_text(NEW_SYSTEM.replace('thread = "B"', 'thread = "A", deadline = 8'))
+        (self.programs / '1.out').write_text(''.join(f'{line}\n' for line in [MISS, LOST, *CHAINED, f'{COUNTS} slow 2 unanswered 1']))
+        # a miss of A, a signal lost to A, 2 slow answers of e, and an interrupt that f has not answered
+        for names, wanted in ((['e'], '1,5,,0,0,0,0,2,0,7'), (['f'], '1,5,,0,0,0,0,0,1,7'), (['e', 'f'], '1,5,,0,0,0,0,2,1,7'),
+                              (['B'], '1,0,,0,0,0,0,0,0,7'), (['B', 'f'], '1,5,,0,0,0,0,0,1,7'), (['A'], '1,5,,1,1,0,0,2,1,7')):
+            self.assertEqual(self.ran(self.file, '--set', 'context.a.budget=1', '--of', *names).stdout.splitlines()[1], wanted)
+
+    def test_a_name_of_a_thread_and_of_a_chain_means_both(self) -> None:
+        self.file.write_text(NEW_SYSTEM.replace('name = "e", source', 'name = "B", source'))
+        lines = ['12 0 slow B 9 deadline 8 origin 3', CHAINED[2], f'{COUNTS} slow 1 unanswered 1']
+        (self.programs / '1.out').write_text(''.join(f'{line}\n' for line in lines))
+        # the chain B ends with A, and f with the thread B
+        self.assertEqual(self.ran(self.file, '--set', 'context.a.budget=1', '--of', 'B').stdout.splitlines()[1], '1,5,,0,0,0,0,1,1,7')
+
+    def test_a_checker_that_reports_no_chains_is_no_answer_about_one(self) -> None:
+        self.file.write_text(NEW_SYSTEM)
+        told = self.ran(self.file, '--set', 'context.a.budget=4', '--of', 'e')
+        self.assertEqual(told, (2, '', 'sweep: context.a.budget=4: --of e: mcscheck reports nothing of chains: take a later one\n'))
+        self.assertEqual(self.ran(self.file, '--set', 'context.a.budget=6', '--of', 'e').status, 0)
+
     def test_results_do_not_depend_on_the_jobs(self) -> None:
         words = (self.file, '--set', 'context.a.budget=1:6', '--set', 'delay=1:4', '--jobs')
         first, *others = [self.ran(*words, jobs) for jobs in (1, 2, 7)]
@@ -360,6 +381,17 @@ class Searches(Case):
         # under 5 something is found again, which the least one does not depend on
         self.assertEqual(self.asked(), [1, 2, 3, 4])
 
+    def test_the_least_value_of_a_chain(self) -> None:
+        # A misses its deadline under less than 4, and e is answered in time from 2 on
+        self.file.write_text(NEW_SYSTEM)
+        clean = f'{COUNTS} slow 0 unanswered 0'
+        left = [MISS, CHAINED[2], f'{COUNTS} slow 0 unanswered 1']
+        for budget, lines in ((1, [*CHAINED, f'{COUNTS} slow 2 unanswered 1']), (2, left), (3, [MISS, clean]), (4, [clean])):
+            (self.programs / f'{budget}.out').write_text(''.join(f'{line}\n' for line in lines))
+        for name, least in (('e', 2), ('A', 4)):
+            told = self.ran(self.file, '--least', 'context.a.budget=1:4', '--of', name, '--jobs', 1)
+            self.assertEqual((told.status, told.stdout), (0, f'context.a.budget {least}: the least of 1 to 4 under which nothing of {name} is found\n'))
+
     def test_each_value_is_tried_from_above(self) -> None:
         told = self.ran(self.file, '--greatest', 'context.a.budget=1:6', '--jobs', 1)
         self.assertEqual(told.stdout, 'context.a.budget 4: the greatest of 1 to 6 under which nothing is found\n')
@@ -475,6 +507,18 @@ class Words(Case):
             told = self.ran(*given)
             self.assertEqual(told._replace(stderr=told.stderr.replace(str(self.folder), 'FOLDER')), (2, '', f'sweep: {said}\n'))
         self.assertEqual(self.asked(), [])
+
+    def test_names_of_chains(self) -> None:
+        self.file.write_text(NEW_SYSTEM)
+        for given, said in (
+            (('--set', 'call=1', '--of', 'C'), "--of C: there is no thread or chain 'C': there are A, B, e, f"),
+            (('--set', 'call=1', '--of', 'f'), '--of f: the chain has no deadline, so nothing is found of it: set chain.f.deadline'),
+        ):
+            self.assertEqual(self.ran(self.file, *given), (2, '', f'sweep: {said}\n'))
+        self.assertEqual(self.asked(), [])
+        (self.programs / '2.out').write_text(f'{CHAINED[2]}\n{COUNTS} slow 0 unanswered 1\n')
+        told = self.ran(self.file, '--set', 'chain.f.deadline=8', '--of', 'f')
+        self.assertEqual((told.status, told.stdout.splitlines()[1]), (0, '8,5,,0,0,0,0,0,1,7'))
 
     def test_without_mcscheck(self) -> None:
         with mock.patch.object(verdict, 'default_checker', lambda program: None):
