@@ -48,7 +48,10 @@ fn files_and_the_input(rt: HostRuntime) -> Result<(), Fail> {
     let ended = of_input(&rt, rt.alloc(), Some(name))?;
     assert_eq!(rt; ended, Err(CheckFault::Run(RunFault::Read)));
     match of_input(&rt, rt.alloc(), None)? {
-        Ok(checked) => assert_eq!(rt; (checked.counts.missed, checked.is_clean(false)), (1, false)),
+        Ok(checked) => assert_eq!(rt;
+            (checked.counts.missed, checked.is_clean(false)),
+            (1, false)
+        ),
         Err(_) => rt.abort(),
     }
     Ok(())
