@@ -1,4 +1,4 @@
-//! What a watch keeps of one chain, and of all.
+//! The state that a watch keeps of a chain, and of all chains.
 ghost use Rattle.std.specs.Prelude.{◌≡◌, ◌+◌, ◌∷◌, ◌++◌, [], ℕ, List, map, OnOk, IfOk};
 ghost use Rattle.mcs_ticks.specs.declared.row.Row.{Row as TheRow};
 ghost use Rattle.mcs_system.specs.System.{System as TheSystem, core_of, thread_part};
@@ -25,7 +25,7 @@ pub(crate) struct Late {
     pub(crate) finding: Finding,
 }
 
-/// What is kept of a chain.
+/// The state of a chain.
 #[derive(Drop)]
 pub(crate) struct One {
     pub(crate) origins: Origins,
@@ -44,7 +44,7 @@ impl Model for One {
 }
 
 impl One {
-    /// What is kept before the first row.
+    /// The state before the first row.
     fn new(alloc: Global, parts: &SystemParts) -> Result<One, NoMemory>
         ensures { (chain : TheChain) → IfOk result (λ one. one ≡ one_of parts.now chain []) }
     {
@@ -99,7 +99,7 @@ fn keep(late: &mut Vec<Late>, row: &Row, finding: Option<Finding>) -> Result<(),
     Ok(())
 }
 
-/// What is kept of each chain before the first row.
+/// The state of each chain before the first row.
 pub(crate) fn all_new(alloc: Global, parts: &SystemParts) -> Result<Vec<One>, NoMemory>
     ensures { IfOk result (λ each. each.items ≡ map (λ chain. one_of parts.now chain []) parts.now.chains) }
 {

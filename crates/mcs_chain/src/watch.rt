@@ -13,8 +13,8 @@ use std::alloc::Global;
 use std::marker::Model;
 
 /// The chains of a system, as the rows of a schedule go by: how far each thread is in its script,
-/// and for each chain the sets of origins without an answer. Its room grows only with those origins.
-/// The system is the one that it was made for.
+/// and for each chain the sets of origins without an answer. Its room grows only with those
+/// origins. The system is the one that it was made for.
 #[derive(Drop)]
 pub struct Watch {
     gone: Vec<Gone>,
@@ -82,7 +82,8 @@ impl Watch {
         many_of(self.each.as_slice())
     }
 
-    /// The chains whose earliest origin without an answer is at least a deadline old at the horizon.
+    /// The chains whose earliest origin without an answer is at least a deadline old at the
+    /// horizon.
     pub fn unanswered(
         &self,
         alloc: Global,

@@ -60,7 +60,8 @@ pub(crate) fn find_rows<'s, H: Threads + Wait + Sync, T: Target, P: Progress>(
     }
 }
 
-/// `find_rows` if only findings are shown, and there is no chain: each core looks at its rows itself, and no row is kept.
+/// `find_rows` if only findings are shown, and there is no chain: each core looks at its rows
+/// itself, and no row is kept.
 fn find_by_core<'s, T: Target, P: Progress>(
     alloc: Global,
     target: &mut T,
