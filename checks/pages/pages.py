@@ -52,7 +52,10 @@ SETS = re.compile(r'sets (\d+) repeating (\d+) findings (\d+)')
 CLEAN = 'nothing is ever found'
 FOREVER = ' --forever'
 # what has no line of counts at its end, which says how the verdict ends
-WITHOUT_COUNTS = re.compile(r'missed (\d+) overdue (\d+) lost (\d+) never (\d+) .*hints (\d+)(?: slow (\d+) unanswered (\d+))?')
+WITHOUT_COUNTS = (' --format csv', ' --format pretty')
+# options that the launcher reads, and no program
+TYPED = (' --format pretty', ' --tick-us ')
+COUNTS = re.compile(r'missed (\d+) overdue (\d+) lost (\d+) never (\d+) .*hints (\d+)(?: slow (\d+) unanswered (\d+))?')
 # a block that ends with the status of any of its verdicts
 EXITS = 'exit $status'
 NONE_WILL_DO = re.compile(r'.*: under none of .*')

@@ -1,7 +1,7 @@
 #!/usr/bin/env python3
 """Checks that mcscheck reports chains as a second, plain reading of the rows finds them, byte for byte, on 200 random systems of version 3.
 
-First come three systems whose lines are worked by hand. Then each random system with a chain is tried: findings, the table and both of them, as text, CSV
+First come four systems whose lines are worked by hand. Then each random system with a chain is tried: findings, the table and both of them, as text, CSV
 and JSON, with --strict and several workers or without, and the exit code. It is tried again with a deadline that an answer just meets or just misses, up to
 the end of this answer or about the time at which an interrupt had to be answered. The percentiles of latencies follow the rule of those of responses.
 
@@ -104,6 +104,25 @@ missed 0 overdue 0 lost 0 never 0 merged 0 allowed 0 hints 0 slow 0 unanswered 0
 LATER_OBJECTS = '''{"kind":"chain","chain":"c","interrupts":1,"answers":1,"least":20,"greatest":20,"total":20,"p50":20,"p90":20,"p99":20,"deadline":20,"margin":0}
 {"kind":"counts","missed":0,"overdue":0,"lost":0,"never":0,"merged":0,"allowed":0,"hints":0,"slow":0,"unanswered":0}
 '''
+# L takes 150 ticks from 100 on; at 1100 E computes 19 before it, and the wait of E takes a tick. Of 150 and 170 the half is 150, told as the end of 150 to 151
+LONG = '''version = 3
+cores = 1
+delay = 1
+context = [{ name = "l", core = 0, budget = 500, period = 1000 }, { name = "e", core = 0, budget = 100, period = 1000 }]
+note = [{ name = "n", core = 0 }, { name = "m", core = 0 }]
+thread = [
+    { name = "L", context = "l", priority = 5, script = ["wait n", "compute 150"] },
+    { name = "E", context = "e", priority = 6, script = ["wait m", "compute 19"] },
+]
+source = [
+    { name = "s", note = "n", badge = 1, period = 1000, start = 100 },
+    { name = "t", note = "m", badge = 1, period = 5000, start = 1100 },
+]
+chain = [{ name = "c", source = "s", thread = "L" }]
+'''
+LONG_TABLE = '''chain c interrupts 2 answers 2 least 150 greatest 170 total 320 p50 151 p90 170 p99 170 deadline - margin -
+missed 0 overdue 0 lost 0 never 0 merged 0 allowed 0 hints 0 slow 0 unanswered 0
+'''
 
 
 class Known(NamedTuple):
@@ -123,6 +142,7 @@ KNOWN = (
     Known(LOOP, 52, ['--show=findings', '--format=json'], LOOP_OBJECTS, 5),
     Known(LATER, 50, [], LATER_TABLE, 0),
     Known(LATER, 80, ['--show=table', '--format=json'], LATER_OBJECTS, 0),
+    Known(LONG, 1300, ['--show=table'], LONG_TABLE, 0),
 )
 
 
@@ -131,7 +151,10 @@ class Trial(verdicts.Trial):
 
     def worked(self, known: Known) -> None:
         """A system that was worked by hand."""
-        ran = self.check(System('worked', known.text, known.horizon), known.words)
+        system = System('worked', known.text, known.horizon)
+        if found := self.read(system):
+            self.seen.update(shown(found))
+        ran = self.check(system, known.words)
         lines = [line for line in ran.stdout.decode().splitlines(keepends=True) if not line.startswith(OF_OTHERS)]
         self.count.expect(f'--horizon {known.horizon} {known.words}: {ran}', (ran.status, ''.join(lines), ran.stderr) == (known.status, known.wanted, b''))
 
