@@ -14,7 +14,7 @@ from .verdict import COUNTED, FOUND, NOTHING
 
 # exit code of mcscheck: with --forever nothing is found so far, and it is not known whether there will be something
 NOT_KNOWN = 6
-MISS, HINT, COUNTS, SETS, THREAD, WHY, RAN, IDLE = 'miss', 'hint', 'counts', 'sets', 'thread', 'why', 'ran', 'idle'
+MISS, HINT, COUNTS, SETS, THREAD, CHAIN, WHY, RAN, IDLE = 'miss', 'hint', 'counts', 'sets', 'thread', 'chain', 'why', 'ran', 'idle'
 HINTS = 'hints'
 # what a kind of finding says of whom it names, of one and of several
 SAID = {
@@ -69,7 +69,7 @@ class Facts:
             self.named.setdefault(kind, {})[name] = None
         if kind == RAN and isinstance(line.get('ticks'), int):
             self.ran.append((name, line['ticks']))
-        self.deadlines += kind == THREAD and 'deadline' in line
+        self.deadlines += kind in (THREAD, CHAIN) and 'deadline' in line
 
     def findings(self) -> Iterator[Object]:
         """The first finding of each kind."""
@@ -133,7 +133,7 @@ def clean(facts: Facts, asked: Asked, unit: scale.Unit) -> str:
     until = f' up to {time_of(asked.horizon, unit)}' if asked.horizon is not None else ''
     deadlines = facts.deadlines if asked.deadlines is None and facts.many[THREAD] else asked.deadlines
     if deadlines == 0:
-        return f'Nothing is found{until}: no thread has a deadline'
+        return f'Nothing is found{until}: no thread and no chain has a deadline'
     return f'{"The deadline is" if deadlines == 1 else "All deadlines are"} met{until}'
 
 

@@ -181,11 +181,16 @@ def system_in(path: Optional[pathlib.Path]) -> Optional[System]:
     return None
 
 
+def deadlines_of(known: System) -> int:
+    """How many threads and chains have a deadline."""
+    return sum(bool(thread.deadline) for thread in known.threads.values()) + sum(bool(chain.deadline) for chain in known.chains.values())
+
+
 def asked_of(words: Sequence[str], known: Optional[System]) -> Asked:
     """What a verdict is about, by the options of the program and the file."""
     horizon = option_of(words, '--horizon') or str(source.HORIZON)
     threads = None if known is None else known.threads.values()
-    deadlines = None if threads is None else sum(1 for thread in threads if thread.deadline)
+    deadlines = None if known is None else deadlines_of(known)
     return Asked(int(horizon) if horizon.isdigit() else None, None if threads is None else len(threads), deadlines)
 
 

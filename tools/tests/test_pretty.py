@@ -160,7 +160,9 @@ class Sentences(unittest.TestCase):
 
     def test_nothing(self) -> None:
         self.assertEqual(sentence(NOTHING, asked=Asked(30, 3, 1)), 'The deadline is met up to 30')
-        self.assertEqual(sentence(NOTHING, asked=Asked(30, 3, 0), unit=MS), 'Nothing is found up to 15 ms: no thread has a deadline')
+        self.assertEqual(sentence(NOTHING, asked=Asked(30, 3, 0), unit=MS), 'Nothing is found up to 15 ms: no thread and no chain has a deadline')
+        chain = {'kind': 'chain', 'chain': 'e', 'greatest': 7, 'deadline': 8}
+        self.assertEqual(sentence({'kind': 'thread', 'thread': 'A'}, chain, counts()), 'The deadline is met')
         self.assertEqual(sentence(NOTHING), 'All deadlines are met')
 
     def test_a_verdict_that_is_cut_off_has_none(self) -> None:
