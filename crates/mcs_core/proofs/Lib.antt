@@ -1,6 +1,6 @@
 pub mod Ringing
 pub mod Alike
-pub mod Blocks
+pub mod AlarmsTree
 pub mod Budgets
 pub mod Busy
 pub mod Clock

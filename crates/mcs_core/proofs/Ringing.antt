@@ -1,5 +1,5 @@
 -- The alarms of a core: which ring, and when the next one does.
-use Rattle.std.proofs.Common.{◌≡◌, ℕ, zero, suc, ◌+◌, ◌-◌, ◌^◌, ◌<◌, ◌≤◌, Bool, true, false, cond, List, [], ◌∷◌, ◌++◌, length, take, drop, get_or, set, refl, sym, ap, subst, ◌∙◌, arith}
+use Rattle.std.proofs.Common.{◌≡◌, ℕ, zero, suc, ◌+◌, ◌-◌, ◌^◌, ◌<◌, ◌≤◌, Bool, true, false, cond, List, [], ◌∷◌, ◌++◌, length, take, get_or, set, refl, sym, ap, subst, ◌∙◌, arith}
 use Rattle.std.specs.Prelude.{◌==◌, nat_le, nat_lt, filter, map, All, Option, Some, None}
 use Rattle.std.specs.List.{AllByRecursion}
 use Rattle.std.proofs.lemmas.Bool.Decides.{nat_tests}
@@ -11,7 +11,6 @@ use Rattle.mcs_core.specs.Alarms.{alarm_of, is_at_home, alarms_of, later_by, run
 use Rattle.mcs_core.specs.Busy.{IsFirst}
 use Rattle.mcs_core.specs.declared.alarm.Alarm.{Alarm}
 use Rattle.mcs_core.specs.stored.Places.{alarm_at, AreSilent, IsFirstPlace}
-use Rattle.std.proofs.lemmas.List.{drop_more}
 use Rattle.std.proofs.lemmas.List.Elements.{filter_more}
 use Rattle.mcs_core.proofs.Counts.{either}
 use Rattle.mcs_core.proofs.Firsts.{not_le}
@@ -259,9 +258,6 @@ next-beat system c i x l e = ap (map (alarm_of system)) (filter_more (is_at_home
     map-append : (f : Beat → Alarm) (xs ys : List Beat) → map f (xs ++ ys) ≡ map f xs ++ map f ys
     map-append f [] ys = refl
     map-append f (z ∷ xs) ys = ap (λ (zs : List Alarm). f z ∷ zs) (map-append f xs ys)
-
-pub date-before : (alarms : List Alarm) (i : ℕ) (x : Alarm) → i < length alarms → x ≡ get_or alarms i x → first_date (drop i alarms) ≡ sooner x.date (first_date (drop (i + 1) alarms))
-date-before alarms i x l e = ap first_date (drop_more alarms i x l) ∙ ap (λ (y : Alarm). sooner y.date (first_date (drop (i + 1) alarms))) (sym e)
 
 -- no alarm has too long a period
 pub alarms-short : (system : System) (c : ℕ) → IsWellFormed system → AreShort (alarms_of system c)

@@ -1,6 +1,6 @@
-ghost use Rattle.std.specs.Prelude.{◌≡◌, ◌*◌, ◌^◌, ◌<◌, ◌≤◌, ◌+◌, true, length, slice_set, IfOk};
+ghost use Rattle.std.specs.Prelude.{◌≡◌, ◌*◌, ◌^◌, ◌<◌, ◌≤◌, ◌+◌, ◌-◌, ◌/◌, ◌%◌, true, length, slice_set, IfOk};
 ghost use Rattle.mcs_core.specs.Alarms.{alarm_of, alarms_of, rung, rings, later_by, first_date, first_ringing, with_first_rung, AreShort};
-ghost use Rattle.mcs_core.specs.stored.Places.{IsFirstPlace, AreFirsts, IsFoundIn, block};
+ghost use Rattle.mcs_core.specs.stored.Places.{alarm_at, first_leaf, joined, AreLeaves, AreNodes, AreOtherNodes, AreSameLeaves, IsTree, IsChild, IsSize, IsFirstPlace};
 ghost use Rattle.mcs_system.specs.WellFormed.{IsWellFormed};
 
 use crate::Alarm;
@@ -10,17 +10,18 @@ use mcs_ticks::{CoreId, NoMemory, Soonest, Tick};
 use std::alloc::Global;
 use std::marker::Model;
 
-/// Alarms in a block; the last block may have fewer.
-const BLOCK: usize = 64;
-
-/// The alarms of a core, in file order. The alarm that rings is searched in the blocks whose
-/// soonest date has come, so a core with 4,096 alarms looks at only 64 dates more than one with 64.
+/// The alarms of a core, in file order. Their dates are the leaves of a tree, and each node above
+/// has the sooner date of its two children. The way down finds the first alarm that rings. The way
+/// up renews the soonest date. 4,096 alarms have 6 levels more than 64.
 #[derive(Drop)]
 pub(crate) struct Alarms {
     alarms: Vec<Alarm>,
-    /// The soonest date of each block.
-    firsts: Vec<Soonest>,
-    /// The soonest date: blocks are looked at only when an alarm rings.
+    /// The root is node 1, and the children of node `n` are nodes `2 * n` and `2 * n + 1`. The
+    /// leaves are the second half: the date of each alarm, then never. Place 0 is unused.
+    tree: Vec<Soonest>,
+    /// The number of levels below the root.
+    levels: usize,
+    /// The soonest date: the tree is looked at only when an alarm rings.
     soonest: Soonest,
 }
 
@@ -28,14 +29,14 @@ impl Model for Alarms {
     ghost use Rattle.std.specs.Prelude.{List, ◌≡◌};
     ghost use Rattle.mcs_core.specs.declared.alarm.Alarm.{Alarm};
     ghost use Rattle.mcs_core.specs.Alarms.{first_date, AreShort};
-    ghost use Rattle.mcs_core.specs.stored.Places.{AreFirsts};
+    ghost use Rattle.mcs_core.specs.stored.Places.{IsTree};
 
     ghost Value = { List Alarm };
 
     ghost view = { λ a. a.alarms.items };
 
     ghost invariant = { λ a. (a.soonest ≡ first_date a.alarms.items)
-        × AreFirsts a.firsts.items a.alarms.items
+        × IsTree a.levels a.tree.items a.alarms.items
         × AreShort a.alarms.items };
 }
 
@@ -57,16 +58,6 @@ impl Alarm {
             } else {
                 beat.count - 1
             },
-        }
-    }
-
-    /// Whether its date has come.
-    fn rings(&self, moment: Tick) -> bool
-        ensures { result ≡ rings moment self.now }
-    {
-        match self.date.moment() {
-            Some(date) => date.get() <= moment.get(),
-            None => false,
         }
     }
 
@@ -135,11 +126,14 @@ impl Alarms {
     {
         let mut alarms = Vec::new(alloc);
         alarms.extend_from_slice(beats)?;
-        let firsts = firsts_of(alloc, &alarms)?;
-        let soonest = soonest_of(&firsts, &alarms);
+        let (levels, leaves) = size_for(&alarms);
+        let mut tree = leaves_of(alloc, &alarms, leaves)?;
+        join_all(&mut tree, leaves);
+        let soonest = soonest_of(&tree, &alarms, levels);
         Ok(Alarms {
             alarms,
-            firsts,
+            tree,
+            levels,
             soonest,
         })
     }
@@ -163,10 +157,11 @@ impl Alarms {
         ensures taken { result ≡ first_ringing moment self.old }
         ensures left { self.new ≡ with_first_rung moment self.old }
     {
-        let (b, k) = find_ringing(&self.firsts, &self.alarms, moment)?;
+        let k = find_ringing(&self.tree, &self.alarms, self.levels, moment)?;
         let alarm = self.alarms[k];
-        replace(&mut self.alarms, &mut self.firsts, b, k, alarm.rung(moment));
-        self.soonest = soonest_of(&self.firsts, &self.alarms);
+        let rung = alarm.rung(moment);
+        replace(&mut self.alarms, &mut self.tree, self.levels, k, rung);
+        self.soonest = soonest_of(&self.tree, &self.alarms, self.levels);
         Some(alarm)
     }
 
@@ -179,91 +174,124 @@ impl Alarms {
     }
 }
 
-fn block(alarms: &[Alarm], b: usize) -> &[Alarm]
-    requires { 64 * b < length alarms.now }
-    ensures { result.now ≡ block b alarms.now }
+/// Returns the number of levels below the root of a tree for these alarms, and of its leaves.
+fn size_for(alarms: &[Alarm]) -> (usize, usize)
+    ensures { IsSize alarms.now result }
 {
-    let rest = &alarms[BLOCK * b..];
-    if rest.len() < BLOCK {
-        rest
+    let (mut levels, mut leaves) = (0, 1);
+    while leaves < alarms.len() {
+        leaves *= 2;
+        levels += 1;
+    }
+    (levels, leaves)
+}
+
+/// Returns the initial date at a place of a tree: never if it is not the leaf of an alarm.
+fn leaf_at(alarms: &[Alarm], leaves: usize, place: usize) -> Soonest
+    ensures { leaves ≤ place → result ≡ (alarm_at alarms.now (place - leaves)).date }
+{
+    if place < leaves || alarms.len() <= place - leaves {
+        Soonest::never()
     } else {
-        &rest[..BLOCK]
+        alarms[place - leaves].date
     }
 }
 
-/// Returns the soonest date of each block.
-fn firsts_of(alloc: Global, alarms: &[Alarm]) -> Result<Vec<Soonest>, NoMemory>
-    ensures { IfOk result (λ firsts. AreFirsts firsts.items alarms.now) }
+/// Returns a tree with the dates of these alarms in its leaves, and never in the nodes above.
+fn leaves_of(alloc: Global, alarms: &[Alarm], leaves: usize) -> Result<Vec<Soonest>, NoMemory>
+    requires { leaves ≤ 2 * length alarms.now + 1 }
+    ensures { IfOk result (λ tree. AreLeaves leaves tree.items alarms.now) }
 {
-    let mut firsts = Vec::new(alloc);
-    for i in 0..alarms.len() {
-        if BLOCK * firsts.len() == i {
-            firsts.push(first_date(block(alarms, firsts.len())))?;
-        }
+    let mut tree = Vec::new(alloc);
+    for place in 0..2 * leaves {
+        tree.push(leaf_at(alarms, leaves, place))?;
     }
-    Ok(firsts)
+    Ok(tree)
 }
 
-/// Replaces the alarm at place `k`, which is in block `b`.
-fn replace(alarms: &mut [Alarm], firsts: &mut [Soonest], b: usize, k: usize, alarm: Alarm)
-    requires firsts { AreFirsts firsts.old alarms.old }
-    requires known { b < length firsts.old }
-    requires within { (64 * b ≤ k) × (k < 64 * b + 64) }
+/// Sets a node to the sooner date of its children. `first` is the place of its first child.
+#[inline(always)]
+fn join(tree: &mut [Soonest], first: usize)
+    requires even { first % 2 ≡ 0 }
+    requires there { first + 1 < length tree.old }
+    ensures { tree.new ≡ slice_set tree.old (first / 2) (joined tree.old (first / 2)) }
+{
+    tree[first / 2] = tree[first].or(tree[first + 1]);
+}
+
+/// Sets each node above the leaves to the soonest date below it.
+fn join_all(tree: &mut [Soonest], leaves: usize)
+    requires { length tree.old ≡ 2 * leaves }
+    ensures nodes { AreNodes leaves tree.new }
+    ensures leaves { AreSameLeaves leaves tree.old tree.new }
+{
+    for node in (0..leaves).rev() {
+        join(tree, 2 * node);
+    }
+}
+
+/// Sets the nodes above a leaf to the soonest date below them.
+fn join_above(tree: &mut [Soonest], levels: usize, leaf: usize)
+    requires many { length tree.old ≡ 2 * first_leaf levels 1 }
+    requires leaf { leaf < length tree.old }
+    requires others { AreOtherNodes leaf (first_leaf levels 1) tree.old }
+    ensures nodes { AreNodes (first_leaf levels 1) tree.new }
+    ensures leaves { AreSameLeaves (first_leaf levels 1) tree.old tree.new }
+{
+    let mut first = leaf / 2 * 2;
+    for _level in (0..levels).rev() {
+        join(tree, first);
+        first = first / 4 * 2;
+    }
+}
+
+/// Replaces the alarm at place `k`.
+fn replace(alarms: &mut [Alarm], tree: &mut [Soonest], levels: usize, k: usize, alarm: Alarm)
+    requires tree { IsTree levels tree.old alarms.old }
     requires there { k < length alarms.old }
     ensures alarms { alarms.new ≡ slice_set alarms.old k alarm }
-    ensures firsts { AreFirsts firsts.new alarms.new }
+    ensures tree { IsTree levels tree.new alarms.new }
 {
+    let leaf = tree.len() / 2 + k;
+    let date = alarm.date;
     alarms[k] = alarm;
-    firsts[b] = first_date(block(alarms, b));
+    tree[leaf] = date;
+    join_above(tree, levels, leaf);
 }
 
-/// The soonest date of all, by those of the blocks.
-fn soonest_of(firsts: &[Soonest], alarms: &[Alarm]) -> Soonest
-    requires { AreFirsts firsts.now alarms.now }
+/// Returns the soonest date, which the root has.
+fn soonest_of(tree: &[Soonest], alarms: &[Alarm], levels: usize) -> Soonest
+    requires { IsTree levels tree.now alarms.now }
     ensures { result ≡ first_date alarms.now }
 {
     let _many = alarms.len();
-    let mut soonest = Soonest::never();
-    for b in (0..firsts.len()).rev() {
-        soonest = firsts[b].or(soonest);
-    }
-    soonest
+    tree[1]
 }
 
-/// The first alarm that rings at a moment: its block, and its place among all.
-fn find_ringing(firsts: &[Soonest], alarms: &[Alarm], moment: Tick) -> Option<(usize, usize)>
-    requires { AreFirsts firsts.now alarms.now }
-    ensures { IsFoundIn moment firsts.now alarms.now result }
+/// Returns the first child of a node if its date has come, otherwise the second.
+#[inline(always)]
+fn child(tree: &[Soonest], node: usize, moment: Tick) -> usize
+    requires { 2 * node + 1 < length tree.now }
+    ensures { IsChild moment tree.now node result }
 {
-    for b in 0..firsts.len() {
-        if firsts[b].has_come(moment) {
-            match first_ringing(block(alarms, b), moment) {
-                Some(k) => return Some((b, BLOCK * b + k)),
-                None => {}
-            }
-        }
+    if tree[2 * node].has_come(moment) {
+        2 * node
+    } else {
+        2 * node + 1
     }
-    None
 }
 
-/// The place of the first alarm that rings at a moment.
-fn first_ringing(alarms: &[Alarm], moment: Tick) -> Option<usize>
+/// Returns the place of the first alarm that rings at a moment.
+fn find_ringing(tree: &[Soonest], alarms: &[Alarm], levels: usize, moment: Tick) -> Option<usize>
+    requires { IsTree levels tree.now alarms.now }
     ensures { IsFirstPlace moment alarms.now result }
 {
-    for i in 0..alarms.len() {
-        if alarms[i].rings(moment) {
-            return Some(i);
-        }
+    if !tree[1].has_come(moment) {
+        return None;
     }
-    None
-}
-
-fn first_date(alarms: &[Alarm]) -> Soonest
-    ensures { result ≡ first_date alarms.now }
-{
-    let mut soonest = Soonest::never();
-    for i in (0..alarms.len()).rev() {
-        soonest = alarms[i].date.or(soonest);
+    let mut node = 1;
+    for _level in (0..levels).rev() {
+        node = child(tree, node, moment);
     }
-    soonest
+    Some(node - tree.len() / 2)
 }

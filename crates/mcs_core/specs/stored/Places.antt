@@ -1,6 +1,7 @@
--- The place of the first alarm that rings, and the blocks in which it is searched.
-use Rattle.std.specs.Prelude.{◌≡◌, ℕ, ◌+◌, ◌*◌, ◌<◌, ◌≤◌, true, false, List, length, take, drop, get_or, set, Option, Some, None}
-use Rattle.mcs_core.specs.Alarms.{rings, rung, first_date, first_ringing, with_first_rung, no_alarm}
+-- The place of the first alarm that rings, and the tree of dates in which it is searched.
+use Rattle.std.specs.Prelude.{◌≡◌, ℕ, zero, suc, ◌+◌, ◌*◌, ◌/◌, ◌<◌, ◌≤◌, ◌⊎◌, true, false, List, length, get_or, set, Option, Some, None}
+use Rattle.mcs_ticks.specs.Soonest.{sooner, HasCome}
+use Rattle.mcs_core.specs.Alarms.{rings, rung, first_ringing, with_first_rung, no_alarm}
 use Rattle.mcs_core.specs.declared.alarm.Alarm.{Alarm}
 
 abbrev pub alarm_at : List Alarm → ℕ → Alarm
@@ -19,18 +20,49 @@ IsFirstPlace t alarms (Some k) =
     × (with_first_rung t alarms ≡ set alarms k (rung (alarm_at alarms k)))
     × AreSilent t alarms k
 
--- a block: 64 alarms, or the rest
-abbrev pub block : ℕ → List Alarm → List Alarm
-block b alarms = take 64 (drop (64 * b) alarms)
+-- the children of node n are nodes 2 n and 2 n + 1: the first leaf below a node, a number of levels down
+abbrev pub first_leaf : ℕ → ℕ → ℕ
+first_leaf zero node = node
+first_leaf (suc levels) node = first_leaf levels (2 * node)
 
--- the soonest date of each block
-pub record AreFirsts (firsts : List (Option ℕ)) (alarms : List Alarm) : Type 0 where
-  pub all : length alarms ≤ 64 * length firsts
-  pub some : 64 * length firsts < length alarms + 64
-  pub each : (b : ℕ) (d : Option ℕ) → b < length firsts → get_or firsts b d ≡ first_date (block b alarms)
+abbrev pub date_at : List (Option ℕ) → ℕ → Option ℕ
+date_at tree node = get_or tree node None
 
--- the block of the first alarm that rings, and its place among all
-abbrev pub IsFoundIn : ℕ → List (Option ℕ) → List Alarm → Option (ℕ × ℕ) → Type 0
-IsFoundIn t firsts alarms None = first_ringing t alarms ≡ None
-IsFoundIn t firsts alarms (Some (b, k)) =
-    (b < length firsts) × (64 * b ≤ k) × (k < 64 * b + 64) × IsFirstPlace t alarms (Some k)
+-- the sooner date of the two children of a node
+abbrev pub joined : List (Option ℕ) → ℕ → Option ℕ
+joined tree node = sooner (date_at tree (2 * node)) (date_at tree (2 * node + 1))
+
+-- the leaves, which follow the nodes above them: the date of each alarm, then never
+pub record AreLeaves (leaves : ℕ) (tree : List (Option ℕ)) (alarms : List Alarm) : Type 0 where
+  pub many : length tree ≡ 2 * leaves
+  pub each : (k : ℕ) → k < leaves → date_at tree (leaves + k) ≡ (alarm_at alarms k).date
+
+-- the nodes above the leaves: each has the sooner date of its children
+abbrev pub AreNodes : ℕ → List (Option ℕ) → Type 0
+AreNodes leaves tree = (n : ℕ) → 1 ≤ n → n < leaves → date_at tree n ≡ joined tree n
+
+-- each of them but the parent of node `changed`
+abbrev pub AreOtherNodes : ℕ → ℕ → List (Option ℕ) → Type 0
+AreOtherNodes changed leaves tree = (n : ℕ) → 1 ≤ n → n < leaves → (n ≡ changed / 2 → ⊥) → date_at tree n ≡ joined tree n
+
+-- two trees with the same leaves
+pub record AreSameLeaves (leaves : ℕ) (tree other : List (Option ℕ)) : Type 0 where
+  pub many : length other ≡ length tree
+  pub each : (n : ℕ) → leaves ≤ n → date_at other n ≡ date_at tree n
+
+-- the tree of the dates of alarms: node 1 is its root
+pub record IsTree (levels : ℕ) (tree : List (Option ℕ)) (alarms : List Alarm) : Type 0 where
+  pub room : length alarms ≤ first_leaf levels 1
+  pub leaves : AreLeaves (first_leaf levels 1) tree alarms
+  pub nodes : AreNodes (first_leaf levels 1) tree
+
+-- the levels of a tree for these alarms, and its leaves
+abbrev pub IsSize : List Alarm → ℕ × ℕ → Type 0
+IsSize alarms (levels, leaves) =
+    (leaves ≡ first_leaf levels 1) × (length alarms ≤ leaves) × (leaves ≤ 2 * length alarms + 1)
+
+-- the first child of a node if its date has come, or else the second
+abbrev pub IsChild : ℕ → List (Option ℕ) → ℕ → ℕ → Type 0
+IsChild t tree node child =
+    ((child ≡ 2 * node) × HasCome t (date_at tree (2 * node)))
+    ⊎ ((child ≡ 2 * node + 1) × (HasCome t (date_at tree (2 * node)) → ⊥))

@@ -1,6 +1,5 @@
-use Rattle.std.proofs.Common.{◌*◌}
-use Rattle.mcs_core.specs.stored.Places.{AreSilent}
+use Rattle.mcs_core.proofs.AlarmsTree.{IsReached}
 use Rattle.mcs_core.proofs.alarms.find_ringing.Given as goal
 
-abbrev pub invariant-loop-b : goal.invariant-loop-b
-invariant-loop-b l = AreSilent l.moment l.alarms (64 * l.b)
+abbrev pub invariant-loop-level : goal.invariant-loop-level
+invariant-loop-level l = IsReached l.moment l.levels l._level l.node l.tree
