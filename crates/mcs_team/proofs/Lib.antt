@@ -12,4 +12,5 @@ mod Retelling
 mod Opened
 mod Gathering
 mod OneCore
+mod InStep
 mod Waking

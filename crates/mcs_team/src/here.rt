@@ -6,12 +6,14 @@ ghost use Rattle.mcs_system.specs.WellFormed.{IsWellFormed};
 ghost use Rattle.mcs_ticks.specs.Given.{Given};
 ghost use Rattle.mcs_team.specs.Flow.{FailsFrom, IsClear, IsFlowFault, IsGivenBetween, Waits};
 ghost use Rattle.mcs_window.specs.Desk.{opening_table, AreEmpty};
+ghost use Rattle.mcs_step.specs.Steps.{opening_steps};
 
 use crate::outflow::{Outflow, Relay, RowRelay};
 use crate::run::Run;
 use crate::whole::Kept;
 use crate::{FlowFault, Gate, Open};
 use mcs_merge::Part;
+use mcs_step::InStep;
 use mcs_system::{System, SystemParts};
 use mcs_ticks::{CoreId, NoMemory, Row, Tick};
 use mcs_window::Desk;
@@ -34,13 +36,31 @@ const MOST: u64 = 256;
 /// core in turn.
 const IN_ALL: usize = 512;
 
-/// Rows to collect on a desk of several cores before they are written.
-pub(crate) fn enough_of(parts: &SystemParts) -> usize {
+/// Fewest cores that are run in step. For fewer cores windows cost less.
+const TOGETHER: usize = 8;
+
+/// Most ticks of delay for each core at which cores are run in step. If delays are longer, a core
+/// runs ahead for so long that windows cost less.
+const CLOSE: u64 = 4;
+
+/// The minimum delay in ticks.
+fn least_delay(parts: &SystemParts) -> u64 {
     let mut delay = parts.delay;
     for link in parts.links.as_slice() {
         delay = delay.min(link.delay);
     }
-    let of_each = delay.clamp(FEWEST, MOST) as usize;
+    delay
+}
+
+/// Whether the cores are many and close, so that they are run in step.
+fn are_close(parts: &SystemParts) -> bool {
+    let most = CLOSE.saturating_mul(parts.cores as u64);
+    parts.cores >= TOGETHER && least_delay(parts) <= most
+}
+
+/// Rows to collect on a desk of several cores before they are written.
+pub(crate) fn enough_of(parts: &SystemParts) -> usize {
+    let of_each = least_delay(parts).clamp(FEWEST, MOST) as usize;
     parts.cores.saturating_mul(of_each).max(IN_ALL)
 }
 
@@ -133,6 +153,54 @@ fn flow_one<W: Relay, G: Gate>(
     Ok(())
 }
 
+/// Runs a whole simulation in step, from time 0. One collector gets the rows of all cores in the
+/// order of the schedule, so nothing is merged.
+fn flow_in_step<W: Relay, G: Gate>(
+    relay: &W,
+    mut steps: InStep,
+    gate: &G,
+    out: &mut <W::Part as Part>::Out,
+) -> Result<(), FlowFault>
+    requires well_formed { IsWellFormed steps.system }
+    requires unused { steps ≡ opening_steps steps.system steps.horizon }
+    requires fits { W.fits relay.now out.old }
+    ensures given { OnOk result (Given W.Part.Out.takes out.old (schedule steps.system steps.horizon) out.new) }
+    ensures fault { IfErr result (IsFlowFault W.Part.Out.takes steps.system steps.horizon out.old out.new) }
+{
+    let mut told = relay.empty();
+    'rounds: while !steps.is_over() {
+        let Ok(()) = steps.go(ENOUGH, &mut told) else {
+            return Err(FlowFault::NoMemory);
+        };
+        let Ok(()) = relay.give(&mut told, out) else {
+            return Err(FlowFault::Sink);
+        };
+        gate.reached(steps.moment());
+    }
+    Ok(())
+}
+
+/// Runs a whole simulation of several cores in step, from time 0.
+fn flow_together<W: Relay, G: Gate>(
+    alloc: Global,
+    system: Arc<System>,
+    horizon: Tick,
+    relay: &W,
+    gate: &G,
+    out: &mut <W::Part as Part>::Out,
+) -> Result<(), FlowFault>
+    requires in_range { horizon ≤ 2 ^ 40 }
+    requires fits { W.fits relay.now out.old }
+    ensures given { OnOk result (Given W.Part.Out.takes out.old (schedule (arc_value system) horizon) out.new) }
+    ensures fault { IfErr result (IsFlowFault W.Part.Out.takes (arc_value system) horizon out.old out.new) }
+{
+    let _parts = system.parts();
+    let Ok(steps) = InStep::new(alloc, system, horizon) else {
+        return Err(FlowFault::NoMemory);
+    };
+    flow_in_step(relay, steps, gate, out)
+}
+
 /// Returns one empty collector per core.
 pub(crate) fn empty_told<W: Relay>(
     alloc: Global,
@@ -163,8 +231,8 @@ fn desk_for<W: Relay>(
     Desk::opened(alloc, shared, horizon, told)
 }
 
-/// Runs the whole simulation up to the horizon on this thread, and writes it to an output. A single
-/// core needs no merge.
+/// Runs the whole simulation up to the horizon on this thread, and writes it to an output. Cores in
+/// step and a single core need no merge.
 pub(crate) fn flow_here<W: Relay, G: Gate>(
     alloc: Global,
     system: Arc<System>,
@@ -179,6 +247,9 @@ pub(crate) fn flow_here<W: Relay, G: Gate>(
     ensures fault { IfErr result (IsFlowFault W.Part.Out.takes (arc_value system) horizon out.old out.new) }
 {
     let cores = system.parts().cores;
+    if are_close(system.parts()) {
+        return flow_together(alloc, system, horizon, relay, gate, out);
+    }
     let Ok(desk) = desk_for(alloc, relay, &system, horizon) else {
         return Err(FlowFault::NoMemory);
     };

@@ -1,0 +1,10 @@
+pub mod Soon
+pub mod Rows
+pub mod Still
+pub mod Moved
+pub mod Turned
+pub mod Opened
+pub mod Counted
+pub mod Stepping
+pub mod Groups
+mod Worked
