@@ -14,7 +14,7 @@ use Rattle.mcs_system.specs.declared.part.SourcePart.{SourcePart}
 use Rattle.mcs_system.specs.declared.part.ThreadPart.{ThreadPart}
 use Rattle.mcs_system.specs.System.{System}
 use Rattle.mcs_chain.specs.declared.finding.Finding.TheVariants.{Slow, Unanswered}
-use Rattle.mcs_chain.specs.Answers.{origins, latencies, slow, unanswered, interrupts}
+use Rattle.mcs_chain.specs.Answers.{origins, latencies, judged, slow, unanswered, interrupts}
 
 -- thread i has context i; a context is on a core
 abbrev thread : ℕ → List Item → ThreadPart
@@ -143,6 +143,13 @@ overload =
 
 answered_together : latencies one_loop (chain 0 0 0 0) overload ≡ 21 ∷ 31 ∷ 20 ∷ []
 answered_together = refl
+
+-- the answers of a chain are judged if it has a deadline
+three_judged : judged one_loop (chain 0 0 0 15) overload ≡ 3
+three_judged = refl
+
+none_judged : judged one_loop (chain 0 0 0 0) overload ≡ 0
+none_judged = refl
 
 -- of two slow answers the one for the earlier origin is found
 earliest_is_slow :

@@ -1,5 +1,5 @@
 -- The answers of a chain, by the rows so far, the latest first, and what is found of it.
-use Rattle.std.specs.Prelude.{ℕ, ◌+◌, ◌-◌, min, Bool, false, ◌==◌, ◌&&◌, not, nat_le, if◌then◌else◌, List, [], ◌∷◌, ◌++◌, map, count_by, Option, Some, None}
+use Rattle.std.specs.Prelude.{ℕ, ◌+◌, ◌-◌, min, Bool, false, ◌==◌, ◌&&◌, not, nat_le, if◌then◌else◌, List, [], ◌∷◌, ◌++◌, length, map, count_by, Option, Some, None}
 use Rattle.std.specs.List.{reduce}
 use Rattle.mcs_ticks.specs.declared.row.Row.{Row}
 use Rattle.mcs_ticks.specs.declared.row.What.{What}
@@ -29,6 +29,10 @@ abbrev pub latencies : System → ChainPart → List Row → List ℕ
 latencies system chain [] = []
 latencies system chain (r ∷ past) =
     map (λ origin. r.moment - origin) (origins system chain (r ∷ past)).answered ++ latencies system chain past
+
+-- how many answers are judged: those of a chain with a deadline
+abbrev pub judged : System → ChainPart → List Row → ℕ
+judged system chain past = if chain.deadline == 0 then 0 else length (latencies system chain past)
 
 -- how many interrupts the chain's source made
 abbrev pub is_interrupt : ℕ → What → Bool

@@ -1,11 +1,11 @@
 -- What is found of all chains of a system, by the rows so far, the latest first.
-use Rattle.std.specs.Prelude.{ℕ, suc, List, [], ◌∷◌, ◌++◌, Option, Some, None}
+use Rattle.std.specs.Prelude.{ℕ, suc, ◌+◌, List, [], ◌∷◌, ◌++◌, Option, Some, None}
 use Rattle.mcs_ticks.specs.declared.row.Row.{Row}
 use Rattle.mcs_system.specs.declared.part.ChainPart.{ChainPart}
 use Rattle.mcs_system.specs.System.{System, core_of, thread_part}
 use Rattle.mcs_chain.specs.declared.finding.Finding.{Finding}
 use Rattle.mcs_chain.specs.declared.finding.Found.{Found}
-use Rattle.mcs_chain.specs.Answers.{slow, unanswered}
+use Rattle.mcs_chain.specs.Answers.{judged, slow, unanswered}
 
 -- a finding of chain n, with its moment and core
 abbrev pub found_at : ℕ → ℕ → ℕ → Option Finding → List Found
@@ -29,3 +29,8 @@ all_unanswered system past horizon n [] = []
 all_unanswered system past horizon n (chain ∷ chains) =
     found_at horizon (core_of system (thread_part system chain.thread)) n (unanswered system chain past horizon)
     ++ all_unanswered system past horizon (suc n) chains
+
+-- how many answers of these chains are judged
+abbrev pub all_judged : System → List Row → List ChainPart → ℕ
+all_judged system past [] = 0
+all_judged system past (chain ∷ chains) = judged system chain past + all_judged system past chains

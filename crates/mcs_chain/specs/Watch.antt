@@ -1,5 +1,5 @@
 -- A watch of all chains: how far each thread is in its script, and what is kept of each chain.
-use Rattle.std.specs.Prelude.{ℕ, suc, ◌+◌, ◌==◌, nat_lt, List, [], ◌∷◌, ◌++◌, fold, map, filter, Option, Some, None, Bool, true}
+use Rattle.std.specs.Prelude.{ℕ, suc, ◌+◌, ◌==◌, nat_lt, if◌then◌else◌, List, [], ◌∷◌, ◌++◌, fold, length, map, filter, Option, Some, None, Bool, true}
 use Rattle.mcs_ticks.specs.Capped.{capped}
 use Rattle.mcs_ticks.specs.declared.row.Row.{Row}
 use Rattle.mcs_system.specs.declared.part.ChainPart.{ChainPart}
@@ -16,6 +16,8 @@ pub record One : Type 0 where
   -- the slow answers of the latest moment, and how many there are in all
   pub late : List Late
   pub slow : ℕ
+  -- how many answers are judged
+  pub judged : ℕ
 
 pub record Watch : Type 0 where
   pub gone : List Gone
@@ -44,9 +46,27 @@ slow_sum system chain (r ∷ past) = one_if (slow system chain past r) + slow_su
 abbrev pub slow_many : System → ChainPart → List Row → ℕ
 slow_many system chain past = capped (slow_sum system chain past)
 
+-- the answers of a row that are judged, if the chain has this deadline
+abbrev pub judged_at : ℕ → List ℕ → ℕ
+judged_at deadline answered = if deadline == 0 then 0 else length answered
+
+abbrev pub judged_sum : System → ChainPart → List Row → ℕ
+judged_sum system chain [] = 0
+judged_sum system chain (r ∷ past) =
+    judged_at chain.deadline (origins system chain (r ∷ past)).answered + judged_sum system chain past
+
+abbrev pub judged_many : System → ChainPart → List Row → ℕ
+judged_many system chain past = capped (judged_sum system chain past)
+
 -- what is kept of a chain after these rows
 abbrev pub one_of : System → ChainPart → List Row → One
-one_of system chain past = record { origins = origins system chain past; late = lately system chain past; slow = slow_many system chain past }
+one_of system chain past =
+    record {
+      origins = origins system chain past;
+      late = lately system chain past;
+      slow = slow_many system chain past;
+      judged = judged_many system chain past;
+    }
 
 -- how far each thread has gone; nobody asks if there is no chain
 abbrev pub gone_for : System → List Row → List ChainPart → List Gone
@@ -77,3 +97,7 @@ all_due before n (one ∷ each) = due_of_one before n one ++ all_due before (suc
 -- how many slow answers there are
 abbrev pub all_slow_many : List One → ℕ
 all_slow_many each = fold (λ many (one : One). capped (many + one.slow)) 0 each
+
+-- how many answers are judged
+abbrev pub all_judged_many : List One → ℕ
+all_judged_many each = fold (λ many (one : One). capped (many + one.judged)) 0 each

@@ -7,7 +7,7 @@ ghost use Rattle.mcs_chain.specs.Answers.{gone_after};
 ghost use Rattle.mcs_ticks.specs.Capped.{capped};
 ghost use Rattle.mcs_chain.specs.Found.{all_unanswered, found_at};
 ghost use Rattle.mcs_chain.specs.Moves.{moves};
-ghost use Rattle.mcs_chain.specs.Watch.{all_due, all_slow_many, due_of_one, is_due, late_at, one_if, one_of};
+ghost use Rattle.mcs_chain.specs.Watch.{all_due, all_judged_many, all_slow_many, due_of_one, is_due, judged_at, late_at, one_if, one_of};
 
 use crate::moves::Move;
 use crate::origins::Origins;
@@ -33,6 +33,8 @@ pub(crate) struct One {
     late: Vec<Late>,
     /// How many slow answers there are, at most 2^64 - 1.
     slow: u64,
+    /// How many answers are judged, at most 2^64 - 1.
+    judged: u64,
 }
 
 impl Model for One {
@@ -40,7 +42,7 @@ impl Model for One {
 
     ghost Value = { One };
 
-    ghost view = { λ a. record { origins = a.origins; late = a.late.items; slow = a.slow } };
+    ghost view = { λ a. record { origins = a.origins; late = a.late.items; slow = a.slow; judged = a.judged } };
 }
 
 impl One {
@@ -52,6 +54,7 @@ impl One {
             origins: Origins::new(alloc, parts)?,
             late: Vec::new(alloc),
             slow: 0,
+            judged: 0,
         })
     }
 
@@ -70,6 +73,7 @@ impl One {
         let finding = found::slow_of(chain.deadline, row.moment, self.origins.answered());
         self.late.retain(|late| late.moment == row.moment);
         self.slow = counted(self.slow, &finding);
+        self.judged = judged(self.judged, chain.deadline, self.origins.answered());
         keep(&mut self.late, row, finding)
     }
 }
@@ -81,6 +85,17 @@ fn counted(many: u64, finding: &Option<Finding>) -> u64
     match finding {
         Some(_) => many.saturating_add(1),
         None => many,
+    }
+}
+
+/// The answers of one row more, if they are judged.
+fn judged(many: u64, deadline: u64, answered: &[Tick]) -> u64
+    ensures { (before : ℕ) → many ≡ capped before → result ≡ capped (judged_at deadline answered.now + before) }
+{
+    if deadline == 0 {
+        many
+    } else {
+        many.saturating_add(answered.len() as u64)
     }
 }
 
@@ -186,6 +201,17 @@ pub(crate) fn many_of(each: &[One]) -> u64
     let mut many: u64 = 0;
     for one in each {
         many = many.saturating_add(one.slow);
+    }
+    many
+}
+
+/// How many answers are judged.
+pub(crate) fn judged_of(each: &[One]) -> u64
+    ensures { result ≡ all_judged_many each.now }
+{
+    let mut many: u64 = 0;
+    for one in each {
+        many = many.saturating_add(one.judged);
     }
     many
 }

@@ -1,11 +1,11 @@
 ghost use Rattle.std.specs.Prelude.{◌≡◌, List, [], ◌∷◌, OnOk, IfOk};
 ghost use Rattle.mcs_ticks.specs.declared.row.Row.{Row as TheRow};
 ghost use Rattle.mcs_chain.specs.Found.{all_unanswered};
-ghost use Rattle.mcs_chain.specs.Watch.{all_due, all_slow_many, gone_for, watch_of};
+ghost use Rattle.mcs_chain.specs.Watch.{all_due, all_judged_many, all_slow_many, gone_for, watch_of};
 
 use crate::Found;
 use crate::moves::moves;
-use crate::one::{One, all_new, all_see, due_of, many_of, unanswered_of};
+use crate::one::{One, all_new, all_see, due_of, judged_of, many_of, unanswered_of};
 use crate::step::{Gone, all_fresh, all_go};
 use mcs_system::{System, SystemParts};
 use mcs_ticks::{NoMemory, Row, Tick};
@@ -80,6 +80,13 @@ impl Watch {
         ensures { result ≡ all_slow_many self.now.each }
     {
         many_of(self.each.as_slice())
+    }
+
+    /// How many answers are judged, those of chains with a deadline; at most 2^64 - 1.
+    pub fn judged(&self) -> u64
+        ensures { result ≡ all_judged_many self.now.each }
+    {
+        judged_of(self.each.as_slice())
     }
 
     /// The chains whose earliest origin without an answer is at least a deadline old at the

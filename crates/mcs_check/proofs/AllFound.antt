@@ -1,11 +1,12 @@
 -- The findings of all rows of a run.
 use Rattle.std.proofs.Common.{◌≡◌, ◌∙◌, [], Bool, false, ℕ, List, Option, IfErr, IfOk, sym, subst}
 use Rattle.std.specs.Prelude.{Result, Ok, Err, IfSome, None}
+use Rattle.mcs_ticks.specs.Capped.{capped}
 use Rattle.mcs_ticks.specs.declared.row.Row.{Row}
 use Rattle.mcs_system.specs.System.{System}
 use Rattle.mcs_verdict.specs.Findings.{UpTo, found_at_end, past_of}
 use Rattle.mcs_chain.specs.Found.{all_unanswered}
-use Rattle.mcs_chain.specs.Watch.{all_due, all_slow_many, watch_of as chains_of}
+use Rattle.mcs_chain.specs.Watch.{all_due, all_judged_many, all_slow_many, watch_of as chains_of}
 use Rattle.mcs_verdict.specs.Words.{firsts_of}
 use Rattle.mcs_verdict.proofs.Watches.{length-accounts as length-watched}
 use Rattle.mcs_cli.specs.Flow.{AppendsBefore, IsWriteFault}
@@ -19,7 +20,8 @@ use Rattle.mcs_check_words.specs.declared.asked.Show.{Show}
 use Rattle.mcs_check_words.specs.declared.asked.Show.TheVariants as show
 use Rattle.mcs_check.specs.declared.all_found.AllFound.{AllFound}
 use Rattle.mcs_check.specs.declared.seen.Seen.{Seen}
-use Rattle.mcs_check.specs.Counts.{no_counts}
+use Rattle.mcs_check_lines.specs.Counts.{no_counts}
+use Rattle.mcs_check.specs.Judged.{all_unjudged, judged_rounds}
 use Rattle.mcs_check.specs.stored.AllFound.{kept_of, rows_of_run, text_of_rows, IsAllFound, IsKeptOf}
 use Rattle.mcs_check.specs.stored.Rows.{counts_in, kept_table}
 use Rattle.mcs_check.specs.stored.Watches.{watches_of}
@@ -36,10 +38,13 @@ module _ (system : System) (allowed : List Bool) (options : Options) (old new : 
         → ((past : List Row) → seen.watch ≡ watches_of system past → IfOk r (λ found. found.slow ≡ all_slow_many (chains_of system past).each))
         → ((past : List Row) → seen.watch ≡ watches_of system past → IfOk r (λ found. found.unanswered.items ≡ all_unanswered system past options.horizon 0 system.chains))
         → ((past : List Row) → seen.watch ≡ watches_of system past → UpTo options.horizon past → IfOk r (λ found. found.unended.items ≡ found_at_end system past options.horizon 0 system.threads))
+        → ((past : List Row) → seen.watch ≡ watches_of system past → IfOk r (λ found. found.rounds ≡ capped (judged_rounds system past)))
+        → ((past : List Row) → seen.watch ≡ watches_of system past → IfOk r (λ found. found.answers ≡ all_judged_many (chains_of system past).each))
+        → ((past : List Row) → seen.watch ≡ watches_of system past → UpTo options.horizon past → IfOk r (λ found. found.unjudged.items ≡ all_unjudged system past options.horizon))
         → ((asked : Show) (past : List Row) → seen.watch ≡ watches_of system past → seen.table ≡ kept_table asked system options.horizon past → IfOk r (λ found. found.kept ≡ kept_of asked system options.horizon past))
         → seen.counts ≡ counts_in system allowed [] (rows_of_run system allowed options) no_counts → seen.watch ≡ watches_of system past
         → seen.table ≡ kept_table options.show system options.horizon past → UpTo options.horizon past → IfOk r (IsAllFound system allowed options old new)
-    found-all (Ok found) text_is counts_are due slow unanswered unended kept counted watch table in_time =
+    found-all (Ok found) text_is counts_are due slow unanswered unended rounds answers unjudged kept counted watch table in_time =
         record {
           text = subst (λ v. AppendsBefore old new (text_of_rows system allowed options) v.items) (sym text_is) text;
           counts = counts_are ∙ counted;
@@ -47,10 +52,13 @@ module _ (system : System) (allowed : List Bool) (options : Options) (old new : 
           due = due past watch;
           slow = slow past watch;
           unanswered = unanswered past watch;
+          rounds = rounds past watch;
+          answers = answers past watch;
+          unjudged = unjudged past watch in_time;
           kept = kept options.show past watch table;
           in_time = in_time;
         }
-    found-all (Err why) text_is counts_are due slow unanswered unended kept counted watch table in_time = tt
+    found-all (Err why) text_is counts_are due slow unanswered unended rounds answers unjudged kept counted watch table in_time = tt
 
     -- or there was no memory
     pub none-found : (r : Result AllFound RunFault) (failed : Bool) → IfErr r (λ why. why ≡ fault.Sim NoMemory) → failed ≡ false

@@ -23,8 +23,8 @@ use Rattle.mcs_verdict.specs.Findings.{UpTo, finding, found_at, found_in, past_o
 use Rattle.mcs_verdict.specs.Misses.{unended}
 use Rattle.mcs_verdict.specs.laws.ByCore.{rows_on, found_on, home_of, ComeHome, CoresAreWatched, WaitsAtHome}
 use Rattle.mcs_verdict_laws.proofs.Standings.{past-append}
-use Rattle.mcs_check.specs.Counts.{is_allowed, told_of}
-use Rattle.mcs_check.specs.Told.{told}
+use Rattle.mcs_check_lines.specs.Counts.{is_allowed, told_of}
+use Rattle.mcs_check_lines.specs.Told.{told}
 use Rattle.mcs_check.specs.stored.ByCore.{before_on, told_on, told_on_all}
 use Rattle.mcs_check.specs.stored.Found.{before_of, told_by, told_in}
 use Rattle.mcs_check.specs.stored.OwnRows.{told-append}

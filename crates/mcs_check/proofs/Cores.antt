@@ -23,17 +23,17 @@ use Rattle.mcs_window.specs.Desk.{Table, clock_of, opening_table, taken_at, take
 use Rattle.mcs_window.proofs.Lists.{each-more, some-of}
 use Rattle.mcs_verdict.specs.declared.finding.Found.{Found}
 use Rattle.mcs_verdict.specs.Findings.{InOrder, UpTo, found_at, found_at_end, past_of}
-use Rattle.mcs_verdict.specs.Watch.{watch_of}
 use Rattle.mcs_verdict.specs.declared.finding.Finding.{Finding}
 use Rattle.mcs_verdict.specs.Misses.{unended}
 use Rattle.mcs_verdict.specs.laws.ByCore.{CoresAreWatched, home_of}
 use Rattle.mcs_check.specs.declared.rounds.Cores.{Cores}
 use Rattle.mcs_check.specs.declared.core_watch.CoreWatch.{CoreWatch}
-use Rattle.mcs_check.specs.declared.counts.Counts.{Counts}
-use Rattle.mcs_check.specs.Counts.{no_counts}
-use Rattle.mcs_check.specs.stored.ByCore.{before_on, counts_on, together, told_on}
+use Rattle.mcs_check_lines.specs.declared.counts.Counts.{Counts}
+use Rattle.mcs_check_lines.specs.Counts.{no_counts, together}
+use Rattle.mcs_check.specs.stored.ByCore.{before_on, counts_on, told_on}
 use Rattle.mcs_check.specs.stored.Found.{before_of, counts_so_far, told_in}
 use Rattle.mcs_check.specs.stored.OwnRows.{since, until, HoldsOwn}
+use Rattle.mcs_check.specs.stored.Threads.{threads_of}
 use Rattle.mcs_check.specs.stored.Rounds.{are_counted_together, AreWatched, HasTaken, IsNext, IsReady, IsWatched}
 use Rattle.mcs_check.proofs.ByCore.{told-later, told-sorted, told-split, unended-home, up-past}
 use Rattle.mcs_check.proofs.CountsByCore.{counts-together}
@@ -115,7 +115,7 @@ unended-next system past horizon n part core finding before now whole l is home 
 
 -- what is kept before the first row
 abbrev pub IsUnused : System → CoreWatch → Type 0
-IsUnused system own = (own.watch ≡ watch_of system []) × (own.counts ≡ no_counts) × (own.found.items ≡ []) × (own.rows ≡ 0)
+IsUnused system own = (own.watch ≡ threads_of system []) × (own.counts ≡ no_counts) × (own.found.items ≡ []) × (own.rows ≡ 0)
 
 -- the same for n cores
 pub record AreUnused (system : System) (many : ℕ) (watches : List CoreWatch) : Type 0 where
@@ -383,14 +383,14 @@ module _ (system : System) (allowed : List Bool) where
   -- what is found of a thread at the horizon on its core is what is found of it among all rows
   pub found-at-home : IsWellFormed system → CoresAreWatched → (from horizon thread c : ℕ) (watches : List CoreWatch) (own : CoreWatch) (found : Option Finding)
       → AreWatched system allowed from (replicate system.cores (horizon + 1)) watches → c ≡ home_of system thread → own ≡ slice_index_or watches c own
-      → ((past : List Row) → own.watch ≡ watch_of system past → UpTo horizon past → found ≡ unended system past horizon thread)
+      → ((past : List Row) → own.watch ≡ threads_of system past → UpTo horizon past → found ≡ unended system past horizon thread)
       → found ≡ unended system (past_of [] (schedule system horizon)) horizon thread
   found-at-home well watched from horizon thread c watches own found are home is says =
       let l : c < system.cores = (let k = home-known well thread in omega arith) in
       let its = are.each c own l in
       let to : slice_index (replicate system.cores (horizon + 1)) c ≡ suc horizon = get_or-replicate system.cores c (horizon + 1) 0 l ∙ (let e : horizon + 1 ≡ suc horizon = omega arith in e) in
-      let seen : own.watch ≡ watch_of system (before_on system c (suc horizon)) =
-      ap (λ (w : CoreWatch). w.watch) is ∙ its.seen.watch ∙ ap (λ n. watch_of system (past_of [] (rows_between system c 0 n))) to in
+      let seen : own.watch ≡ threads_of system (before_on system c (suc horizon)) =
+      ap (λ (w : CoreWatch). w.watch) is ∙ its.seen.watch ∙ ap (λ n. threads_of system (past_of [] (rows_between system c 0 n))) to in
       says (before_on system c (suc horizon)) seen (up-on system c horizon)
       ∙ ap (λ n. unended system (before_on system n (suc horizon)) horizon thread) home
       ∙ unended-home system well (come-home system well) (on-core system well) watched (waits-home system well) horizon thread

@@ -19,10 +19,10 @@ use Rattle.mcs_verdict.specs.declared.held.Held.{Held}
 use Rattle.mcs_verdict.specs.Findings.{finding, found_at, found_in, past_of}
 use Rattle.mcs_verdict.specs.Words.{adds, firsts_of, held, held_after, merges, no_word}
 use Rattle.mcs_verdict.specs.laws.ByCore.{rows_on, found_on, note_home_of, word_told, ComeHome, CoresAreWatched, IsAtHome}
-use Rattle.mcs_check.specs.declared.counts.Counts.{Counts}
+use Rattle.mcs_check_lines.specs.declared.counts.Counts.{Counts}
 use Rattle.mcs_verdict_laws.proofs.Standings.{past-append}
-use Rattle.mcs_check.specs.Counts.{no_counts, taken}
-use Rattle.mcs_check.specs.stored.ByCore.{counts_on, counts_on_all, together}
+use Rattle.mcs_check_lines.specs.Counts.{no_counts, taken, together}
+use Rattle.mcs_check.specs.stored.ByCore.{counts_on, counts_on_all}
 use Rattle.mcs_check.specs.stored.Found.{before_of, counts_so_far}
 use Rattle.mcs_check.specs.stored.Rows.{counted_at, counts_in}
 use Rattle.mcs_check.proofs.ByCore.{Answer, answer-flat_map, rows-answer, rows-told, turns}

@@ -9,8 +9,8 @@ use Rattle.mcs_cli.specs.Flow.{AppendsBefore, TakesLine}
 use Rattle.mcs_check_words.specs.declared.asked.Format.{Format}
 use Rattle.mcs_check_words.specs.declared.asked.Show.{Show}
 use Rattle.mcs_check.specs.declared.finder.Finder.{Finder}
-use Rattle.mcs_check.specs.Counts.{no_counts}
-use Rattle.mcs_check.specs.Formats.{head_text}
+use Rattle.mcs_check_lines.specs.Counts.{no_counts}
+use Rattle.mcs_check_lines.specs.Formats.{head_text}
 use Rattle.mcs_check.specs.stored.Found.{counts_so_far}
 use Rattle.mcs_check.specs.stored.Rows.{counted_at, counts_in, failed_after, kept_table, lines_of, row_lines, rows_text}
 use Rattle.mcs_check.specs.stored.Watches.{watches_of}

@@ -14,10 +14,10 @@ use Rattle.mcs_chain.specs.Found.{all_slow}
 use Rattle.mcs_chain.specs.Watch.{all_due, watch_of as chains_of}
 use Rattle.mcs_check_words.specs.declared.asked.Format.{Format}
 use Rattle.mcs_check_words.specs.declared.asked.Show.TheVariants as show
-use Rattle.mcs_check.specs.Chains.{Entry, chain_found_line, chain_found_lines, placed, with_placed}
-use Rattle.mcs_check.specs.Counts.{is_allowed}
-use Rattle.mcs_check.specs.Formats.{found_line}
-use Rattle.mcs_check.specs.Told.{told}
+use Rattle.mcs_check_lines.specs.Chains.{Entry, chain_found_line, chain_found_lines, placed, with_placed}
+use Rattle.mcs_check_lines.specs.Counts.{is_allowed}
+use Rattle.mcs_check_lines.specs.Formats.{found_line}
+use Rattle.mcs_check_lines.specs.Told.{told}
 use Rattle.mcs_check.specs.stored.Rows.{lines_of, row_lines, told_at}
 use Rattle.mcs_check.proofs.Placed.{AreAt, AtMost, at, at-append, before, most-append, placed-apart}
 use Rattle.mcs_check.proofs.Standing.{AreOrdered, MostFound, all-due-later, before-same, kept-then, most-all, none-due-now, none-due-yet, none-slow-yet}

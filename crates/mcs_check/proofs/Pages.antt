@@ -14,8 +14,8 @@ use Rattle.mcs_cli.specs.Flow.{AppendsBefore}
 use Rattle.mcs_check_words.specs.declared.asked.Format.{Format}
 use Rattle.mcs_check_words.specs.declared.asked.Show.TheVariants as show
 use Rattle.mcs_check.specs.declared.found_lines.FoundLines.{FoundLines}
-use Rattle.mcs_check.specs.Counts.{told_of}
-use Rattle.mcs_check.specs.Formats.{found_line}
+use Rattle.mcs_check_lines.specs.Counts.{told_of}
+use Rattle.mcs_check_lines.specs.Formats.{found_line}
 use Rattle.mcs_check.specs.stored.Found.{told_by, told_in}
 use Rattle.mcs_check.specs.stored.Pages.{founds_text, PutsLines, PutsSome}
 use Rattle.mcs_check.specs.stored.Rows.{failed_after, lines_in, shown_found, told_at, told_line}

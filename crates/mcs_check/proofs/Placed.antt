@@ -2,7 +2,7 @@
 use Rattle.std.proofs.Common.{◌≡◌, ◌∙◌, ◌++◌, ◌∷◌, [], ℕ, ◌<◌, ◌≤◌, ◌==◌, Bool, true, false, List, filter, nat_lt, refl, ap, subst, sym, append_assoc, append-nil, arith}
 use Rattle.std.specs.Prelude.{fold}
 use Rattle.std.proofs.lemmas.Bool.Decides.{nat_tests}
-use Rattle.mcs_check.specs.Chains.{Entry, placed}
+use Rattle.mcs_check_lines.specs.Chains.{Entry, placed}
 
 -- all of these are at most at this time, at it, or later
 abbrev pub AtMost : ℕ → List Entry → Type 0

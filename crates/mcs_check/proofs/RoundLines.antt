@@ -11,7 +11,7 @@ use Rattle.mcs_verdict.specs.Findings.{past_of}
 use Rattle.mcs_check_words.specs.declared.asked.Show.TheVariants as show
 use Rattle.mcs_check.specs.declared.rounds.Cores.{Cores}
 use Rattle.mcs_check.specs.declared.found_lines.FoundLines.{FoundLines}
-use Rattle.mcs_check.specs.Formats.{found_line}
+use Rattle.mcs_check_lines.specs.Formats.{found_line}
 use Rattle.mcs_check.specs.stored.Found.{told_in}
 use Rattle.mcs_check.specs.stored.Pages.{founds_text, PutsLines, PutsSome}
 use Rattle.mcs_check.specs.stored.Rounds.{IsNext}

@@ -11,10 +11,10 @@ use Rattle.mcs_verdict.specs.declared.finding.Finding.TheVariants.{Miss, Overdue
 use Rattle.mcs_verdict.specs.declared.finding.Found.{Found}
 use Rattle.mcs_verdict.specs.Findings.{finding, found_at, found_in}
 use Rattle.mcs_verdict.specs.Words.{merges}
-use Rattle.mcs_check.specs.declared.counts.Counts.{Counts}
+use Rattle.mcs_check_lines.specs.declared.counts.Counts.{Counts}
 use Rattle.mcs_ticks.specs.Capped.{one_more, capped}
-use Rattle.mcs_check.specs.Counts.{added, is_allowed, no_counts, taken, with_hints}
-use Rattle.mcs_check.specs.Told.{counts_with, is_lost, is_miss, is_never, is_overdue, merged_in, more, told}
+use Rattle.mcs_check_lines.specs.Counts.{added, is_allowed, no_counts, taken, with_hints}
+use Rattle.mcs_check_lines.specs.Told.{counts_with, is_lost, is_miss, is_never, is_overdue, merged_in, more, told}
 use Rattle.mcs_check.specs.stored.Rows.{counted_at, counts_found, counts_in}
 
 cap-suc : (n k : ℕ) → capped (n + (1 + k)) ≡ capped (one_more n + k)

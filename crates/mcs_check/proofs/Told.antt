@@ -11,13 +11,13 @@ use Rattle.mcs_verdict.specs.Jobs.{job_of, jobs_in}
 use Rattle.mcs_check_words.specs.declared.asked.Format.{Format}
 use Rattle.mcs_check_words.specs.declared.asked.Show.{Show}
 use Rattle.mcs_check_words.specs.declared.asked.Show.TheVariants as show
-use Rattle.mcs_chain.specs.Watch.{all_due, all_slow_many, watch_of as chains_of}
+use Rattle.mcs_chain.specs.Watch.{all_due, all_judged_many, all_slow_many, watch_of as chains_of}
 use Rattle.mcs_chain.specs.Found.{all_unanswered}
 use Rattle.mcs_check.specs.declared.seen.Tables.{Tables}
 use Rattle.mcs_table.proofs.Ended.{length-accounts}
-use Rattle.mcs_check.specs.Counts.{is_allowed, told_of}
-use Rattle.mcs_check.specs.Formats.{job_line}
-use Rattle.mcs_check.specs.Told.{found_lines, job_lines}
+use Rattle.mcs_check_lines.specs.Counts.{is_allowed, told_of}
+use Rattle.mcs_check_lines.specs.Formats.{job_line}
+use Rattle.mcs_check_lines.specs.Told.{found_lines, job_lines}
 use Rattle.mcs_check.specs.stored.Rows.{due_lines, figures_of_all, kept_table, lines_in, lines_of, row_lines, tables_of, tabled_lines, shown_found, shown_job, told_at, told_line}
 
 module _ (how : Format) (system : System) (allowed : List Bool) where
@@ -109,6 +109,9 @@ module _ (system : System) (past : List Row) where
 
   pub no-slow : system.chains ≡ [] → all_slow_many (chains_of system past).each ≡ 0
   no-slow none = rw none refl
+
+  pub no-answers : system.chains ≡ [] → all_judged_many (chains_of system past).each ≡ 0
+  no-answers none = rw none refl
 
   pub no-unanswered : (horizon : ℕ) → system.chains ≡ [] → all_unanswered system past horizon 0 system.chains ≡ []
   no-unanswered horizon none = ap (all_unanswered system past horizon 0) none

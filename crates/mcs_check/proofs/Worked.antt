@@ -7,21 +7,16 @@ use Rattle.mcs_control.specs.declared.config.Mode.TheVariants as mode
 use Rattle.mcs_system.specs.declared.part.NotePart.{NotePart}
 use Rattle.mcs_system.specs.declared.part.ThreadPart.{ThreadPart}
 use Rattle.mcs_system.specs.System.{System}
-use Rattle.mcs_hints.specs.declared.hint.Hint.TheVariants.{Unsignalled, Unbound, Overcommitted}
 use Rattle.mcs_verdict.specs.declared.finding.Finding.{Finding}
-use Rattle.mcs_verdict.specs.declared.finding.Finding.TheVariants.{Overdue, Lost, Never}
+use Rattle.mcs_verdict.specs.declared.finding.Finding.TheVariants.{Lost}
 use Rattle.mcs_verdict.specs.declared.finding.Found.{Found}
-use Rattle.mcs_verdict.specs.declared.job.Job.{Job}
-use Rattle.mcs_verdict.specs.declared.standing.Stood.{Stood}
 use Rattle.mcs_check_words.specs.declared.asked.Format.TheVariants as format
 use Rattle.mcs_check_words.specs.declared.asked.Show.TheVariants as show
 use Rattle.mcs_check.specs.Allowed.{first_unknown, flags_of, nearest_of, notifications}
-use Rattle.mcs_check.specs.Check.{check_text}
-use Rattle.mcs_check.specs.Counts.{is_clean, no_counts}
-use Rattle.mcs_check.specs.Fields.{found_fields, job_fields}
-use Rattle.mcs_check.specs.Formats.{column_names, found_line, hint_line}
-use Rattle.mcs_check.specs.Lines.{found_text, hint_text, job_text}
-use Rattle.mcs_check.specs.Told.{counts_with, found_lines}
+use Rattle.mcs_check.specs.Check.{check_text, counts_of}
+use Rattle.mcs_check_lines.specs.Counts.{no_counts}
+use Rattle.mcs_check_lines.specs.Status.{status_of}
+use Rattle.mcs_check_lines.specs.Told.{counts_with, found_lines}
 use Rattle.mcs_check.specs.stored.Rows.{row_lines}
 
 abbrev note : List ℕ → NotePart
@@ -50,48 +45,59 @@ system deadline =
       chains = [];
     }
 
--- ready, running, throttled, blocked, woken
-abbrev parts : ℕ → ℕ → ℕ → ℕ → ℕ → Stood
-parts ready running throttled blocked woken =
-    record { pending = 0; ready = ready; running = running; throttled = throttled; blocked = blocked; woken = woken; done = 0 }
-
 abbrev found : ℕ → ℕ → Finding → Found
 found moment core finding = record { moment = moment; core = core; finding = finding }
 
 -- The round runs in [0, 2), [5, 7) and [10, 11): with a deadline of 10 it misses it by one tick ..
 whole_text : check_text [] (system 10) 20 format.Text show.Findings
     ≡ codes "11 0 miss A 1 11 deadline 10 activated 0 queued 0 ready 0 running 5 throttled 6 blocked 0 woken 0\n"
-    ++ codes "missed 1 overdue 0 lost 0 never 0 merged 0 allowed 0 hints 0\n"
+    ++ codes "missed 1 overdue 0 lost 0 never 0 merged 0 allowed 0 unjudged 0 hints 0 threads 1 deadlines 1 judged 1\n"
 unfolding row_lines system digits
 whole_text = refl
 
 -- .. and with one of 11 it is in time
-in_time : check_text [] (system 11) 20 format.Text show.Findings ≡ codes "missed 0 overdue 0 lost 0 never 0 merged 0 allowed 0 hints 0\n"
+in_time : check_text [] (system 11) 20 format.Text show.Findings ≡ codes "missed 0 overdue 0 lost 0 never 0 merged 0 allowed 0 unjudged 0 hints 0 threads 1 deadlines 1 judged 1\n"
 unfolding row_lines system digits
 in_time = refl
 
 -- at horizon 10 it is not ended, its deadline ago
 not_ended : check_text [] (system 10) 10 format.Text show.Findings
     ≡ codes "10 0 overdue A deadline 10 activated 0 queued 0 ready 0 running 4 throttled 6 blocked 0 woken 0\n"
-    ++ codes "missed 0 overdue 1 lost 0 never 0 merged 0 allowed 0 hints 0\n"
+    ++ codes "missed 0 overdue 1 lost 0 never 0 merged 0 allowed 0 unjudged 0 hints 0 threads 1 deadlines 1 judged 1\n"
 unfolding row_lines system digits
 not_ended = refl
+
+-- at horizon 9 nothing is judged: it was activated at 0, and its deadline is to come
+still_open : check_text [] (system 10) 9 format.Text show.Findings
+    ≡ codes "9 0 unjudged A deadline 10 activated 0\n"
+    ++ codes "missed 0 overdue 0 lost 0 never 0 merged 0 allowed 0 unjudged 1 hints 0 threads 1 deadlines 1 judged 0\n"
+unfolding row_lines system digits
+still_open = refl
+
+-- exit code 6, and 5 with --strict; at horizon 20 the round with a deadline of 11 is in time
+open_codes : (status_of false (counts_of [] (system 10) 9) ≡ 6) × (status_of true (counts_of [] (system 10) 9) ≡ 5)
+unfolding system
+open_codes = (refl, refl)
+
+code_in_time : status_of true (counts_of [] (system 11) 20) ≡ 0
+unfolding system
+code_in_time = refl
 
 -- as a job the round is shown whether it is in time or not, and is counted as before
 as_a_job : check_text [] (system 10) 20 format.Text show.Jobs
     ≡ codes "11 0 job A 1 activated 0 begun 0 response 11 queued 0 preemptions 0 ready 0 running 5 throttled 6 blocked 0 woken 0\n"
-    ++ codes "missed 1 overdue 0 lost 0 never 0 merged 0 allowed 0 hints 0\n"
+    ++ codes "missed 1 overdue 0 lost 0 never 0 merged 0 allowed 0 unjudged 0 hints 0 threads 1 deadlines 1 judged 1\n"
 unfolding system digits
 as_a_job = refl
 
 in_time_as_a_job : check_text [] (system 11) 20 format.Text show.Jobs
     ≡ codes "11 0 job A 1 activated 0 begun 0 response 11 queued 0 preemptions 0 ready 0 running 5 throttled 6 blocked 0 woken 0\n"
-    ++ codes "missed 0 overdue 0 lost 0 never 0 merged 0 allowed 0 hints 0\n"
+    ++ codes "missed 0 overdue 0 lost 0 never 0 merged 0 allowed 0 unjudged 0 hints 0 threads 1 deadlines 1 judged 1\n"
 unfolding system digits
 in_time_as_a_job = refl
 
 -- at horizon 10 no round has ended
-no_job : check_text [] (system 10) 10 format.Text show.Jobs ≡ codes "missed 0 overdue 1 lost 0 never 0 merged 0 allowed 0 hints 0\n"
+no_job : check_text [] (system 10) 10 format.Text show.Jobs ≡ codes "missed 0 overdue 1 lost 0 never 0 merged 0 allowed 0 unjudged 0 hints 0 threads 1 deadlines 1 judged 1\n"
 unfolding system digits
 no_job = refl
 
@@ -111,74 +117,10 @@ job_rows = refl
 as_objects : check_text [] (system 10) 10 format.Json show.Findings
     ≡ codes "{\"moment\":10,\"core\":0,\"kind\":\"overdue\",\"thread\":\"A\",\"deadline\":10,\"activated\":0,\"queued\":0,\"ready\":0,"
     ++ codes "\"running\":4,\"throttled\":6,\"blocked\":0,\"woken\":0}\n"
-    ++ codes "{\"kind\":\"counts\",\"missed\":0,\"overdue\":1,\"lost\":0,\"never\":0,\"merged\":0,\"allowed\":0,\"hints\":0}\n"
+    ++ codes "{\"kind\":\"counts\",\"missed\":0,\"overdue\":1,\"lost\":0,\"never\":0,\"merged\":0,\"allowed\":0,\"unjudged\":0,\"hints\":0,"
+    ++ codes "\"threads\":1,\"deadlines\":1,\"judged\":1}\n"
 unfolding row_lines system digits serde_json_on_literals
 as_objects = refl
-
-lost_row : found_line format.Csv (system 0) (found 12 3 (Lost 1 6)) ≡ codes "12,3,lost,,tock,6,,,,,,,,,,\n"
-unfolding system digits
-lost_row = refl
-
-never_object : found_line format.Json (system 0) (found 40 0 (Never 0 7))
-    ≡ codes "{\"moment\":40,\"core\":0,\"kind\":\"never\",\"thread\":\"A\",\"deadline\":7}\n"
-unfolding system digits serde_json_on_literals
-never_object = refl
-
-unbound_object : hint_line format.Json (system 0) (Unbound 0) ≡ codes "{\"kind\":\"hint\",\"hint\":\"unbound\",\"context\":\"a\"}\n"
-unfolding system serde_json_on_literals
-unbound_object = refl
-
--- all rows of CSV have the same columns, whatever is found
-found_columns : (system : System) (f : Found) → map (λ field. field.0) (found_fields system f) ≡ column_names show.Findings
-found_columns system f = refl
-
-job_columns : (system : System) (j : Job) → map (λ field. field.0) (job_fields system j) ≡ column_names show.Jobs
-job_columns system j = refl
-
--- a round that was activated 4 ticks before it began, and preempted twice
-abbrev called : Job
-called = record {
-  thread = 0;
-  number = 3;
-  activated = 30;
-  begun = 34;
-  ended = 50;
-  response = 20;
-  queued = 4;
-  preemptions = 2;
-  stood = parts 1 2 3 10 0;
-}
-
-job_line : job_text (system 0) called
-    ≡ codes "50 0 job A 3 activated 30 begun 34 response 20 queued 4 preemptions 2 ready 1 running 2 throttled 3 blocked 10 woken 0\n"
-unfolding system digits
-job_line = refl
-
-lost_line : found_text (system 0) (found 12 3 (Lost 1 6)) ≡ codes "12 3 lost tock 6\n"
-unfolding system digits
-lost_line = refl
-
-never_line : found_text (system 0) (found 40 0 (Never 0 7)) ≡ codes "40 0 never A deadline 7\n"
-unfolding system digits
-never_line = refl
-
--- a round that was activated 4 ticks before it began, and whose thread waits for a signal or was woken
-queued_line : found_text (system 0) (found 50 1 (Overdue 0 7 30 4 (parts 1 2 3 9 1)))
-    ≡ codes "50 1 overdue A deadline 7 activated 30 queued 4 ready 1 running 2 throttled 3 blocked 9 woken 1\n"
-unfolding system digits
-queued_line = refl
-
-unsignalled_line : hint_text (system 0) (Unsignalled 0) ≡ codes "hint note tick is waited on and no script signals it\n"
-unfolding system
-unsignalled_line = refl
-
-unbound_line : hint_text (system 0) (Unbound 0) ≡ codes "hint context a has no thread\n"
-unfolding system
-unbound_line = refl
-
-overcommitted_line : hint_text (system 0) (Overcommitted 2 1000001) ≡ codes "hint core 2 grants 1000001 of 1000000\n"
-unfolding system digits
-overcommitted_line = refl
 
 -- There are two lost signals. The one of `tick` is allowed: it has no line, and is counted
 -- separately.
@@ -194,16 +136,6 @@ one_is_told = refl
 
 one_is_allowed : counts_with (flags (codes "tick" ∷ [])) two_lost 0 0 no_counts ≡ record no_counts { lost = 1; allowed = 1 }
 one_is_allowed = refl
-
--- merged signals and hints are no findings, but hints may be asked to count
-merged_is_clean : is_clean true (record no_counts { merged = 3; allowed = 2 }) ≡ true
-merged_is_clean = refl
-
-hints_may_count : is_clean true (record no_counts { hints = 1 }) ≡ false
-hints_may_count = refl
-
-hints_are_none : is_clean false (record no_counts { hints = 1 }) ≡ true
-hints_are_none = refl
 
 -- The first name that no notification has. If there is no notification, there is no nearest name.
 known : first_unknown (note (codes "tick") ∷ note (codes "tock") ∷ []) (codes "tock" ∷ codes "tick" ∷ []) ≡ None

@@ -1,5 +1,5 @@
 -- The bytes that a check reads and writes.
-use Rattle.std.specs.Prelude.{Result, Ok, Err, Option, Some, None, ◌≡◌, ◌≢◌, ◌⊎◌, List, [], ℕ, Bool, true, false, ◌++◌, length, map, flat_map, string_bytes}
+use Rattle.std.specs.Prelude.{Result, Ok, Err, Option, Some, None, ◌≡◌, ◌≢◌, ◌⊎◌, List, [], ℕ, Bool, true, false, ◌++◌, length, map, flat_map, string_bytes, ⊤}
 use Rattle.std.specs.Io.KnownBytes.{Appends, Keeps}
 use Rattle.mcs_ticks.specs.declared.row.Row.{Row}
 use Rattle.mcs_system.specs.System.{System}
@@ -18,17 +18,19 @@ use Rattle.mcs_check_words.specs.declared.asked.Show.{Show}
 use Rattle.mcs_check_words.specs.declared.asked.Show.TheVariants as show
 use Rattle.mcs_chain.specs.Figures.{all_figures}
 use Rattle.mcs_chain.specs.Found.{all_slow, all_unanswered}
-use Rattle.mcs_check.specs.declared.checked.Checked.{Checked}
-use Rattle.mcs_check.specs.declared.counts.Counts.{Counts}
+use Rattle.mcs_check_lines.specs.declared.checked.Checked.{Checked}
+use Rattle.mcs_check_lines.specs.declared.counts.Counts.{Counts}
 use Rattle.mcs_check.specs.declared.fault.CheckFault.{CheckFault}
 use Rattle.mcs_check.specs.declared.fault.CheckFault.TheVariants.{Run, Unknown, Mixed}
 use Rattle.mcs_check.specs.Allowed.{IsUnknownFault, first_unknown, flags_of, notifications}
-use Rattle.mcs_check.specs.Chains.{chain_found_line, chain_found_lines, chain_lines, with_placed}
-use Rattle.mcs_check.specs.Checked.{chain_counts}
-use Rattle.mcs_check.specs.Counts.{no_counts}
-use Rattle.mcs_check.specs.Formats.{counts_line, found_line, head_text, hint_line, is_mixed}
-use Rattle.mcs_check.specs.Figures.{table_lines}
-use Rattle.mcs_check.specs.Told.{counts_with, found_lines, job_lines, merged_in, told}
+use Rattle.mcs_check.specs.Judged.{all_unjudged, scope_of}
+use Rattle.mcs_check_lines.specs.Chains.{chain_found_line, chain_found_lines, chain_lines, with_placed}
+use Rattle.mcs_check_lines.specs.Checked.{chain_counts}
+use Rattle.mcs_check_lines.specs.Counts.{no_counts}
+use Rattle.mcs_check_lines.specs.Formats.{counts_line, found_line, head_text, hint_line, is_mixed}
+use Rattle.mcs_check_lines.specs.Figures.{table_lines}
+use Rattle.mcs_check_lines.specs.Told.{counts_with, found_lines, job_lines, merged_in, told}
+use Rattle.mcs_check_lines.specs.Unjudged.{unjudged_line}
 
 -- the findings in the schedule of the one clock over all cores
 abbrev pub found_of : System → ℕ → List Found
@@ -46,7 +48,7 @@ module _ (names : List (List ℕ)) (system : System) (horizon : ℕ) where
       (merged_in system [] (schedule system horizon)) (length (hints_of system)) no_counts
 
   abbrev pub counts_of : Checked
-  counts_of = record { counts = thread_counts_of; chains = chain_counts system all_rows horizon }
+  counts_of = record { counts = thread_counts_of; scope = scope_of system all_rows horizon; chains = chain_counts system all_rows horizon }
 
   -- the lines of the rows' findings, in order of time; each slow answer stands after the findings of
   -- all rows of its time, chain by chain
@@ -55,12 +57,13 @@ module _ (names : List (List ℕ)) (system : System) (horizon : ℕ) where
       with_placed (map (λ f. (f.moment, found_line how system f)) (told (flags_of names system.notes) (found_in system [] (schedule system horizon))))
       (map (λ f. (f.moment, chain_found_line how system f)) (all_slow system all_rows 0 system.chains))
 
-  -- the lines of findings and hints: those of the rows, and those at the horizon
+  -- the lines of findings, unjudged threads and hints: those of the rows, and those at the horizon
   abbrev pub findings_lines : Format → List ℕ
   findings_lines how =
       rows_lines how
       ++ found_lines how system (flags_of names system.notes) (found_at_end system all_rows horizon 0 system.threads)
       ++ chain_found_lines how system (all_unanswered system all_rows horizon 0 system.chains)
+      ++ flat_map (unjudged_line how system) (all_unjudged system all_rows horizon)
       ++ flat_map (hint_line how system) (hints_of system)
 
   -- the lines of the figures
@@ -124,3 +127,11 @@ module _ (read_old read_new : Option (List ℕ)) (given_old given_new : ℕ) (re
     abbrev pub IsCheck : Result Checked CheckFault → Type 0
     IsCheck (Ok checked) = IsDone checked
     IsCheck (Err f) = IsFault f
+
+-- why a system is not checked: the options do not go together, a name is unknown, or memory ran out
+abbrev pub IsRefusal : Options → System → CheckFault → Type 0
+IsRefusal options system Mixed = is_mixed options.format options.show ≡ true
+IsRefusal options system (Unknown name nearest) = (given : List ℕ) × (first_unknown (notifications system) (names_of options) ≡ Some given)
+    × IsUnknownFault (notifications system) given (Unknown name nearest)
+IsRefusal options system (Run (run.Sim f)) = ⊤
+IsRefusal options system (Run fault) = ⊥

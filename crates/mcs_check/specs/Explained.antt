@@ -1,5 +1,5 @@
 -- The bytes that an explanation of a round reads and writes.
-use Rattle.std.specs.Prelude.{Result, Ok, Err, Option, Some, None, ◌≡◌, ◌≢◌, ◌⊎◌, List, ℕ, Bool, true, false, string_bytes}
+use Rattle.std.specs.Prelude.{Result, Ok, Err, Option, Some, None, ◌≡◌, ◌≢◌, ◌⊎◌, List, ℕ, Bool, true, false, string_bytes, ⊤}
 use Rattle.std.specs.Io.KnownBytes.{Appends, Keeps}
 use Rattle.mcs_system.specs.System.{System}
 use Rattle.mcs_load.specs.Memory.{no_memory}
@@ -44,3 +44,15 @@ module _ (write_old write_new : Option (List ℕ)) (write_failed : Bool) (option
         Keeps write_old write_new × (f ≢ no_memory → IsFaultOfInput read_old read_new given_old given_new f)
     IsExplained result = (is_mixed options ≡ false)
         × (system : System) × IsRead read_old read_new given_old given_new system × IsTold system result
+
+-- why a round of a system is not explained: an option does not go with it, there is no such thread
+-- or round, or memory ran out
+abbrev pub IsUnexplained : Options → List ℕ × List ℕ → System → WhyFault → Type 0
+IsUnexplained options question system Mixed = is_mixed options ≡ true
+IsUnexplained options question system (NoThread name nearest) =
+    (thread_named system.threads question.0 ≡ None) × IsNoThread system.threads question.0 (NoThread name nearest)
+IsUnexplained options question system (NoRound thread round rounds) =
+    (round_of system options.horizon question ≡ Some (Missing rounds.0))
+    × (string_bytes thread ≡ question.0) × (string_bytes round ≡ question.1)
+IsUnexplained options question system (Run (run.Sim f)) = ⊤
+IsUnexplained options question system (Run fault) = ⊥

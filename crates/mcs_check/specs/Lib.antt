@@ -1,13 +1,5 @@
 pub mod Allowed
-pub mod Counts
-pub mod Checked
-pub mod Lines
-pub mod Fields
-pub mod RowFields
-pub mod Formats
-pub mod Figures
-pub mod Told
-pub mod Chains
+pub mod Judged
 pub mod Check
 pub mod Fault
 pub mod Asked

@@ -1,20 +1,26 @@
 //! Findings by core: each core looks at its own rows as its turns make them.
 ghost use Rattle.std.specs.Prelude.{◌≡◌, ◌+◌, ◌++◌, ◌≤◌, ◌^◌, ℕ, Bool, List, [], drop, length, replicate, true, IfErr, IfOk, OnOk};
 ghost use Rattle.std.specs.Arc.{arc_value};
+ghost use Rattle.mcs_ticks.specs.Capped.{capped};
 ghost use Rattle.mcs_system.specs.WellFormed.{IsWellFormed};
 ghost use Rattle.mcs_core.specs.Clock.{schedule};
 ghost use Rattle.mcs_verdict.specs.Findings.{found_at_end, past_of};
 ghost use Rattle.mcs_check_words.specs.declared.asked.Show.TheVariants.{Findings};
+ghost use Rattle.mcs_check.specs.Judged.{all_unjudged, judged_rounds};
 ghost use Rattle.mcs_check.specs.stored.Found.{counts_so_far};
 ghost use Rattle.mcs_check.specs.stored.Pages.{PutsLines, PutsSome};
 ghost use Rattle.mcs_check.specs.stored.Rounds.{are_counted_together, AreWatched};
 ghost use Rattle.mcs_check.specs.stored.Rows.{lines_in};
+ghost use Rattle.mcs_check.specs.stored.Threads.{ended_of};
 
+use crate::Progress;
 use crate::core_watch::CoreWatch;
+use crate::ended::Ended;
 use crate::found_lines::FoundLines;
 use crate::progress::pass_round;
 use crate::rounds::{opening_cores, take_round};
-use crate::{Counts, Progress};
+use crate::unjudged::{keep_unjudged, unjudged};
+use mcs_check_lines::{Counts, Unjudged};
 use mcs_cli::Target;
 use mcs_system::{System, SystemParts};
 use mcs_team::FlowFault;
@@ -32,6 +38,10 @@ const ENOUGH: usize = 16_384;
 pub(crate) struct FoundByCore {
     pub(crate) counts: Counts,
     pub(crate) unended: Vec<Found>,
+    /// Rounds of threads with a deadline that ended, at most 2^64 - 1.
+    pub(crate) rounds: u64,
+    /// The threads that are unjudged at the horizon.
+    pub(crate) unjudged: Vec<Unjudged>,
 }
 
 /// Takes all turns of a system, in rounds, and writes the findings of each round. Returns the
@@ -48,6 +58,8 @@ pub(crate) fn look<T: Target, P: Progress>(
     ensures counts { IfOk result (λ found. found.counts ≡ counts_so_far lines.old.system.now allowed.now (past_of [] (schedule lines.old.system.now horizon))) }
     ensures unended { IfOk result (λ found. found.unended.items
         ≡ found_at_end lines.old.system.now (past_of [] (schedule lines.old.system.now horizon)) horizon 0 lines.old.system.now.threads) }
+    ensures rounds { IfOk result (λ found. found.rounds ≡ capped (judged_rounds lines.old.system.now (past_of [] (schedule lines.old.system.now horizon)))) }
+    ensures unjudged { IfOk result (λ found. found.unjudged.items ≡ all_unjudged lines.old.system.now (past_of [] (schedule lines.old.system.now horizon)) horizon) }
     ensures put { OnOk result (PutsLines T.contents T.has_failed lines.old
         (lines_in lines.old.system.now allowed.now lines.old.format Findings [] (schedule lines.old.system.now horizon)) true lines.new) }
     ensures fault { IfErr result (λ why. PutsSome T.contents T.has_failed lines.old
@@ -87,10 +99,18 @@ fn put_together(
     ensures counts { IfOk result (λ found. found.counts ≡ are_counted_together watches.now) }
     ensures unended { (allowed : List Bool) (from : ℕ) → AreWatched system.now allowed from (replicate system.now.cores (horizon + 1)) watches.now
         → IfOk result (λ found. found.unended.items ≡ found_at_end system.now (past_of [] (schedule system.now horizon)) horizon 0 system.now.threads) }
+    ensures rounds { (allowed : List Bool) (from : ℕ) → AreWatched system.now allowed from (replicate system.now.cores (horizon + 1)) watches.now
+        → IfOk result (λ found. found.rounds ≡ capped (judged_rounds system.now (past_of [] (schedule system.now horizon)))) }
+    ensures unjudged { (allowed : List Bool) (from : ℕ) → AreWatched system.now allowed from (replicate system.now.cores (horizon + 1)) watches.now
+        → IfOk result (λ found. found.unjudged.items ≡ all_unjudged system.now (past_of [] (schedule system.now horizon)) horizon) }
 {
+    let parts = system.parts();
+    let ended = ended(alloc, parts, horizon, watches)?;
     Ok(FoundByCore {
         counts: counted(watches),
-        unended: unended(alloc, system.parts(), horizon, watches)?,
+        unended: unended(alloc, parts, horizon, watches)?,
+        rounds: ended.judged(parts.threads.as_slice()),
+        unjudged: unjudged_by_core(alloc, parts, horizon, watches)?,
     })
 }
 
@@ -121,8 +141,54 @@ fn unended(
     let mut found = Vec::new(alloc);
     for (number, part) in parts.threads.as_slice().iter().enumerate() {
         let core = parts.core_of_thread(part);
-        let finding = watches[core.0].watch.unended(horizon, ThreadId(number));
+        let finding = watches[core.0]
+            .watch
+            .accounts
+            .unended(horizon, ThreadId(number));
         keep_finding(&mut found, horizon, core, finding)?;
     }
     Ok(found)
+}
+
+/// How many rounds of each thread ended. Each thread is asked for on its core.
+fn ended(
+    alloc: Global,
+    parts: &SystemParts,
+    horizon: Tick,
+    watches: &[CoreWatch],
+) -> Result<Ended, NoMemory>
+    requires well_formed { IsWellFormed parts.now }
+    requires many { length watches.now ≡ parts.now.cores }
+    ensures { (allowed : List Bool) (from : ℕ) → AreWatched parts.now allowed from (replicate parts.now.cores (horizon + 1)) watches.now
+        → IfOk result (λ ended. ended ≡ ended_of (length parts.now.threads) (past_of [] (schedule parts.now horizon))) }
+{
+    cores_are_watched();
+    let mut ended = Ended::new(alloc, 0)?;
+    for (number, part) in parts.threads.as_slice().iter().enumerate() {
+        let core = parts.core_of_thread(part);
+        ended.push(watches[core.0].watch.ended.of(ThreadId(number)))?;
+    }
+    Ok(ended)
+}
+
+/// The threads that are unjudged at the horizon. Each thread is asked for on its core.
+fn unjudged_by_core(
+    alloc: Global,
+    parts: &SystemParts,
+    horizon: Tick,
+    watches: &[CoreWatch],
+) -> Result<Vec<Unjudged>, NoMemory>
+    requires well_formed { IsWellFormed parts.now }
+    requires many { length watches.now ≡ parts.now.cores }
+    ensures { (allowed : List Bool) (from : ℕ) → AreWatched parts.now allowed from (replicate parts.now.cores (horizon + 1)) watches.now
+        → IfOk result (λ all. all.items ≡ all_unjudged parts.now (past_of [] (schedule parts.now horizon)) horizon) }
+{
+    cores_are_watched();
+    let mut all = Vec::new(alloc);
+    for (number, part) in parts.threads.as_slice().iter().enumerate() {
+        let core = parts.core_of_thread(part);
+        let one = unjudged(parts, &watches[core.0].watch, horizon, ThreadId(number));
+        keep_unjudged(&mut all, one)?;
+    }
+    Ok(all)
 }

@@ -3,23 +3,24 @@ ghost use Rattle.std.specs.Prelude.{◌≡◌, ◌++◌, ◌∷◌, [], List, If
 ghost use Rattle.mcs_ticks.specs.declared.row.Row.{Row as TheRow};
 ghost use Rattle.mcs_system.specs.System.{System as TheSystem};
 ghost use Rattle.mcs_verdict.specs.Findings.{finding, found_at, UpTo};
-ghost use Rattle.mcs_verdict.specs.Watch.{watch_of};
-ghost use Rattle.mcs_check.specs.Counts.{no_counts, told_of};
+ghost use Rattle.mcs_check_lines.specs.Counts.{no_counts, told_of};
 ghost use Rattle.mcs_check.specs.stored.Found.{told_by};
 ghost use Rattle.mcs_check.specs.stored.OwnRows.{since, until};
+ghost use Rattle.mcs_check.specs.stored.Threads.{threads_of};
 ghost use Rattle.mcs_check.specs.stored.Rows.{counted_at};
 
-use crate::Counts;
+use crate::thread_watch::ThreadWatch;
+use mcs_check_lines::Counts;
 use mcs_system::System;
 use mcs_ticks::{NoMemory, Refused, Row, Tick, What};
-use mcs_verdict::{Finding, Found, Watch};
+use mcs_verdict::{Finding, Found};
 use std::alloc::Global;
 
-/// The state kept of the rows of one core: its watch, its counts, and the findings that are not yet
-/// written.
+/// The state kept of the rows of one core: its watch of the threads, its counts, and the findings
+/// that are not yet written.
 #[derive(Drop)]
 pub(crate) struct CoreWatch {
-    pub(crate) watch: Watch,
+    pub(crate) watch: ThreadWatch,
     pub(crate) counts: Counts,
     /// The findings that are not yet written.
     pub(crate) found: Vec<Found>,
@@ -30,10 +31,10 @@ pub(crate) struct CoreWatch {
 impl CoreWatch {
     /// The state before the first row of a run. `NoMemory` if memory runs out.
     pub(crate) fn new(alloc: Global, system: &System) -> Result<CoreWatch, NoMemory>
-        ensures { IfOk result (λ own. (own.watch ≡ watch_of system.now []) × (own.counts ≡ no_counts) × (own.found.items ≡ []) × (own.rows ≡ 0)) }
+        ensures { IfOk result (λ own. (own.watch ≡ threads_of system.now []) × (own.counts ≡ no_counts) × (own.found.items ≡ []) × (own.rows ≡ 0)) }
     {
         Ok(CoreWatch {
-            watch: Watch::new(alloc, system)?,
+            watch: ThreadWatch::new(alloc, system)?,
             counts: Counts::new(),
             found: Vec::new(alloc),
             rows: 0,
@@ -46,11 +47,11 @@ impl CoreWatch {
     #[inline(always)]
     pub(crate) fn see(&mut self, allowed: &[bool], from: Tick, row: &Row) -> Result<(), Refused>
         ensures rows { self.new.rows ≡ self.old.rows }
-        ensures kept { (system : TheSystem) (past : List TheRow) → self.old.watch ≡ watch_of system past → UpTo row.now.moment past →
-            self.new.watch ≡ watch_of system (row.now ∷ past) }
-        ensures counted { (system : TheSystem) (past : List TheRow) → self.old.watch ≡ watch_of system past → UpTo row.now.moment past →
+        ensures kept { (system : TheSystem) (past : List TheRow) → self.old.watch ≡ threads_of system past → UpTo row.now.moment past →
+            self.new.watch ≡ threads_of system (row.now ∷ past) }
+        ensures counted { (system : TheSystem) (past : List TheRow) → self.old.watch ≡ threads_of system past → UpTo row.now.moment past →
             self.new.counts ≡ counted_at system allowed.now past row.now self.old.counts }
-        ensures found { (system : TheSystem) (past : List TheRow) → self.old.watch ≡ watch_of system past → UpTo row.now.moment past →
+        ensures found { (system : TheSystem) (past : List TheRow) → self.old.watch ≡ threads_of system past → UpTo row.now.moment past →
             OnOk result (self.new.found.items ≡ self.old.found.items ++ since from (told_by system allowed.now past row.now)) }
     {
         // Other rows have no finding.
@@ -66,11 +67,11 @@ impl CoreWatch {
     #[inline(never)]
     fn see_any(&mut self, allowed: &[bool], from: Tick, row: &Row) -> Result<(), Refused>
         ensures rows { self.new.rows ≡ self.old.rows }
-        ensures kept { (system : TheSystem) (past : List TheRow) → self.old.watch ≡ watch_of system past → UpTo row.now.moment past →
-            self.new.watch ≡ watch_of system (row.now ∷ past) }
-        ensures counted { (system : TheSystem) (past : List TheRow) → self.old.watch ≡ watch_of system past → UpTo row.now.moment past →
+        ensures kept { (system : TheSystem) (past : List TheRow) → self.old.watch ≡ threads_of system past → UpTo row.now.moment past →
+            self.new.watch ≡ threads_of system (row.now ∷ past) }
+        ensures counted { (system : TheSystem) (past : List TheRow) → self.old.watch ≡ threads_of system past → UpTo row.now.moment past →
             self.new.counts ≡ counted_at system allowed.now past row.now self.old.counts }
-        ensures found { (system : TheSystem) (past : List TheRow) → self.old.watch ≡ watch_of system past → UpTo row.now.moment past →
+        ensures found { (system : TheSystem) (past : List TheRow) → self.old.watch ≡ threads_of system past → UpTo row.now.moment past →
             OnOk result (self.new.found.items ≡ self.old.found.items ++ since from (told_by system allowed.now past row.now)) }
     {
         let finding = find(&mut self.watch, &mut self.counts, allowed, row);
@@ -98,16 +99,16 @@ impl CoreWatch {
 /// Takes one more row and returns its finding, unless that is an allowed lost signal.
 #[inline(always)]
 pub(crate) fn find(
-    watch: &mut Watch,
+    watch: &mut ThreadWatch,
     counts: &mut Counts,
     allowed: &[bool],
     row: &Row,
 ) -> Option<Finding>
-    ensures kept { (system : TheSystem) (past : List TheRow) → watch.old ≡ watch_of system past → UpTo row.now.moment past →
-        watch.new ≡ watch_of system (row.now ∷ past) }
-    ensures counted { (system : TheSystem) (past : List TheRow) → watch.old ≡ watch_of system past → UpTo row.now.moment past →
+    ensures kept { (system : TheSystem) (past : List TheRow) → watch.old ≡ threads_of system past → UpTo row.now.moment past →
+        watch.new ≡ threads_of system (row.now ∷ past) }
+    ensures counted { (system : TheSystem) (past : List TheRow) → watch.old ≡ threads_of system past → UpTo row.now.moment past →
         counts.new ≡ counted_at system allowed.now past row.now counts.old }
-    ensures told { (system : TheSystem) (past : List TheRow) → watch.old ≡ watch_of system past → UpTo row.now.moment past →
+    ensures told { (system : TheSystem) (past : List TheRow) → watch.old ≡ threads_of system past → UpTo row.now.moment past →
         result ≡ told_of allowed.now (finding system past row.now.moment row.now.what) }
 {
     if watch.merges(row) {

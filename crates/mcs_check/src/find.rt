@@ -1,53 +1,57 @@
 //! The findings in the rows of a system's schedule, and their lines.
 ghost use Rattle.std.specs.Prelude.{◌≡◌, [], List, None, false, IfErr, IfOk, OnOk};
 ghost use Rattle.std.specs.Arc.{arc_value};
+ghost use Rattle.mcs_ticks.specs.Capped.{capped};
 ghost use Rattle.mcs_ticks.specs.declared.row.Row.{Row as TheRow};
 ghost use Rattle.mcs_verdict.specs.Findings.{found_at_end, UpTo};
 ghost use Rattle.mcs_chain.specs.Found.{all_unanswered};
-ghost use Rattle.mcs_chain.specs.Watch.{all_due, all_slow_many, watch_of as chains_of};
+ghost use Rattle.mcs_chain.specs.Watch.{all_due, all_judged_many, all_slow_many, watch_of as chains_of};
 ghost use Rattle.mcs_cli.specs.Flow.{IsWriteFault};
 ghost use Rattle.mcs_check_words.specs.declared.asked.Show.{Show as TheShow};
 ghost use Rattle.mcs_check_words.specs.declared.asked.Show.TheVariants as show;
 ghost use Rattle.mcs_cli.specs.declared.fault.RunFault.TheVariants as fault;
 ghost use Rattle.mcs_team.specs.declared.run.SimFault.TheVariants as sim;
-ghost use Rattle.mcs_check.specs.Counts.{no_counts};
-ghost use Rattle.mcs_check.specs.Formats.{head_text};
+ghost use Rattle.mcs_check_lines.specs.Counts.{no_counts};
+ghost use Rattle.mcs_check_lines.specs.Formats.{head_text};
+ghost use Rattle.mcs_check.specs.Judged.{all_unjudged, judged_rounds};
 ghost use Rattle.mcs_check.specs.stored.AllFound.{kept_of, kept_with, text_of_rows, IsAllFound, IsAllSeen};
 ghost use Rattle.mcs_check.specs.stored.Rows.{kept_table, refusal};
 ghost use Rattle.mcs_check.specs.stored.Watches.{watches_of};
 
+use crate::Progress;
 use crate::all_found::{AllFound, Kept};
 use crate::by_core::{FoundByCore, look};
 use crate::finder::{Finder, Lines};
-use crate::format::put_head;
 use crate::found_lines::FoundLines;
-use crate::machine::Machine;
+use crate::machine::{Machine, Runner};
 use crate::seen::{Seen, Tables, Watches};
-use crate::{Counts, Progress};
+use crate::thread_watch::ThreadWatch;
+use crate::unjudged::all_unjudged;
 use mcs_chain::{Tallies, Watch as ChainWatch};
+use mcs_check_lines::{Counts, put_head};
 use mcs_check_words::{Options, Show};
-use mcs_cli::{Open, RunFault, Target};
+use mcs_cli::{RunFault, Target};
 use mcs_system::System;
 use mcs_table::Table;
-use mcs_team::{FlowFault, SimFault, schedule_to};
+use mcs_team::{FlowFault, SimFault};
 use mcs_ticks::{NoMemory, Tick};
 use mcs_verdict::{Watch, find_unended};
 use mcs_verdict_laws::schedules_are_in_order;
 use std::alloc::Global;
-use std::sync::{Arc, Wait};
-use std::thread::Threads;
+use std::sync::Arc;
 
 /// Finds what is to be shown of a system's schedule and writes its lines as the rows come. The last
 /// lines are returned, not yet written.
-pub(crate) fn find_rows<'s, H: Threads + Wait + Sync, T: Target, P: Progress>(
-    machine: &Machine<'_, H>,
+pub(crate) fn find_rows<'s, R: Runner, T: Target, P: Progress>(
+    machine: &Machine<'_, R>,
     target: &mut T,
     system: &'s Arc<System>,
     allowed: &'s [bool],
     options: &Options,
     progress: &mut P,
 ) -> Result<AllFound, RunFault>
-    requires { T.has_failed target.old ≡ false }
+    requires can_run { R.can_run }
+    requires working { T.has_failed target.old ≡ false }
     ensures ok { IfOk result (IsAllFound (arc_value system.now) allowed.now options.now (T.contents target.old) (T.contents target.new)) }
     ensures working { OnOk result (T.has_failed target.new ≡ false) }
     ensures fault { IfErr result
@@ -97,15 +101,16 @@ fn find_by_core<'s, T: Target, P: Progress>(
 }
 
 /// `find_rows` whatever is shown: the rows of all cores are merged into one order.
-fn find_merged<'s, H: Threads + Wait + Sync, T: Target, P: Progress>(
-    machine: &Machine<'_, H>,
+fn find_merged<'s, R: Runner, T: Target, P: Progress>(
+    machine: &Machine<'_, R>,
     target: &mut T,
     system: &'s Arc<System>,
     allowed: &'s [bool],
     options: &Options,
     progress: &mut P,
 ) -> Result<AllFound, RunFault>
-    requires { T.has_failed target.old ≡ false }
+    requires can_run { R.can_run }
+    requires working { T.has_failed target.old ≡ false }
     ensures ok { IfOk result (IsAllFound (arc_value system.now) allowed.now options.now (T.contents target.old) (T.contents target.new)) }
     ensures working { OnOk result (T.has_failed target.new ≡ false) }
     ensures fault { IfErr result
@@ -118,15 +123,16 @@ fn find_merged<'s, H: Threads + Wait + Sync, T: Target, P: Progress>(
 }
 
 /// Watches the merged rows of a system, whatever is shown.
-fn find_in_rows<'s, H: Threads + Wait + Sync, T: Target, P: Progress>(
-    machine: &Machine<'_, H>,
+fn find_in_rows<'s, R: Runner, T: Target, P: Progress>(
+    machine: &Machine<'_, R>,
     target: &mut T,
     system: &'s Arc<System>,
     allowed: &'s [bool],
     options: &Options,
     progress: &mut P,
 ) -> Result<Seen, RunFault>
-    requires { T.has_failed target.old ≡ false }
+    requires can_run { R.can_run }
+    requires working { T.has_failed target.old ≡ false }
     ensures ok { IfOk result (IsAllSeen (arc_value system.now) allowed.now options.now (T.contents target.old) (T.contents target.new)) }
     ensures working { OnOk result (T.has_failed target.new ≡ false) }
     ensures fault { IfErr result
@@ -134,7 +140,7 @@ fn find_in_rows<'s, H: Threads + Wait + Sync, T: Target, P: Progress>(
 {
     schedules_are_in_order();
     let _parts = system.parts();
-    let (rt, alloc) = (machine.rt, machine.alloc);
+    let (runner, alloc) = (machine.runner, machine.alloc);
     let Ok(shared) = Arc::try_clone(system) else {
         return Err(RunFault::Sim(SimFault::NoMemory));
     };
@@ -143,8 +149,7 @@ fn find_in_rows<'s, H: Threads + Wait + Sync, T: Target, P: Progress>(
     };
     let lines = Lines::new(alloc, target);
     let mut finder = Finder::new(lines, options, system, allowed, &mut seen, progress);
-    let (horizon, workers) = (options.horizon, options.workers);
-    let result = schedule_to(rt, alloc, shared, horizon, workers, &Open, &mut finder);
+    let result = runner.schedule_to(alloc, shared, options.horizon, &mut finder);
     match result {
         Ok(()) => Ok(seen),
         Err(FlowFault::NoMemory) => {
@@ -174,7 +179,7 @@ fn no_watches(alloc: Global, system: &System) -> Result<Watches, NoMemory>
     ensures { IfOk result (λ watches. watches ≡ watches_of system.now []) }
 {
     Ok(Watches {
-        threads: Watch::new(alloc, system)?,
+        threads: ThreadWatch::new(alloc, system)?,
         chains: ChainWatch::new(alloc, system)?,
     })
 }
@@ -183,16 +188,25 @@ fn no_watches(alloc: Global, system: &System) -> Result<Watches, NoMemory>
 fn found_with(alloc: Global, found: FoundByCore, text: Vec<u8>) -> AllFound
     ensures counts { result.counts ≡ found.counts }
     ensures unended { result.unended ≡ found.unended }
+    ensures judged { (result.rounds ≡ found.rounds) × (result.answers ≡ 0) × (result.unjudged ≡ found.unjudged) }
     ensures text { result.text ≡ text }
     ensures none { (result.due.items ≡ []) × (result.slow ≡ 0) × (result.unanswered.items ≡ []) × (result.kept ≡ None) }
 {
-    let FoundByCore { counts, unended } = found;
+    let FoundByCore {
+        counts,
+        unended,
+        rounds,
+        unjudged,
+    } = found;
     AllFound {
         counts,
         unended,
         due: Vec::new(alloc),
         slow: 0,
         unanswered: Vec::new(alloc),
+        rounds,
+        answers: 0,
+        unjudged,
         kept: None,
         text,
     }
@@ -213,11 +227,15 @@ fn all_found(
         IfOk result (λ found. found.unanswered.items ≡ all_unanswered system.now past horizon 0 system.now.chains) }
     ensures unended { (past : List TheRow) → seen.watch ≡ watches_of system.now past → UpTo horizon past →
         IfOk result (λ found. found.unended.items ≡ found_at_end system.now past horizon 0 system.now.threads) }
+    ensures rounds { (past : List TheRow) → seen.watch ≡ watches_of system.now past → IfOk result (λ found. found.rounds ≡ capped (judged_rounds system.now past)) }
+    ensures answers { (past : List TheRow) → seen.watch ≡ watches_of system.now past → IfOk result (λ found. found.answers ≡ all_judged_many (chains_of system.now past).each) }
+    ensures unjudged { (past : List TheRow) → seen.watch ≡ watches_of system.now past → UpTo horizon past →
+        IfOk result (λ found. found.unjudged.items ≡ all_unjudged system.now past horizon) }
     ensures kept { (asked : TheShow) (past : List TheRow) → seen.watch ≡ watches_of system.now past → seen.table ≡ kept_table asked system.now horizon past →
         IfOk result (λ found. found.kept ≡ kept_of asked system.now horizon past) }
     ensures fault { IfErr result (λ why. why ≡ fault.Sim sim.NoMemory) }
 {
-    let Ok(unended) = find_unended(alloc, system, &seen.watch.threads, horizon) else {
+    let Ok(unended) = find_unended(alloc, system, &seen.watch.threads.accounts, horizon) else {
         return Err(RunFault::Sim(SimFault::NoMemory));
     };
     let Ok(due) = seen.watch.chains.due(alloc, None) else {
@@ -226,21 +244,30 @@ fn all_found(
     let Ok(unanswered) = seen.watch.chains.unanswered(alloc, system, horizon) else {
         return Err(RunFault::Sim(SimFault::NoMemory));
     };
+    let Ok(unjudged) = all_unjudged(alloc, system.parts(), &seen.watch.threads, horizon) else {
+        return Err(RunFault::Sim(SimFault::NoMemory));
+    };
     let slow = seen.watch.chains.slow();
+    let answers = seen.watch.chains.judged();
+    let ended = &seen.watch.threads.ended;
+    let rounds = ended.judged(system.parts().threads.as_slice());
     let Seen {
         watch,
         counts,
         table,
         text,
     } = seen;
-    let Watches { threads, .. } = watch;
+    let ThreadWatch { accounts, .. } = watch.threads;
     Ok(AllFound {
         counts,
         unended,
         due,
         slow,
         unanswered,
-        kept: kept_with(threads, table),
+        rounds,
+        answers,
+        unjudged,
+        kept: kept_with(accounts, table),
         text,
     })
 }

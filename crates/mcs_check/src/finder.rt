@@ -4,15 +4,15 @@ ghost use Rattle.mcs_ticks.specs.declared.row.Row.{Row as TheRow};
 ghost use Rattle.mcs_verdict.specs.Findings.{UpTo};
 ghost use Rattle.mcs_cli.specs.Devices.{AppendsPrefix};
 ghost use Rattle.mcs_cli.specs.Flow.{AppendsBefore, TakesLine};
-ghost use Rattle.mcs_check.specs.stored.Rows.{counted_at, due_lines, failed_after, kept_table, row_lines, shown_text, told_at};
+ghost use Rattle.mcs_check.specs.stored.Rows.{counted_at, due_lines, failed_after, kept_table, row_lines, told_at};
+ghost use Rattle.mcs_check_lines.specs.Shown.{shown_text};
 ghost use Rattle.mcs_chain.specs.Watch.{all_due, watch_of as chains_of};
 ghost use Rattle.mcs_check.specs.stored.Watches.{watches_of};
 
 use crate::Progress;
-use crate::format::put_shown;
 use crate::progress::pass;
 use crate::seen::Seen;
-use crate::shown::Shown;
+use mcs_check_lines::{Shown, put_shown};
 use mcs_check_words::{Format, Options, Show};
 use mcs_cli::{Target, write_bytes};
 use mcs_system::System;

@@ -1,11 +1,11 @@
 //! The lines of findings on their way to a target.
 ghost use Rattle.std.specs.Prelude.{◌≡◌, is_ok};
-ghost use Rattle.mcs_check.specs.Formats.{found_line};
+ghost use Rattle.mcs_check_lines.specs.Formats.{found_line};
 ghost use Rattle.mcs_check.specs.stored.Pages.{founds_text, PutsLines};
 
 use crate::Progress;
 use crate::finder::Lines;
-use crate::shown::Shown;
+use mcs_check_lines::Shown;
 use mcs_check_words::Format;
 use mcs_cli::Target;
 use mcs_system::System;

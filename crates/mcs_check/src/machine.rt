@@ -1,10 +1,99 @@
-//! The machine that runs use.
+//! The machine that runs use: a team of threads, or the caller's thread alone.
+ghost use Rattle.std.specs.Prelude.{◌≡◌, ◌≤◌, ◌^◌, ⊤, IfErr, OnErr, OnOk};
+ghost use Rattle.std.specs.Arc.{arc_value};
+ghost use Rattle.std.specs.Thread.{IsSync};
+ghost use Rattle.mcs_core.specs.Clock.{schedule};
+ghost use Rattle.mcs_team.specs.Flow.{IsFlowFault};
+ghost use Rattle.mcs_ticks.specs.Given.{Given, GivenUntil};
 
+use mcs_system::System;
+use mcs_team::{FlowFault, Open, schedule_to, simulate_alone};
+use mcs_ticks::{Refused, Row, Sink, Tick};
 use std::alloc::Global;
+use std::sync::{Arc, Wait};
+use std::thread::Threads;
 
-/// The runtime for threads, and the allocator.
+/// A way to run a system: with a team of threads, or alone.
+pub(crate) trait Runner {
+    ghost can_run: { Type 0 };
+
+    /// Gives the rows of a system's schedule up to the horizon, at most 2^40, to a sink, in order.
+    ///
+    /// Errors:
+    /// - `Sink` if the sink refused a row. It is given no other row after that.
+    /// - `NoMemory` if an allocation failed. The sink has then taken some first rows.
+    fn schedule_to<S: Sink>(
+        &self,
+        alloc: Global,
+        system: Arc<System>,
+        horizon: Tick,
+        sink: &mut S,
+    ) -> Result<(), FlowFault>
+        requires can_run { can_run }
+        requires in_range { horizon ≤ 2 ^ 40 }
+        ensures given { OnOk result (Given S.takes sink.old (schedule (arc_value system) horizon) sink.new) }
+        ensures fault { IfErr result (IsFlowFault S.takes (arc_value system) horizon sink.old sink.new) };
+}
+
+/// Runs a system with a team of at most `workers` threads, while this one takes their rows.
 #[derive(Drop)]
-pub(crate) struct Machine<'a, H> {
+pub(crate) struct Team<'a, H: Threads + Wait + Sync> {
     pub(crate) rt: &'a H,
+    pub(crate) workers: usize,
+}
+
+impl<H: Threads + Wait + Sync> Runner for Team<'_, H> {
+    ghost can_run = { IsSync H.row };
+
+    fn schedule_to<S: Sink>(
+        &self,
+        alloc: Global,
+        system: Arc<System>,
+        horizon: Tick,
+        sink: &mut S,
+    ) -> Result<(), FlowFault> {
+        schedule_to(self.rt, alloc, system, horizon, self.workers, &Open, sink)
+    }
+}
+
+/// This thread alone. It keeps all rows until the last one is made.
+#[derive(Clone, Copy, Debug, Drop)]
+pub(crate) struct Alone;
+
+impl Runner for Alone {
+    ghost can_run = { ⊤ };
+
+    fn schedule_to<S: Sink>(
+        &self,
+        alloc: Global,
+        system: Arc<System>,
+        horizon: Tick,
+        sink: &mut S,
+    ) -> Result<(), FlowFault> {
+        let Ok(whole) = simulate_alone(alloc, system, horizon) else {
+            return Err(FlowFault::NoMemory);
+        };
+        if give(whole.rows.as_slice(), sink).is_err() {
+            return Err(FlowFault::Sink);
+        }
+        Ok(())
+    }
+}
+
+/// Gives these rows to a sink, up to the first that it refuses.
+fn give<S: Sink>(rows: &[Row], sink: &mut S) -> Result<(), Refused>
+    ensures given { OnOk result (Given S.takes sink.old rows.now sink.new) }
+    ensures refused { OnErr result (GivenUntil S.takes sink.old rows.now sink.new) }
+{
+    for row in rows {
+        sink.row(row)?;
+    }
+    Ok(())
+}
+
+/// A runner and the allocator.
+#[derive(Drop)]
+pub(crate) struct Machine<'a, R: Runner> {
+    pub(crate) runner: &'a R,
     pub(crate) alloc: Global,
 }

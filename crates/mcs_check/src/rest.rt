@@ -3,19 +3,19 @@ ghost use Rattle.std.specs.Prelude.{◌≡◌, ◌++◌, List, length, flat_map,
 ghost use Rattle.mcs_ticks.specs.declared.row.Row.{Row as TheRow};
 ghost use Rattle.mcs_verdict.specs.Findings.{UpTo};
 ghost use Rattle.mcs_hints.specs.Hints.{hints_of};
-ghost use Rattle.mcs_check.specs.Checked.{if_chains};
-ghost use Rattle.mcs_check.specs.Counts.{with_hints};
-ghost use Rattle.mcs_check.specs.Formats.{counts_line, hint_line};
-ghost use Rattle.mcs_check.specs.Told.{found_lines};
+ghost use Rattle.mcs_check_lines.specs.Counts.{with_hints};
+ghost use Rattle.mcs_check_lines.specs.Formats.{counts_line, hint_line};
+ghost use Rattle.mcs_check_lines.specs.Told.{found_lines};
+ghost use Rattle.mcs_check_lines.specs.Unjudged.{unjudged_line};
 ghost use Rattle.mcs_check.specs.stored.AllFound.{checked_of, kept_of, IsKeptOf};
 ghost use Rattle.mcs_check.specs.stored.Rows.{counts_found, rest_lines, tabled_lines};
 
 use crate::all_found::{AllFound, Kept};
-use crate::chain_line::{put_chains, put_chains_found};
-use crate::counts::is_allowed;
-use crate::figures::put_table;
-use crate::format::{put_counts_as, put_found_as, put_hint_as};
-use crate::{ChainCounts, Checked, Counts};
+use crate::scope::checked_of;
+use mcs_check_lines::{
+    Counts, Unjudged, is_allowed, put_chains, put_chains_found, put_counts_as, put_found_as,
+    put_hint_as, put_table, put_unjudged_as,
+};
 use mcs_check_words::{Format, Options, Show};
 use mcs_hints::{Hint, hints};
 use mcs_system::System;
@@ -24,7 +24,7 @@ use mcs_verdict::Found;
 use std::alloc::Global;
 
 /// Appends the lines after the last row, and then the counts. Findings are followed by those at the
-/// horizon and the hints, and the figures come if they are asked for.
+/// horizon, the unjudged threads and the hints, and the figures come if they are asked for.
 pub(crate) fn put_rest(
     alloc: Global,
     options: &Options,
@@ -35,13 +35,12 @@ pub(crate) fn put_rest(
     requires { IfSome all.old.kept (IsKeptOf system.now) }
     ensures text { (past : List TheRow) → all.old.kept ≡ kept_of options.now.show system.now options.now.horizon past → UpTo options.now.horizon past →
         OnOk result (all.new.text.items ≡ all.old.text.items
-        ++ rest_lines options.now.format options.now.show system.now allowed.now all.old.due.items all.old.unended.items all.old.unanswered.items
+        ++ rest_lines options.now.format options.now.show system.now allowed.now all.old.due.items all.old.unended.items all.old.unanswered.items all.old.unjudged.items
         ++ tabled_lines options.now.format options.now.show system.now options.now.horizon past
         ++ counts_line options.now.format (checked_of system.now all.new)) }
     ensures counts { OnOk result (all.new.counts ≡ with_hints (length (hints_of system.now))
         (counts_found allowed.now all.old.unended.items all.old.counts)) }
-    ensures slow { all.new.slow ≡ all.old.slow }
-    ensures unanswered { all.new.unanswered ≡ all.old.unanswered }
+    ensures others { all.new ≡ record all.old { text = all.new.text; counts = all.new.counts } }
 {
     let hints = hints(alloc, system)?;
     put_ends(alloc, options, all, system, allowed, hints.as_slice())?;
@@ -51,33 +50,6 @@ pub(crate) fn put_rest(
     all.counts.hint(hints.len());
     let checked = checked_of(system, all);
     put_counts_as(alloc, &mut all.text, options.format, &checked)
-}
-
-/// The counts of all that was found.
-pub(crate) fn checked_of(system: &System, all: &AllFound) -> Checked
-    ensures { result ≡ checked_of system.now all.now }
-{
-    Checked {
-        counts: all.counts,
-        chains: if_chains(
-            system,
-            ChainCounts {
-                slow: all.slow,
-                unanswered: all.unanswered.len() as u64,
-            },
-        ),
-    }
-}
-
-/// The counts of chains, if the file has a chain.
-fn if_chains(system: &System, counts: ChainCounts) -> Option<ChainCounts>
-    ensures { result ≡ if_chains system.now.chains counts }
-{
-    if system.parts().chains.is_empty() {
-        None
-    } else {
-        Some(counts)
-    }
 }
 
 /// Appends the lines of the figures, if they are kept.
@@ -103,7 +75,7 @@ fn put_tabled(
     }
 }
 
-/// Appends the findings at the horizon and the hints, if findings are shown.
+/// Appends the findings at the horizon, the unjudged threads and the hints, if findings are shown.
 fn put_ends(
     alloc: Global,
     options: &Options,
@@ -115,7 +87,7 @@ fn put_ends(
     requires { hints.now ≡ hints_of system.now }
     ensures text { OnOk result
         (all.new.text.items ≡ all.old.text.items
-        ++ rest_lines options.now.format options.now.show system.now allowed.now all.old.due.items all.old.unended.items all.old.unanswered.items) }
+        ++ rest_lines options.now.format options.now.show system.now allowed.now all.old.due.items all.old.unended.items all.old.unanswered.items all.old.unjudged.items) }
     ensures others { all.new ≡ record all.old { text = all.new.text } }
 {
     let (text, format) = (&mut all.text, options.format);
@@ -124,6 +96,7 @@ fn put_ends(
             put_chains_found(alloc, text, format, system, all.due.as_slice())?;
             put_all(alloc, text, format, system, allowed, all.unended.as_slice())?;
             put_chains_found(alloc, text, format, system, all.unanswered.as_slice())?;
+            put_all_unjudged(alloc, text, format, system, all.unjudged.as_slice())?;
             put_hints(alloc, text, format, system, hints)
         }
         Show::Jobs | Show::Table => Ok(()),
@@ -156,6 +129,22 @@ fn count_all(counts: &mut Counts, allowed: &[bool], all: &[Found])
     for found in all {
         counts.take(allowed, Some(found.finding));
     }
+}
+
+/// Appends the lines of unjudged threads.
+fn put_all_unjudged(
+    alloc: Global,
+    text: &mut Vec<u8>,
+    format: Format,
+    system: &System,
+    all: &[Unjudged],
+) -> Result<(), NoMemory>
+    ensures { OnOk result (text.new.items ≡ text.old.items ++ flat_map (unjudged_line format system.now) all.now) }
+{
+    for unjudged in all {
+        put_unjudged_as(alloc, text, format, system, unjudged)?;
+    }
+    Ok(())
 }
 
 /// Appends the lines of the hints.

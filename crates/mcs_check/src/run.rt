@@ -7,10 +7,11 @@ ghost use Rattle.mcs_check.specs.declared.fault.CheckFault.TheVariants.{Run};
 
 use crate::allowed::{flags_of, refuse_unknown};
 use crate::find::find_rows;
-use crate::format::is_mixed;
-use crate::machine::Machine;
-use crate::rest::{checked_of, put_rest};
-use crate::{CheckFault, Checked, Progress};
+use crate::machine::{Machine, Runner, Team};
+use crate::rest::put_rest;
+use crate::scope::checked_of;
+use crate::{CheckFault, Progress};
+use mcs_check_lines::{Checked, is_mixed};
 use mcs_check_words::Options;
 use mcs_cli::{FromRead, RunFault, Source, Target, read_system, write_text};
 use mcs_system::System;
@@ -88,20 +89,28 @@ pub fn check<H: Threads + Wait + Sync, S: Source, T: Target, P: Progress>(
     }
     let system = read_system(alloc, source)?;
     refuse_unknown(alloc, system.parts(), options.allowed.as_slice())?;
-    let checked = write_check(rt, alloc, target, system, options, progress)?;
+    let team = Team {
+        rt,
+        workers: options.workers,
+    };
+    let machine = Machine {
+        runner: &team,
+        alloc,
+    };
+    let checked = write_check(&machine, target, system, options, progress)?;
     Ok(checked)
 }
 
 /// Simulates a system, writes what is shown of it, and returns the counts.
-fn write_check<H: Threads + Wait + Sync, T: Target, P: Progress>(
-    rt: &H,
-    alloc: Global,
+pub(crate) fn write_check<R: Runner, T: Target, P: Progress>(
+    machine: &Machine<'_, R>,
     target: &mut T,
     system: System,
     options: &Options,
     progress: &mut P,
 ) -> Result<Checked, RunFault>
-    requires { T.has_failed target.old ≡ false }
+    requires can_run { R.can_run }
+    requires working { T.has_failed target.old ≡ false }
     ensures ok { OnOk result
         (Appends (T.contents target.old) (T.contents target.new) (check_text (names_of options.now) system options.now.horizon options.now.format options.now.show)) }
     ensures counted { IfOk result (λ counts. counts ≡ counts_of (names_of options.now) system options.now.horizon) }
@@ -112,6 +121,7 @@ fn write_check<H: Threads + Wait + Sync, T: Target, P: Progress>(
 {
     schedules_are_in_order();
     let _parts = system.parts();
+    let alloc = machine.alloc;
     let Ok(system) = Arc::new(alloc, system) else {
         return Err(RunFault::Sim(SimFault::NoMemory));
     };
@@ -119,8 +129,7 @@ fn write_check<H: Threads + Wait + Sync, T: Target, P: Progress>(
         return Err(RunFault::Sim(SimFault::NoMemory));
     };
     let allowed = allowed.as_slice();
-    let machine = Machine { rt, alloc };
-    let found = find_rows(&machine, target, &system, allowed, options, progress);
+    let found = find_rows(machine, target, &system, allowed, options, progress);
     progress.wipe();
     let mut all = found?;
     if put_rest(alloc, options, &mut all, &system, allowed).is_err() {

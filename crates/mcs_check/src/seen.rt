@@ -3,32 +3,30 @@ ghost use Rattle.mcs_ticks.specs.declared.row.Row.{Row as TheRow};
 ghost use Rattle.mcs_system.specs.System.{System as TheSystem};
 ghost use Rattle.mcs_verdict.specs.Findings.{finding, UpTo};
 ghost use Rattle.mcs_verdict.specs.Jobs.{job_of};
-ghost use Rattle.mcs_verdict.specs.Watch.{watch_of};
 ghost use Rattle.mcs_verdict.specs.Words.{merges};
 ghost use Rattle.mcs_table.specs.Table.{table_of, Table as TheTable};
-ghost use Rattle.mcs_check.specs.Counts.{told_of};
+ghost use Rattle.mcs_check_lines.specs.Counts.{told_of};
+ghost use Rattle.mcs_check.specs.stored.Threads.{threads_of};
 ghost use Rattle.mcs_check.specs.stored.Rows.{counted_at, due_lines, if_figures, shown_at, shown_found, told_line};
 ghost use Rattle.mcs_chain.specs.Figures.{tallies_of, Tally as TheTally};
 ghost use Rattle.mcs_chain.specs.Watch.{all_due, watch_of as chains_of};
 ghost use Rattle.mcs_check_words.specs.declared.asked.Show.{Show as TheShow};
 
-use crate::Counts;
-use crate::chain_line::put_chains_found;
 use crate::core_watch::find;
-use crate::format::put_shown;
-use crate::shown::Shown;
+use crate::thread_watch::ThreadWatch;
 use mcs_chain::{Tallies, Watch as ChainWatch};
+use mcs_check_lines::{Counts, Shown, put_chains_found, put_shown};
 use mcs_check_words::{Format, Show};
 use mcs_system::System;
 use mcs_table::Table;
 use mcs_ticks::{NoMemory, Row, Tick};
-use mcs_verdict::{Finding, Found, Job, Watch};
+use mcs_verdict::{Finding, Found, Job};
 use std::alloc::Global;
 
 /// What is kept of the threads and of the chains.
 #[derive(Drop)]
 pub(crate) struct Watches {
-    pub(crate) threads: Watch,
+    pub(crate) threads: ThreadWatch,
     pub(crate) chains: ChainWatch,
 }
 
@@ -56,14 +54,14 @@ impl Seen {
     #[inline(always)]
     pub(crate) fn see(&mut self, show: Show, allowed: &[bool], row: &Row) -> Option<Shown>
         ensures text { self.new.text ≡ self.old.text }
-        ensures kept { (system : TheSystem) (past : List TheRow) → self.old.watch.threads ≡ watch_of system past → UpTo row.now.moment past →
-            self.new.watch.threads ≡ watch_of system (row.now ∷ past) }
-        ensures counted { (system : TheSystem) (past : List TheRow) → self.old.watch.threads ≡ watch_of system past → UpTo row.now.moment past →
+        ensures kept { (system : TheSystem) (past : List TheRow) → self.old.watch.threads ≡ threads_of system past → UpTo row.now.moment past →
+            self.new.watch.threads ≡ threads_of system (row.now ∷ past) }
+        ensures counted { (system : TheSystem) (past : List TheRow) → self.old.watch.threads ≡ threads_of system past → UpTo row.now.moment past →
             self.new.counts ≡ counted_at system allowed.now past row.now self.old.counts }
-        ensures told { (system : TheSystem) (past : List TheRow) → self.old.watch.threads ≡ watch_of system past → UpTo row.now.moment past →
+        ensures told { (system : TheSystem) (past : List TheRow) → self.old.watch.threads ≡ threads_of system past → UpTo row.now.moment past →
             result ≡ shown_at system allowed.now show past row.now }
         ensures chains { self.new.watch.chains ≡ self.old.watch.chains }
-        ensures tabled { (system : TheSystem) (horizon : ℕ) (past : List TheRow) (chains : List TheTally) → self.old.watch.threads ≡ watch_of system past →
+        ensures tabled { (system : TheSystem) (horizon : ℕ) (past : List TheRow) (chains : List TheTally) → self.old.watch.threads ≡ threads_of system past →
             UpTo row.now.moment past → self.old.table ≡ if_figures show (record { threads = table_of system horizon past; chains = chains }) →
             self.new.table ≡ if_figures show (record { threads = table_of system horizon (row.now ∷ past); chains = chains }) }
     {
@@ -149,11 +147,11 @@ impl Seen {
         ensures text { self.new.text ≡ self.old.text }
         ensures chains { self.new.watch.chains ≡ self.old.watch.chains }
         ensures table { self.new.table ≡ self.old.table }
-        ensures kept { (system : TheSystem) (past : List TheRow) → self.old.watch.threads ≡ watch_of system past → UpTo row.now.moment past →
-            self.new.watch.threads ≡ watch_of system (row.now ∷ past) }
-        ensures counted { (system : TheSystem) (past : List TheRow) → self.old.watch.threads ≡ watch_of system past → UpTo row.now.moment past →
+        ensures kept { (system : TheSystem) (past : List TheRow) → self.old.watch.threads ≡ threads_of system past → UpTo row.now.moment past →
+            self.new.watch.threads ≡ threads_of system (row.now ∷ past) }
+        ensures counted { (system : TheSystem) (past : List TheRow) → self.old.watch.threads ≡ threads_of system past → UpTo row.now.moment past →
             self.new.counts ≡ counted_at system allowed.now past row.now self.old.counts }
-        ensures told { (system : TheSystem) (past : List TheRow) → self.old.watch.threads ≡ watch_of system past → UpTo row.now.moment past →
+        ensures told { (system : TheSystem) (past : List TheRow) → self.old.watch.threads ≡ threads_of system past → UpTo row.now.moment past →
             result ≡ told_of allowed.now (finding system past row.now.moment row.now.what) }
     {
         find(&mut self.watch.threads, &mut self.counts, allowed, row)
@@ -162,14 +160,14 @@ impl Seen {
     /// `find` that also keeps the row for the figures.
     fn tabulate(&mut self, allowed: &[bool], row: &Row) -> Option<Finding>
         ensures text { self.new.text ≡ self.old.text }
-        ensures kept { (system : TheSystem) (past : List TheRow) → self.old.watch.threads ≡ watch_of system past → UpTo row.now.moment past →
-            self.new.watch.threads ≡ watch_of system (row.now ∷ past) }
-        ensures counted { (system : TheSystem) (past : List TheRow) → self.old.watch.threads ≡ watch_of system past → UpTo row.now.moment past →
+        ensures kept { (system : TheSystem) (past : List TheRow) → self.old.watch.threads ≡ threads_of system past → UpTo row.now.moment past →
+            self.new.watch.threads ≡ threads_of system (row.now ∷ past) }
+        ensures counted { (system : TheSystem) (past : List TheRow) → self.old.watch.threads ≡ threads_of system past → UpTo row.now.moment past →
             self.new.counts ≡ counted_at system allowed.now past row.now self.old.counts }
-        ensures told { (system : TheSystem) (past : List TheRow) → self.old.watch.threads ≡ watch_of system past → UpTo row.now.moment past →
+        ensures told { (system : TheSystem) (past : List TheRow) → self.old.watch.threads ≡ threads_of system past → UpTo row.now.moment past →
             result ≡ told_of allowed.now (finding system past row.now.moment row.now.what) }
         ensures chains { self.new.watch.chains ≡ self.old.watch.chains }
-        ensures tabled { (system : TheSystem) (horizon : ℕ) (past : List TheRow) (chains : List TheTally) → self.old.watch.threads ≡ watch_of system past →
+        ensures tabled { (system : TheSystem) (horizon : ℕ) (past : List TheRow) (chains : List TheTally) → self.old.watch.threads ≡ threads_of system past →
             UpTo row.now.moment past → self.old.table ≡ Some (record { threads = table_of system horizon past; chains = chains }) →
             self.new.table ≡ Some (record { threads = table_of system horizon (row.now ∷ past); chains = chains }) }
     {

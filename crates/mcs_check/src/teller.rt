@@ -10,7 +10,7 @@ ghost use Rattle.mcs_check.specs.stored.Spans.{line_at};
 use crate::Progress;
 use crate::finder::Lines;
 use crate::progress::pass;
-use crate::shown::Shown;
+use mcs_check_lines::Shown;
 use mcs_check_words::Format;
 use mcs_cli::Target;
 use mcs_system::System;

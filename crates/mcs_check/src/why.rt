@@ -18,15 +18,15 @@ ghost use Rattle.mcs_check.specs.stored.Rows.{refusal};
 use crate::asked::{no_thread, round_number, thread_named};
 use crate::find::refusal;
 use crate::finder::Lines;
-use crate::machine::Machine;
-use crate::ran::put_account;
+use crate::machine::{Machine, Runner, Team};
 use crate::seeker::Seeker;
 use crate::teller::{Teller, Told};
 use crate::{Progress, Rounds, WhyFault};
+use mcs_check_lines::put_account;
 use mcs_check_words::{Format, Options, Question};
-use mcs_cli::{FromRead, Open, RunFault, Source, Target, read_system, write_text};
+use mcs_cli::{FromRead, RunFault, Source, Target, read_system, write_text};
 use mcs_system::System;
-use mcs_team::{FlowFault, SimFault, schedule_to};
+use mcs_team::{FlowFault, SimFault};
 use mcs_ticks::{NoMemory, ThreadId};
 use mcs_verdict::Watch;
 use mcs_verdict_laws::schedules_are_in_order;
@@ -102,20 +102,28 @@ pub fn explain<H: Threads + Wait + Sync, S: Source, T: Target, P: Progress>(
         return Err(WhyFault::Mixed);
     }
     let system = read_system(alloc, source)?;
-    let machine = Machine { rt, alloc };
+    let team = Team {
+        rt,
+        workers: options.workers,
+    };
+    let machine = Machine {
+        runner: &team,
+        alloc,
+    };
     answer(&machine, target, system, options, question, progress)
 }
 
 /// Explains a round of this system.
-fn answer<H: Threads + Wait + Sync, T: Target, P: Progress>(
-    machine: &Machine<'_, H>,
+pub(crate) fn answer<R: Runner, T: Target, P: Progress>(
+    machine: &Machine<'_, R>,
     target: &mut T,
     system: System,
     options: &Options,
     question: &Question,
     progress: &mut P,
 ) -> Result<(), WhyFault>
-    requires { T.has_failed target.old ≡ false }
+    requires can_run { R.can_run }
+    requires working { T.has_failed target.old ≡ false }
     ensures told { IsTold (T.contents target.old) (T.contents target.new) (T.has_failed target.new) options.now (question_texts question.now)
         system result }
     ensures blamed { T.has_failed target.new ≡ true → result ≡ Err (Run fault.Write) }
@@ -137,7 +145,7 @@ fn answer<H: Threads + Wait + Sync, T: Target, P: Progress>(
 }
 
 /// Whether an option is given that has nothing to do with a round.
-fn is_mixed(options: &Options) -> bool
+pub(crate) fn is_mixed(options: &Options) -> bool
     ensures { result ≡ is_mixed options.now }
 {
     options.show_given
@@ -163,22 +171,23 @@ fn no_round(alloc: Global, question: &Question, rounds: u64) -> WhyFault
 }
 
 /// Looks for the round of a thread.
-fn find_round<H: Threads + Wait + Sync, P: Progress>(
-    machine: &Machine<'_, H>,
+fn find_round<R: Runner, P: Progress>(
+    machine: &Machine<'_, R>,
     system: &Arc<System>,
     thread: ThreadId,
     number: u64,
     options: &Options,
     progress: &mut P,
 ) -> Result<Sought, RunFault>
-    requires { thread < length (arc_value system.now).threads }
+    requires can_run { R.can_run }
+    requires there { thread < length (arc_value system.now).threads }
     ensures found { IfOk result (λ there. there ≡ sought (arc_value system.now) options.now.horizon
         (past_of [] (schedule (arc_value system.now) options.now.horizon)) thread number) }
     ensures fault { IfErr result (λ f. f ≡ RunFault.Sim SimFault.NoMemory) }
 {
     schedules_are_in_order();
     let _parts = system.parts();
-    let (rt, alloc) = (machine.rt, machine.alloc);
+    let (runner, alloc) = (machine.runner, machine.alloc);
     let Ok(shared) = Arc::try_clone(system) else {
         return Err(RunFault::Sim(SimFault::NoMemory));
     };
@@ -187,8 +196,8 @@ fn find_round<H: Threads + Wait + Sync, P: Progress>(
     };
     let search = Search::new(system, thread, number);
     let mut seeker = Seeker::new(watch, search, progress);
-    let (horizon, workers) = (options.horizon, options.workers);
-    let result = schedule_to(rt, alloc, shared, horizon, workers, &Open, &mut seeker);
+    let horizon = options.horizon;
+    let result = runner.schedule_to(alloc, shared, horizon, &mut seeker);
     if result.is_err() {
         return Err(RunFault::Sim(SimFault::NoMemory));
     }
@@ -197,15 +206,16 @@ fn find_round<H: Threads + Wait + Sync, P: Progress>(
 }
 
 /// Writes the rows of a span, the round's times, and who ran meanwhile.
-fn write_span<H: Threads + Wait + Sync, T: Target, P: Progress>(
-    machine: &Machine<'_, H>,
+fn write_span<R: Runner, T: Target, P: Progress>(
+    machine: &Machine<'_, R>,
     target: &mut T,
     system: &Arc<System>,
     span: &Span,
     options: &Options,
     progress: &mut P,
 ) -> Result<(), RunFault>
-    requires { T.has_failed target.old ≡ false }
+    requires can_run { R.can_run }
+    requires working { T.has_failed target.old ≡ false }
     ensures ok { OnOk result (Appends (T.contents target.old) (T.contents target.new)
         (round_text options.now.format (arc_value system.now) span.now (schedule (arc_value system.now) options.now.horizon))) }
     ensures working { OnOk result (T.has_failed target.new ≡ false) }
@@ -224,15 +234,16 @@ fn write_span<H: Threads + Wait + Sync, T: Target, P: Progress>(
 
 /// Writes the lines of a span's rows as they come, and counts who ran. The last lines are returned,
 /// not yet written.
-fn tell_rows<H: Threads + Wait + Sync, T: Target, P: Progress>(
-    machine: &Machine<'_, H>,
+fn tell_rows<R: Runner, T: Target, P: Progress>(
+    machine: &Machine<'_, R>,
     target: &mut T,
     system: &Arc<System>,
     span: &Span,
     options: &Options,
     progress: &mut P,
 ) -> Result<Told, RunFault>
-    requires { T.has_failed target.old ≡ false }
+    requires can_run { R.can_run }
+    requires working { T.has_failed target.old ≡ false }
     ensures ok { IfOk result (λ told. AppendsBefore (T.contents target.old) (T.contents target.new)
         (rows_lines options.now.format (arc_value system.now) span.now (schedule (arc_value system.now) options.now.horizon)) told.text.items) }
     ensures account { IfOk result (λ told. told.account ≡ account_of (length (arc_value system.now).threads) span.now.core span.now.from span.now.to
@@ -243,7 +254,7 @@ fn tell_rows<H: Threads + Wait + Sync, T: Target, P: Progress>(
 {
     schedules_are_in_order();
     let _parts = system.parts();
-    let (rt, alloc) = (machine.rt, machine.alloc);
+    let (runner, alloc) = (machine.runner, machine.alloc);
     let Ok(shared) = Arc::try_clone(system) else {
         return Err(RunFault::Sim(SimFault::NoMemory));
     };
@@ -254,8 +265,7 @@ fn tell_rows<H: Threads + Wait + Sync, T: Target, P: Progress>(
     let mut told = Told { account, text };
     let lines = Lines::new(alloc, target);
     let mut teller = Teller::new(lines, options.format, system, &mut told, progress);
-    let (horizon, workers) = (options.horizon, options.workers);
-    let result = schedule_to(rt, alloc, shared, horizon, workers, &Open, &mut teller);
+    let result = runner.schedule_to(alloc, shared, options.horizon, &mut teller);
     match result {
         Ok(()) => Ok(told),
         Err(FlowFault::NoMemory) => Err(RunFault::Sim(SimFault::NoMemory)),

@@ -1,12 +1,15 @@
 -- The text and the verdict of a system for all time.
-use Rattle.std.specs.Prelude.{◌≡◌, ℕ, not, ◌==◌, if◌then◌else◌, List, ◌++◌, length, flat_map, count_by, is_some}
+use Rattle.std.specs.Prelude.{◌≡◌, ℕ, Bool, not, ◌==◌, ◌||◌, if◌then◌else◌, List, ◌++◌, length, flat_map, count_by, is_some}
 use Rattle.std.specs.List.{sum_by}
 use Rattle.mcs_ticks.specs.Capped.{capped}
 use Rattle.mcs_system.specs.System.{System}
 use Rattle.mcs_check.specs.Allowed.{flags_of}
 use Rattle.mcs_check_words.specs.declared.asked.Format.{Format}
 use Rattle.mcs_check_words.specs.declared.asked.Format.TheVariants as format
+use Rattle.mcs_check_lines.specs.Deadlines.{thread_deadlines}
+use Rattle.mcs_check_lines.specs.Status.{code_of}
 use Rattle.mcs_ever_told.specs.declared.line.Line.TheVariants.{Sets}
+use Rattle.mcs_ever_told.specs.declared.line.Totals.{Totals}
 use Rattle.mcs_ever_told.specs.declared.line.LineFormat.{LineFormat}
 use Rattle.mcs_ever_told.specs.declared.line.LineFormat.TheVariants as lines
 use Rattle.mcs_ever_told.specs.Formats.{line_text, lines_text}
@@ -27,17 +30,40 @@ repeating told = count_by (λ (t : Told). is_some t.period) told
 abbrev pub findings : List Told → ℕ
 findings told = capped (sum_by (λ (t : Told). t.findings) told)
 
+abbrev pub totals_of : System → List Told → Totals
+totals_of system told =
+    record {
+      sets = length told;
+      repeating = repeating told;
+      findings = findings told;
+      threads = length system.threads;
+      deadlines = thread_deadlines system.threads;
+    }
+
 -- the lines of each set, and last the line of their counts
 abbrev pub told_text : Format → System → List Told → List ℕ
 told_text how system told =
     flat_map (λ (t : Told). lines_text (line_format how) system t.lines.items) told
-    ++ line_text (line_format how) system (Sets (length told) (repeating told) (findings told))
+    ++ line_text (line_format how) system (Sets (totals_of system told))
+
+-- that there is no finding says nothing if a set does not repeat, or if no thread has a deadline
+abbrev pub says_nothing : System → List Told → Bool
+says_nothing system told = not (repeating told == length told) || thread_deadlines system.threads == 0
 
 -- a finding; or no finding for ever; or no finding so far
-abbrev pub verdict_of : List Told → Verdict
-verdict_of told =
+abbrev pub verdict_of : System → List Told → Verdict
+verdict_of system told =
     if not (findings told == 0) then Found
-    else if repeating told == length told then Clean else Open
+    else if says_nothing system told then Open else Clean
+
+-- the exit code of a verdict, and of a system
+abbrev pub status_of : Verdict → ℕ
+status_of Clean = 0
+status_of Found = 5
+status_of Open = 6
+
+abbrev pub status_of_all : System → List Told → ℕ
+status_of_all system told = code_of (not (findings told == 0)) (says_nothing system told)
 
 -- these bytes are the text of the system for all time, if these notifications may lose signals, and
 -- this is the verdict
@@ -45,4 +71,4 @@ pub record IsForetold (names : List (List ℕ)) (system : System) (horizon : ℕ
   pub told : List Told
   pub so : AreTold system (flags_of names system.notes) horizon told
   pub text_is : text ≡ told_text how system told
-  pub verdict_is : verdict ≡ verdict_of told
+  pub verdict_is : verdict ≡ verdict_of system told

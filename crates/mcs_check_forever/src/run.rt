@@ -144,7 +144,7 @@ fn foretold<P: Progress>(
     progress.wipe();
     let told = told?;
     let text = text_of(alloc, options.format, &system, told.as_slice())?;
-    Ok((verdict_of(told.as_slice()), text))
+    Ok((verdict_of(&system, told.as_slice()), text))
 }
 
 /// Searches for repetitions up to the horizon.

@@ -2,11 +2,12 @@
 ghost use Rattle.std.specs.Prelude.{◌≡◌, ◌++◌, flat_map, IfOk, OnOk};
 ghost use Rattle.mcs_ever_told.specs.Formats.{lines_text};
 ghost use Rattle.mcs_ever_told.specs.declared.outlook.told.Told.{Told as ToldSet};
-ghost use Rattle.mcs_check_forever.specs.Verdict.{line_format, repeating, findings, told_text, verdict_of};
+ghost use Rattle.mcs_check_forever.specs.Verdict.{findings, line_format, repeating, says_nothing, told_text, totals_of, verdict_of};
 
 use crate::Verdict;
+use mcs_check_lines::thread_deadlines;
 use mcs_check_words::Format;
-use mcs_ever_told::{Line, LineFormat, Told, put_line, put_lines};
+use mcs_ever_told::{Line, LineFormat, Told, Totals, put_line, put_lines};
 use mcs_system::System;
 use mcs_ticks::NoMemory;
 use std::alloc::Global;
@@ -39,6 +40,20 @@ fn findings(told: &[Told]) -> u64
     findings
 }
 
+/// How much was looked at and found.
+fn totals_of(system: &System, told: &[Told]) -> Totals
+    ensures { result ≡ totals_of system.now told.now }
+{
+    let threads = system.parts().threads.as_slice();
+    Totals {
+        sets: told.len() as u64,
+        repeating: repeating(told) as u64,
+        findings: findings(told),
+        threads: threads.len() as u64,
+        deadlines: thread_deadlines(threads) as u64,
+    }
+}
+
 /// Appends the lines of each set.
 fn put_sets(
     alloc: Global,
@@ -69,23 +84,29 @@ pub(crate) fn text_of(
     let mut text = Vec::new(alloc);
     put_sets(alloc, &mut text, format, system, told)?;
     let last = Line::Sets {
-        sets: told.len() as u64,
-        repeating: repeating(told) as u64,
-        findings: findings(told),
+        totals: totals_of(system, told),
     };
     put_line(alloc, &mut text, format, system, &last)?;
     Ok(text)
 }
 
+/// Whether it says nothing that there is no finding: a set does not repeat, or no thread has a
+/// deadline.
+fn says_nothing(system: &System, told: &[Told]) -> bool
+    ensures { result ≡ says_nothing system.now told.now }
+{
+    repeating(told) != told.len() || thread_deadlines(system.parts().threads.as_slice()) == 0
+}
+
 /// The verdict of all sets.
-pub(crate) fn verdict_of(told: &[Told]) -> Verdict
-    ensures { result ≡ verdict_of told.now }
+pub(crate) fn verdict_of(system: &System, told: &[Told]) -> Verdict
+    ensures { result ≡ verdict_of system.now told.now }
 {
     if findings(told) != 0 {
         Verdict::Found
-    } else if repeating(told) == told.len() {
-        Verdict::Clean
-    } else {
+    } else if says_nothing(system, told) {
         Verdict::Open
+    } else {
+        Verdict::Clean
     }
 }

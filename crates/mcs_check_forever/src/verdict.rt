@@ -1,10 +1,26 @@
+ghost use Rattle.std.specs.Prelude.{◌≡◌};
+ghost use Rattle.mcs_check_forever.specs.Verdict.{status_of};
+
+use mcs_check_lines::code;
+
 /// The verdict for all time.
 #[derive(Clone, Copy, Debug, PartialEq, Eq)]
 pub enum Verdict {
-    /// Every set of cores repeats and has no finding, for ever.
+    /// There is a thread with a deadline, and every set of cores repeats and has no finding, for
+    /// ever.
     Clean,
     /// There is a finding.
     Found,
-    /// There is no finding so far, but some set of cores was not found to repeat.
+    /// There is no finding so far, but some set of cores was not found to repeat, or no thread has
+    /// a deadline.
     Open,
+}
+
+impl Verdict {
+    /// Returns the exit code: 5 for `Found`, 6 for `Open`, 0 for `Clean`.
+    pub fn status(self) -> u8
+        ensures { result ≡ status_of self }
+    {
+        code(self == Verdict::Found, self == Verdict::Open)
+    }
 }

@@ -31,7 +31,8 @@ Exit status:
   3  the file is not opened, or reading or writing failed
   4  no memory
   5  something is found
-  6  with --forever: nothing is found so far, and not for ever";
+  6  nothing is found, and nothing was judged; with --forever: nothing is
+     found so far, and not for ever";
 
 /// The command line with all of its arguments. `AllocError` if memory runs out.
 pub(crate) fn command_line<'a>(alloc: Global) -> Result<Command<'a>, AllocError>
@@ -83,7 +84,7 @@ fn strict<'a>(alloc: Global) -> Arg<'a>
     Arg::new(alloc, "strict")
         .long("strict")
         .action(ArgAction::SetTrue)
-        .help("Hints count as found, too")
+        .help("Hints and unjudged threads count as found, too")
 }
 
 /// The argument `--show`.

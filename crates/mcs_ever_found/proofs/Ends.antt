@@ -16,12 +16,11 @@ use Rattle.mcs_verdict.specs.declared.finding.Found.{Found}
 use Rattle.mcs_verdict.specs.declared.held.Held.{Held}
 use Rattle.mcs_verdict.specs.declared.standing.Standing.TheVariants.{Done}
 use Rattle.mcs_verdict.specs.declared.standing.Stood.{Stood}
-use Rattle.mcs_verdict.specs.Standing.{standing_at, telling}
-use Rattle.mcs_verdict.specs.Stood.{no_ticks, stood_in}
+use Rattle.mcs_verdict.specs.Stood.{no_ticks}
 use Rattle.mcs_verdict.specs.Calls.{is_set, bits_of}
 use Rattle.mcs_verdict.specs.Words.{firsts_of}
-use Rattle.mcs_verdict.specs.Rounds.{first_wait, begun_of, called_of, activated}
-use Rattle.mcs_verdict.specs.Misses.{overdue_at, yet_to_begin, word_for, first_word, overdue_since, overdue, was_activated, never_at, never, first_of, unended}
+use Rattle.mcs_verdict.specs.Rounds.{first_wait, activated}
+use Rattle.mcs_verdict.specs.Misses.{overdue_at, yet_to_begin, word_for, first_word, overdue, was_activated, never_at, never, first_of, unended}
 use Rattle.mcs_verdict.specs.Findings.{UpTo, past_of, found_at, found_in, found_at_end}
 use Rattle.mcs_verdict.specs.Watch.{accounts_of}
 use Rattle.mcs_verdict.specs.Account.{total_at, overdue_from, overdue_by}

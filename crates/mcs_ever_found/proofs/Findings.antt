@@ -1,6 +1,6 @@
 -- Findings recur, and without a finding in the first period there is none for ever.
 use Rattle.std.proofs.Common.{◌≡◌, ℕ, zero, suc, ◌+◌, ◌-◌, ◌<◌, ◌≤◌, ◌⊎◌, inl, inr, Bool, true, false, cond, List, [], ◌∷◌, ◌++◌, length, map, refl, sym, ap, subst, ◌∙◌, Option, Some, None, option_map, arith}
-use Rattle.std.specs.Prelude.{filter, nat_lt, ◌==◌, All}
+use Rattle.std.specs.Prelude.{filter, nat_lt, All}
 use Rattle.std.specs.List.{AllByRecursion, slice_get}
 use Rattle.std.proofs.lemmas.Bool.Decides.{nat_tests}
 use Rattle.std.proofs.lemmas.List.Elements.{filter-append, All-head}

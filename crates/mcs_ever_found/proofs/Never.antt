@@ -1,6 +1,6 @@
 -- A thread or a notification without a finding by the end of the first period never has one.
-use Rattle.std.proofs.Common.{◌≡◌, ◌≢◌, ℕ, zero, suc, ◌+◌, ◌-◌, ◌<◌, ◌≤◌, Bool, true, false, cond, ◌||◌, List, [], ◌∷◌, ◌++◌, length, map, refl, sym, ap, subst, ◌∙◌, Option, Some, None, arith}
-use Rattle.std.specs.Prelude.{filter, nat_lt, nat_le, ◌==◌}
+use Rattle.std.proofs.Common.{◌≡◌, ℕ, zero, suc, ◌+◌, ◌-◌, ◌<◌, ◌≤◌, Bool, true, false, cond, ◌||◌, List, [], ◌∷◌, map, refl, sym, ap, subst, ◌∙◌, Option, Some, None, arith}
+use Rattle.std.specs.Prelude.{filter, nat_lt, nat_le}
 use Rattle.std.specs.List.{AllByRecursion, list_any}
 use Rattle.std.proofs.lemmas.Bool.Decides.{nat_tests}
 use Rattle.std.proofs.lemmas.List.Folds.{list_any-append}
@@ -18,7 +18,7 @@ use Rattle.mcs_verdict.specs.Jobs.{job}
 use Rattle.mcs_verdict.specs.Words.{held_of, firsts_of, leaves}
 use Rattle.mcs_verdict.specs.Misses.{is_above, unended}
 use Rattle.mcs_verdict.specs.Findings.{finding, past_of, found_at, found_in}
-use Rattle.mcs_verdict_laws.specs.laws.Horizons.{TakesItAlone, is_miss_of, has_miss_of}
+use Rattle.mcs_verdict_laws.specs.laws.Horizons.{is_miss_of}
 use Rattle.mcs_verdict_laws.proofs.Steps.{contrary, ends_round}
 use Rattle.mcs_verdict_laws.proofs.Homes.{rounds-home}
 use Rattle.mcs_verdict_laws.proofs.Between.{miss-home, thread-between}
@@ -27,9 +27,9 @@ use Rattle.mcs_ever.specs.laws.Home.{IsOfOwn}
 use Rattle.mcs_ever.proofs.Home.{rows-of-own}
 use Rattle.mcs_ever.proofs.Schedules.{all-turns}
 use Rattle.mcs_ever_found.specs.Later.{later_finding, later_found}
-use Rattle.mcs_ever_found.specs.Recurs.{holds_word, EndRecurs, FindingsRecur}
+use Rattle.mcs_ever_found.specs.Recurs.{holds_word, FindingsRecur}
 use Rattle.mcs_ever_found.specs.laws.Repeats.{found_at_moment}
-use Rattle.mcs_ever_found.specs.laws.Never.{is_lost_of, has_lost_of, NothingIsFoundOf, NoDeadlineIsMissed, NoSignalIsLost, ThreadIsNeverFound}
+use Rattle.mcs_ever_found.specs.laws.Never.{is_lost_of, NoDeadlineIsMissed, NoSignalIsLost, ThreadIsNeverFound}
 use Rattle.mcs_ever_found.proofs.Findings.{found_before, found-next, findings-repeat}
 use Rattle.mcs_ever_found.proofs.Ends.{end-again}
 

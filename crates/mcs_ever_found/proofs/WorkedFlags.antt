@@ -1,5 +1,5 @@
--- The flags of rows, by hand. In the system of mcs_ever_found each signal but the first is
--- lost. It has one thread and one notification.
+-- The flags of rows, by hand. In the system of `WorkedFindings` each signal but the first is lost.
+-- It has one thread and one notification.
 use Rattle.std.specs.Prelude.{◌≡◌, true, false, [], ◌∷◌, Some, refl}
 use Rattle.mcs_ticks.specs.declared.row.What.TheVariants as row
 use Rattle.mcs_ticks.specs.declared.row.Why.TheVariants as why

@@ -1,10 +1,11 @@
 -- Lines of a check for all time, worked by hand.
-use Rattle.std.specs.Prelude.{◌≡◌, Bool, true, false, List, [], ◌∷◌, Some, None, codes, refl}
+use Rattle.std.specs.Prelude.{◌≡◌, Bool, true, false, List, [], ◌∷◌, ℕ, Some, None, codes, refl}
 use Rattle.std.specs.Fmt.{digits}
 use Rattle.serde_json.proofs.OnLiterals.{serde_json_on_literals}
 use Rattle.mcs_script.specs.declared.item.Item.TheVariants.{Compute}
 use Rattle.mcs_control.specs.declared.config.Mode.TheVariants as mode
 use Rattle.mcs_system.specs.System.{System}
+use Rattle.mcs_ever_told.specs.declared.line.Totals.{Totals}
 use Rattle.mcs_ever_told.specs.declared.line.Line.TheVariants.{Repeats, Open, Miss, Lost, Overdue, Never, Thread, ThreadSoFar, Clean, Sets}
 use Rattle.mcs_ever_told.specs.declared.line.LineFormat.TheVariants as format
 use Rattle.mcs_ever_told.specs.declared.line.Often.TheVariants.{Forever, SoFar}
@@ -154,16 +155,21 @@ clean_object : line_text format.Json system (Clean two) ≡ codes "{\"kind\":\"c
 unfolding system digits serde_json_on_literals
 clean_object = refl
 
-sets : line_text format.Text system (Sets 3 2 0) ≡ codes "sets 3 repeating 2 findings 0\n"
+-- all is counted of nine threads, of which seven have a deadline
+abbrev totals : ℕ → ℕ → Totals
+totals sets repeating = record { sets = sets; repeating = repeating; findings = 0; threads = 9; deadlines = 7 }
+
+sets : line_text format.Text system (Sets (totals 3 2)) ≡ codes "sets 3 repeating 2 findings 0 threads 9 deadlines 7\n"
 unfolding system digits
 sets = refl
 
-sets_object : line_text format.Json system (Sets 3 2 0) ≡ codes "{\"kind\":\"sets\",\"sets\":3,\"repeating\":2,\"findings\":0}\n"
+sets_object : line_text format.Json system (Sets (totals 3 2))
+    ≡ codes "{\"kind\":\"sets\",\"sets\":3,\"repeating\":2,\"findings\":0,\"threads\":9,\"deadlines\":7}\n"
 unfolding system digits serde_json_on_literals
 sets_object = refl
 
 -- one after another
-all : lines_text format.Text system (Repeats two 13 12 ∷ Clean two ∷ Sets 1 1 0 ∷ [])
-    ≡ codes "cores 0 2: repeats from 13 with period 12\nnothing is ever found\nsets 1 repeating 1 findings 0\n"
+all : lines_text format.Text system (Repeats two 13 12 ∷ Clean two ∷ Sets (totals 1 1) ∷ [])
+    ≡ codes "cores 0 2: repeats from 13 with period 12\nnothing is ever found\nsets 1 repeating 1 findings 0 threads 9 deadlines 7\n"
 unfolding system digits
 all = refl

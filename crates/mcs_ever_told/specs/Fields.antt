@@ -7,6 +7,7 @@ use Rattle.mcs_ever_told.specs.Texts.{cores_text}
 use Rattle.mcs_ever_told.specs.declared.line.Line.{Line}
 use Rattle.mcs_ever_told.specs.declared.line.Line.TheVariants as line
 use Rattle.mcs_ever_told.specs.declared.line.Often.{Often}
+use Rattle.mcs_ever_told.specs.declared.line.Totals.{Totals}
 use Rattle.mcs_ever_told.specs.declared.line.Often.TheVariants.{Forever, SoFar}
 
 abbrev pub Fields : Type 0
@@ -26,6 +27,12 @@ often_fields (SoFar times) = (codes "so_far", amount times) ∷ []
 abbrev pub throttled_value : Bool → Value
 throttled_value false = empty
 throttled_value true = name (codes "never")
+
+-- how much was looked at and found
+abbrev pub totals_fields : Totals → Fields
+totals_fields totals =
+    (codes "kind", name (codes "sets")) ∷ (codes "sets", amount totals.sets) ∷ (codes "repeating", amount totals.repeating)
+    ∷ (codes "findings", amount totals.findings) ∷ (codes "threads", amount totals.threads) ∷ (codes "deadlines", amount totals.deadlines) ∷ []
 
 module _ (system : System) where
   abbrev pub cores_field : List Bool → Text × Value
@@ -55,6 +62,4 @@ module _ (system : System) where
   line_fields (line.ThreadSoFar thread greatest) =
       (codes "kind", name (codes "thread_so_far")) ∷ thread_field thread ∷ (codes "greatest", known greatest) ∷ []
   line_fields (line.Clean cores) = (codes "kind", name (codes "clean")) ∷ cores_field cores ∷ []
-  line_fields (line.Sets sets repeating findings) =
-      (codes "kind", name (codes "sets")) ∷ (codes "sets", amount sets) ∷ (codes "repeating", amount repeating)
-      ∷ (codes "findings", amount findings) ∷ []
+  line_fields (line.Sets totals) = totals_fields totals

@@ -8,6 +8,7 @@ use Rattle.mcs_ever.specs.Closed.{has}
 use Rattle.mcs_ever_told.specs.declared.line.Line.{Line}
 use Rattle.mcs_ever_told.specs.declared.line.Line.TheVariants as line
 use Rattle.mcs_ever_told.specs.declared.line.Often.{Often}
+use Rattle.mcs_ever_told.specs.declared.line.Totals.{Totals}
 use Rattle.mcs_ever_told.specs.declared.line.Often.TheVariants.{Forever, SoFar}
 
 -- those cores of a set that the system has, in rising order, with a space between two of them
@@ -38,6 +39,12 @@ abbrev pub silent_text : Option ℕ → Text
 silent_text None = []
 silent_text (Some moment) = codes ", ends no round from" ++ after (decimal moment ∷ codes "on" ∷ [])
 
+-- how much was looked at and found, after the first word
+abbrev pub totals_words : Totals → List Text
+totals_words totals =
+    decimal totals.sets ∷ counted ((codes "repeating", totals.repeating) ∷ (codes "findings", totals.findings)
+    ∷ (codes "threads", totals.threads) ∷ (codes "deadlines", totals.deadlines) ∷ [])
+
 abbrev pub words_text : System → Line → Text
 words_text system (line.Repeats cores from period) =
     line (codes "cores") (named (cores_text system cores) ∷ codes "repeats from" ∷ decimal from ∷ codes "with period" ∷ decimal period ∷ [])
@@ -53,5 +60,4 @@ words_text system (line.Thread thread greatest never_throttled silent_from) =
 words_text system (line.ThreadSoFar thread greatest) =
     line (codes "thread") (named (thread_name system thread) ∷ codes "greatest response" ∷ known_word greatest ∷ codes "so far" ∷ [])
 words_text system (line.Clean cores) = line (codes "nothing is ever found") []
-words_text system (line.Sets sets repeating findings) =
-    line (codes "sets") (decimal sets ∷ counted ((codes "repeating", repeating) ∷ (codes "findings", findings) ∷ []))
+words_text system (line.Sets totals) = line (codes "sets") (totals_words totals)

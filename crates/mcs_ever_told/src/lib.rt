@@ -5,5 +5,5 @@
 mod line;
 mod outlook;
 
-pub use line::{Line, LineFormat, Often, put_line, put_lines};
+pub use line::{Line, LineFormat, Often, Totals, put_line, put_lines};
 pub use outlook::{Outlook, Period, Told, tell_all};

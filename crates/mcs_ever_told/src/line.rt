@@ -29,6 +29,21 @@ pub enum Often {
     SoFar { times: u64 },
 }
 
+/// How much was looked at in a check for all time, and how much was found.
+#[derive(Clone, Copy, Debug, PartialEq, Eq)]
+pub struct Totals {
+    /// The sets of cores.
+    pub sets: u64,
+    /// The sets that recur.
+    pub repeating: u64,
+    /// The findings of all sets.
+    pub findings: u64,
+    /// The threads of the file.
+    pub threads: u64,
+    /// The threads with a deadline.
+    pub deadlines: u64,
+}
+
 /// A line of a check for all time. A set of cores is written as those of its cores that the system
 /// has.
 #[derive(Clone, Copy, Debug, PartialEq, Eq)]
@@ -83,10 +98,8 @@ pub enum Line {
     Clean {
         cores: CoreSet,
     },
-    /// The number of sets of cores, of those that recur, and of findings.
+    /// How much was looked at and found.
     Sets {
-        sets: u64,
-        repeating: u64,
-        findings: u64,
+        totals: Totals,
     },
 }

@@ -1,13 +1,14 @@
 -- Hints that were worked by hand.
-use Rattle.std.specs.Prelude.{◌≡◌, ℕ, List, [], ◌∷◌, refl}
+use Rattle.std.specs.Prelude.{◌≡◌, ℕ, Bool, true, false, List, [], ◌∷◌, filter, refl}
 use Rattle.mcs_script.specs.declared.item.Item.{Item}
 use Rattle.mcs_script.specs.declared.item.Item.TheVariants.{Compute, Signal, Wait, On}
 use Rattle.mcs_control.specs.declared.config.Mode.TheVariants as mode
 use Rattle.mcs_system.specs.declared.part.ContextPart.{ContextPart}
 use Rattle.mcs_system.specs.declared.part.ThreadPart.{ThreadPart}
 use Rattle.mcs_system.specs.System.{System}
-use Rattle.mcs_hints.specs.declared.hint.Hint.TheVariants.{Unsignalled, Unbound, Overcommitted}
-use Rattle.mcs_hints.specs.Hints.{hints_of}
+use Rattle.mcs_hints.specs.declared.hint.Hint.TheVariants.{NoThread, NoDeadline, Unsignalled, Unbound, Unused, Overcommitted}
+use Rattle.mcs_hints.specs.declared.hint.Hint.{Hint}
+use Rattle.mcs_hints.specs.Hints.{hints_of as all_hints_of}
 use Rattle.mcs_hints.specs.Cores.{granted}
 
 abbrev context : ℕ → ℕ → ℕ → ContextPart
@@ -36,6 +37,16 @@ system contexts threads =
       beats = [];
       chains = [];
     }
+
+-- the hints of notifications, and of contexts and cores that have threads or are overcommitted
+abbrev is_of_use : Hint → Bool
+is_of_use NoThread = false
+is_of_use NoDeadline = false
+is_of_use (Unused core) = false
+is_of_use _ = true
+
+abbrev hints_of : System → List Hint
+hints_of system = filter is_of_use (all_hints_of system)
 
 abbrev one : List ContextPart
 one = context 0 1 10 ∷ []
@@ -90,7 +101,7 @@ beside_round_robin = refl
 rounded_down : granted (system (context 0 1 3 ∷ context 0 2 3 ∷ []) (thread 0 (Compute 1 ∷ []) ∷ thread 1 (Compute 1 ∷ []) ∷ [])) 0 ≡ 999999
 rounded_down = refl
 
--- all three kinds, in their order
+-- these kinds, in their order
 all_kinds : hints_of (system (context 0 1 10 ∷ context 1 8 10 ∷ context 1 3 10 ∷ context 0 1 1 ∷ []) (thread 1 (Wait 0 ∷ Wait 1 ∷ Compute 1 ∷ []) ∷ thread 2 (Signal 1 1 ∷ []) ∷ []))
     ≡ Unsignalled 0 ∷ Unbound 0 ∷ Unbound 3 ∷ Overcommitted 1 1100000 ∷ []
 all_kinds = refl
@@ -113,7 +124,7 @@ thirds budget period = context 0 1 3 ∷ context 0 1 3 ∷ context 0 1 3 ∷ con
 abbrev on_each : List ThreadPart
 on_each = thread 0 (Compute 1 ∷ []) ∷ thread 1 (Compute 1 ∷ []) ∷ thread 2 (Compute 1 ∷ []) ∷ thread 3 (Compute 1 ∷ []) ∷ []
 
-above_by_less_than_a_millionth : hints_of (system (thirds 1 1000001) on_each) ≡ Overcommitted 0 999999 ∷ []
+above_by_less_than_a_millionth : hints_of (system (thirds 1 1000001) on_each) ≡ Overcommitted 0 1000001 ∷ []
 above_by_less_than_a_millionth = refl
 
 -- the whole time, with shares that are rounded down or not
@@ -131,5 +142,41 @@ two_halves : hints_of (system (halves 549755813888) (thread 0 (Compute 1 ∷ [])
 two_halves = refl
 
 one_more_than_two_halves :
-    hints_of (system (halves 549755813889) (thread 0 (Compute 1 ∷ []) ∷ thread 1 (Compute 1 ∷ []) ∷ [])) ≡ Overcommitted 1 1000000 ∷ []
+    hints_of (system (halves 549755813889) (thread 0 (Compute 1 ∷ []) ∷ thread 1 (Compute 1 ∷ []) ∷ [])) ≡ Overcommitted 1 1000001 ∷ []
 one_more_than_two_halves = refl
+
+-- a file without a thread is told so, and not that it has no deadline; no core has a thread then
+no_thread : all_hints_of (system one []) ≡ NoThread ∷ Unbound 0 ∷ Unused 0 ∷ Unused 1 ∷ []
+no_thread = refl
+
+-- threads without a deadline on core 0
+no_deadline : all_hints_of (system one (thread 0 (Compute 1 ∷ []) ∷ [])) ≡ NoDeadline ∷ Unused 1 ∷ []
+no_deadline = refl
+
+-- the deadline of one thread is enough, or that of one chain
+abbrev in_time : ℕ → ThreadPart
+in_time context = record (thread context (Compute 1 ∷ [])) { deadline = 7 }
+
+of_a_thread : all_hints_of (system one (thread 0 (Compute 1 ∷ []) ∷ in_time 0 ∷ [])) ≡ Unused 1 ∷ []
+of_a_thread = refl
+
+abbrev with_chain : ℕ → System → System
+with_chain deadline parts =
+    record parts { chains = record { name = []; source = 0; thread = 0; badges = 0; deadline = deadline } ∷ [] }
+
+of_a_chain : all_hints_of (with_chain 9 (system one (thread 0 (Compute 1 ∷ []) ∷ []))) ≡ Unused 1 ∷ []
+of_a_chain = refl
+
+chain_without : all_hints_of (with_chain 0 (system one (thread 0 (Compute 1 ∷ []) ∷ []))) ≡ NoDeadline ∷ Unused 1 ∷ []
+chain_without = refl
+
+-- a thread on each core; and one on core 1 alone, whose second context makes no hint of the core
+both_used : all_hints_of (system (context 0 1 10 ∷ context 1 1 10 ∷ []) (in_time 0 ∷ in_time 1 ∷ [])) ≡ []
+both_used = refl
+
+one_used : all_hints_of (system (context 1 1 10 ∷ context 1 1 10 ∷ []) (in_time 1 ∷ [])) ≡ Unbound 0 ∷ Unused 0 ∷ []
+one_used = refl
+
+-- an unused core stands before an overcommitted one, whatever their numbers
+unused_first : all_hints_of (system (context 0 3 10 ∷ context 0 8 10 ∷ []) (in_time 0 ∷ in_time 1 ∷ [])) ≡ Unused 1 ∷ Overcommitted 0 1100000 ∷ []
+unused_first = refl

@@ -1,16 +1,21 @@
 -- Likely mistakes in a system, found from its file alone.
 use Rattle.std.specs.Prelude.{List, ◌++◌, length}
 use Rattle.std.specs.List.{filter_map}
+use Rattle.std.specs.Option.{option_to_list}
 use Rattle.mcs_system.specs.System.{System}
 use Rattle.mcs_hints.specs.declared.hint.Hint.{Hint}
 use Rattle.mcs_hints.specs.Numbers.{numbers}
 use Rattle.mcs_hints.specs.Notes.{items_of, unsignalled}
 use Rattle.mcs_hints.specs.Contexts.{unbound}
-use Rattle.mcs_hints.specs.Cores.{overcommitted}
+use Rattle.mcs_hints.specs.Cores.{overcommitted, unused}
+use Rattle.mcs_hints.specs.Whole.{nothing_to_judge}
 
--- those of notifications, then of contexts, then of cores, each by number
+-- that of the whole file, then those of notifications, of contexts, of cores without a thread and of
+-- overcommitted cores, each by number
 abbrev pub hints_of : System → List Hint
 hints_of system =
-    filter_map (unsignalled (items_of system.threads) system.sources) (numbers (length system.notes))
+    option_to_list (nothing_to_judge system.threads system.chains)
+    ++ filter_map (unsignalled (items_of system.threads) system.sources) (numbers (length system.notes))
     ++ filter_map (unbound system.threads) (numbers (length system.contexts))
+    ++ filter_map (unused system) (numbers system.cores)
     ++ filter_map (overcommitted system) (numbers system.cores)

@@ -3,18 +3,21 @@ ghost use Rattle.mcs_hints.specs.Hints.{hints_of};
 
 use crate::Hint;
 use crate::contexts::{bind_contexts, keep_unbound};
-use crate::cores::keep_overcommitted;
+use crate::cores::{keep_overcommitted, keep_unused};
+use crate::keep::keep;
 use crate::notes::{keep_unsignalled, mark_notes};
 use crate::shares::shares;
+use crate::whole::nothing_to_judge;
 use mcs_system::System;
 use mcs_ticks::NoMemory;
 use std::alloc::Global;
 
-/// Returns the hints of a system, for any horizon: first those of notifications, then of contexts,
-/// then of cores, each by number. Fails with `NoMemory` if memory runs out.
+/// Returns the hints of a system, for any horizon: first that of the whole file, then those of
+/// notifications, of contexts and of cores, each by number. Fails with `NoMemory` if memory runs
+/// out.
 ///
-/// Takes time linear in the items of the scripts, and in the contexts for each core, unless a
-/// core's exact utilisation is 1.
+/// Takes time linear in the items of the scripts, and in the threads and contexts for each core,
+/// unless a core's exact utilisation is 1.
 pub fn hints(alloc: Global, system: &System) -> Result<Vec<Hint>, NoMemory>
     ensures { IfOk result (λ hints. hints.items ≡ hints_of system.now) }
 {
@@ -23,8 +26,10 @@ pub fn hints(alloc: Global, system: &System) -> Result<Vec<Hint>, NoMemory>
     let bounds = bind_contexts(alloc, parts)?;
     let shares = shares(alloc, system, bounds.as_slice())?;
     let mut hints = Vec::new(alloc);
+    keep(&mut hints, nothing_to_judge(parts))?;
     keep_unsignalled(&mut hints, marks.as_slice())?;
     keep_unbound(&mut hints, bounds.as_slice())?;
+    keep_unused(&mut hints, parts)?;
     keep_overcommitted(
         alloc,
         &mut hints,

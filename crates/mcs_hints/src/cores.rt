@@ -1,9 +1,9 @@
-ghost use Rattle.std.specs.Prelude.{◌≡◌, ◌≤◌, ◌++◌, length, IfOk, IfSome};
+ghost use Rattle.std.specs.Prelude.{◌≡◌, ◌≤◌, ◌++◌, length, max, IfOk, IfSome};
 ghost use Rattle.std.specs.List.{All, filter_map};
 ghost use Rattle.mcs_control.specs.Control.{IsConfig};
 ghost use Rattle.mcs_hints.specs.Numbers.{numbers};
 ghost use Rattle.mcs_hints.specs.Contexts.{part_where};
-ghost use Rattle.mcs_hints.specs.Cores.{granted, parts_of, overcommitted};
+ghost use Rattle.mcs_hints.specs.Cores.{granted, is_used, overcommitted, parts_of, unused};
 ghost use Rattle.mcs_hints.specs.Exact.{IsFraction};
 ghost use Rattle.mcs_hints.specs.stored.Marks.{bounds_of, shares_of};
 
@@ -11,9 +11,42 @@ use crate::Hint;
 use crate::exact::{Fraction, is_above_one};
 use crate::keep::keep;
 use mcs_control::{Config, Kind};
-use mcs_system::System;
+use mcs_system::{System, SystemParts};
 use mcs_ticks::{CoreId, NoMemory};
 use std::alloc::Global;
+
+/// Millionths that an overcommitted core grants at least: one more than all of its time.
+const ABOVE: u64 = 1_000_001;
+
+/// Whether a thread is bound to a context of the core.
+fn is_used(parts: &SystemParts, core: CoreId) -> bool
+    ensures { result ≡ is_used parts.now core }
+{
+    parts
+        .threads
+        .as_slice()
+        .iter()
+        .any(|part| parts.core_of_thread(part) == core)
+}
+
+fn unused(parts: &SystemParts, core: CoreId) -> Option<Hint>
+    ensures { result ≡ unused parts.now core }
+{
+    if is_used(parts, core) {
+        None
+    } else {
+        Some(Hint::Unused { core })
+    }
+}
+
+pub(crate) fn keep_unused(hints: &mut Vec<Hint>, parts: &SystemParts) -> Result<(), NoMemory>
+    ensures { IfOk result (λ _. hints.new.items ≡ hints.old.items ++ filter_map (unused parts.now) (numbers parts.now.cores)) }
+{
+    for core in 0..parts.cores {
+        keep(hints, unused(parts, CoreId(core)))?;
+    }
+    Ok(())
+}
 
 fn granted(system: &System, shares: &[u64], core: CoreId) -> u64
     requires { shares.now ≡ shares_of system.now }
@@ -80,7 +113,7 @@ fn overcommitted(
 {
     let mut parts = parts_of(alloc, system, bounds, core)?;
     if is_above_one(parts.as_mut_slice()) {
-        let millionths = granted(system, shares, core);
+        let millionths = granted(system, shares, core).max(ABOVE);
         Ok(Some(Hint::Overcommitted { core, millionths }))
     } else {
         Ok(None)

@@ -1,5 +1,6 @@
-//! Likely mistakes in a system, found from its file alone: notifications that are never signalled,
-//! contexts without a thread, and cores whose total utilisation exceeds 100 %.
+//! Likely mistakes in a system, found from its file alone: no thread or no deadline, notifications
+//! that are never signalled, contexts and cores without a thread, and cores whose total utilisation
+//! exceeds 100 %.
 #![tactic(auto)]
 
 mod all;
@@ -10,6 +11,7 @@ mod hint;
 mod keep;
 mod notes;
 mod shares;
+mod whole;
 
 pub use all::hints;
 pub use hint::Hint;

@@ -1,7 +1,8 @@
 //! Findings, figures and counts of chains, worked by hand from the rules.
 
 use crate::runs::{options, written};
-use mcs_check::{ChainCounts, Quiet, check};
+use mcs_check::{Quiet, check};
+use mcs_check_lines::ChainCounts;
 use mcs_check_words::{Format, Show};
 use mcs_cli::{FromRead, IntoWrite};
 use std::process::Abort;
@@ -56,7 +57,7 @@ const TWO_CORES_FOUND: &str = "\
 22 0 never Z deadline 5
 22 0 unanswered z deadline 19 origin 3
 hint note q is waited on and no script signals it
-missed 2 overdue 0 lost 0 never 1 merged 0 allowed 0 hints 1 slow 4 unanswered 1
+missed 2 overdue 0 lost 0 never 1 merged 0 allowed 0 unjudged 0 hints 1 threads 3 deadlines 6 judged 9 slow 4 unanswered 1
 ";
 
 #[test]
@@ -74,7 +75,7 @@ const LOOP_FOUND: &str = "\
 42 0 lost n 1
 43 0 slow c 31 deadline 20 origin 12
 52 0 unanswered c deadline 20 origin 32
-missed 0 overdue 0 lost 2 never 0 merged 0 allowed 0 hints 0 slow 1 unanswered 1
+missed 0 overdue 0 lost 2 never 0 merged 0 allowed 0 unjudged 0 hints 0 threads 1 deadlines 1 judged 4 slow 1 unanswered 1
 ";
 
 const LOOP_ROWS: &str = "\
@@ -90,7 +91,8 @@ const LOOP_OBJECTS: &str = "\
 {\"moment\":42,\"core\":0,\"kind\":\"lost\",\"note\":\"n\",\"word\":1}
 {\"moment\":43,\"core\":0,\"kind\":\"slow\",\"chain\":\"c\",\"latency\":31,\"deadline\":20,\"origin\":12}
 {\"moment\":52,\"core\":0,\"kind\":\"unanswered\",\"chain\":\"c\",\"deadline\":20,\"origin\":32}
-{\"kind\":\"counts\",\"missed\":0,\"overdue\":0,\"lost\":2,\"never\":0,\"merged\":0,\"allowed\":0,\"hints\":0,\"slow\":1,\"unanswered\":1}
+{\"kind\":\"counts\",\"missed\":0,\"overdue\":0,\"lost\":2,\"never\":0,\"merged\":0,\"allowed\":0,\"unjudged\":0,\"hints\":0,\
+\"threads\":1,\"deadlines\":1,\"judged\":4,\"slow\":1,\"unanswered\":1}
 ";
 
 /// L runs in 51 of 52 ticks, and its context could let it run in each. The latencies are 20, 21 and
@@ -100,7 +102,7 @@ thread L core 0 priority 5 budget 100 period 100 granted 1000000 used 980769 rou
 missed 0 late 0 lost 2 merged 0 ticks_pending 0 ticks_ready 0 ticks_running 51 ticks_throttled 0 ticks_blocked 1 ticks_woken 0 ticks_done 0
 context l unused 1
 chain c interrupts 6 answers 3 least 20 greatest 31 total 72 p50 21 p90 31 p99 31 deadline 20 margin -11
-missed 0 overdue 0 lost 2 never 0 merged 0 allowed 0 hints 0 slow 1 unanswered 1
+missed 0 overdue 0 lost 2 never 0 merged 0 allowed 0 unjudged 0 hints 0 threads 1 deadlines 1 judged 4 slow 1 unanswered 1
 ";
 
 const LOOP_TABLE_ROWS: &str = "\
@@ -133,7 +135,7 @@ thread L core 0 priority 5 budget 100 period 100 granted 1000000 used 1000000 ro
 missed 0 late 0 lost 0 merged 0 ticks_pending 0 ticks_ready 0 ticks_running 1 ticks_throttled 0 ticks_blocked 0 ticks_woken 0 ticks_done 0
 context l unused 0
 chain c interrupts 0 answers 0 least - greatest - total 0 p50 - p90 - p99 - deadline 20 margin -
-missed 0 overdue 0 lost 0 never 0 merged 0 allowed 0 hints 0 slow 0 unanswered 0
+missed 0 overdue 0 lost 0 never 0 merged 0 allowed 0 unjudged 0 hints 0 threads 1 deadlines 1 judged 0 slow 0 unanswered 0
 ";
 
 #[test]
@@ -145,7 +147,8 @@ fn a_chain_without_an_interrupt(rt: HostRuntime) -> Result<(), Fail> {
     Ok(())
 }
 
-/// An interrupt that is a deadline old is unanswered, and one tick before it is not.
+/// An interrupt that is a deadline old is unanswered, and one tick before it is not. At 31 one
+/// answer is judged: that of 22.
 #[test]
 fn chains_are_counted(rt: HostRuntime) -> Result<(), Fail> {
     for (horizon, counts) in [(31, (0, 0)), (32, (0, 1)), (51, (1, 0)), (52, (1, 1))] {
@@ -163,7 +166,8 @@ fn chains_are_counted(rt: HostRuntime) -> Result<(), Fail> {
         let Ok(checked) = ended else { rt.abort() };
         let (slow, unanswered) = counts;
         assert_eq!(rt; checked.chains, Some(ChainCounts { slow, unanswered }));
-        assert_eq!(rt; checked.is_clean(false), slow == 0 && unanswered == 0);
+        let status = if slow == 0 && unanswered == 0 { 0 } else { 5 };
+        assert_eq!(rt; checked.status(false), status);
     }
     Ok(())
 }

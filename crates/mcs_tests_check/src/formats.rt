@@ -12,7 +12,8 @@ moment,core,kind,thread,note,word,number,response,deadline,activated,queued,read
 const LATE_OBJECTS: &str = "\
 {\"moment\":11,\"core\":0,\"kind\":\"miss\",\"thread\":\"A\",\"number\":1,\"response\":11,\"deadline\":10,\"activated\":0,\
 \"queued\":0,\"ready\":0,\"running\":5,\"throttled\":6,\"blocked\":0,\"woken\":0}
-{\"kind\":\"counts\",\"missed\":1,\"overdue\":0,\"lost\":0,\"never\":0,\"merged\":0,\"allowed\":0,\"hints\":0}
+{\"kind\":\"counts\",\"missed\":1,\"overdue\":0,\"lost\":0,\"never\":0,\"merged\":0,\"allowed\":0,\"unjudged\":0,\"hints\":0,\
+\"threads\":1,\"deadlines\":1,\"judged\":1}
 ";
 
 const LATE_JOB_ROWS: &str = "\
@@ -41,7 +42,7 @@ const LATE_TABLE: &str = "\
 thread A core 0 priority 5 budget 2 period 5 granted 400000 used 250000 rounds 1 greatest 11 p50 11 p90 11 p99 11 deadline 10 margin -1 \
 missed 1 late 1 lost - merged - ticks_pending 0 ticks_ready 0 ticks_running 5 ticks_throttled 6 ticks_blocked 0 ticks_woken 0 ticks_done 9
 context a unused 3
-missed 1 overdue 0 lost 0 never 0 merged 0 allowed 0 hints 0
+missed 1 overdue 0 lost 0 never 0 merged 0 allowed 0 unjudged 0 hints 0 threads 1 deadlines 1 judged 1
 ";
 
 const LATE_TABLE_ROWS: &str = "\
@@ -55,7 +56,8 @@ const LATE_TABLE_OBJECTS: &str = "\
 \"rounds\":1,\"greatest\":11,\"p50\":11,\"p90\":11,\"p99\":11,\"deadline\":10,\"margin\":-1,\"missed\":1,\"late\":1,\
 \"ticks_pending\":0,\"ticks_ready\":0,\"ticks_running\":5,\"ticks_throttled\":6,\"ticks_blocked\":0,\"ticks_woken\":0,\"ticks_done\":9}
 {\"kind\":\"context\",\"context\":\"a\",\"unused\":3}
-{\"kind\":\"counts\",\"missed\":1,\"overdue\":0,\"lost\":0,\"never\":0,\"merged\":0,\"allowed\":0,\"hints\":0}
+{\"kind\":\"counts\",\"missed\":1,\"overdue\":0,\"lost\":0,\"never\":0,\"merged\":0,\"allowed\":0,\"unjudged\":0,\"hints\":0,\
+\"threads\":1,\"deadlines\":1,\"judged\":1}
 ";
 
 const ROWS_OF_TWO_KINDS: &str =

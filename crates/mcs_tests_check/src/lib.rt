@@ -10,6 +10,8 @@ mod formats;
 #[cfg(test)]
 mod hinted;
 #[cfg(test)]
+mod judged;
+#[cfg(test)]
 mod progress;
 #[cfg(test)]
 mod runs;

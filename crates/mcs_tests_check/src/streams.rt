@@ -1,7 +1,8 @@
 //! The source and the target of a run.
 
 use crate::runs::{LATE, SIGNALS, options};
-use mcs_check::{CheckFault, Checked, Quiet, check, check_with};
+use mcs_check::{CheckFault, Quiet, check, check_with};
+use mcs_check_lines::Checked;
 use mcs_cli::{FromRead, IntoWrite, RunFault};
 use std::alloc::Global;
 use std::process::Abort;
@@ -48,10 +49,7 @@ fn files_and_the_input(rt: HostRuntime) -> Result<(), Fail> {
     let ended = of_input(&rt, rt.alloc(), Some(name))?;
     assert_eq!(rt; ended, Err(CheckFault::Run(RunFault::Read)));
     match of_input(&rt, rt.alloc(), None)? {
-        Ok(checked) => assert_eq!(rt;
-            (checked.counts.missed, checked.is_clean(false)),
-            (1, false)
-        ),
+        Ok(checked) => assert_eq!(rt; (checked.counts.missed, checked.status(false)), (1, 5)),
         Err(_) => rt.abort(),
     }
     Ok(())

@@ -4,8 +4,9 @@
 
 mod meter;
 
-use mcs_check::{CheckFault, Checked, WhyFault, check_with, explain_with};
+use mcs_check::{CheckFault, WhyFault, check_with, explain_with};
 use mcs_check_forever::{ForeverFault, Verdict, foretell_with};
+use mcs_check_lines::Checked;
 use mcs_check_words::{Options, options};
 use mcs_cli::{FromRead, IntoWrite, WordsFault};
 use meter::Meter;
@@ -18,12 +19,6 @@ const NO_MEMORY: &str = "mcscheck: no memory\n";
 const NOT_UTF_8: &str = "error: invalid UTF-8 was detected in one or more arguments\n";
 
 const WRITE_FAILED: &str = "mcscheck: write failed\n";
-
-/// Exit code if there is a finding.
-const FOUND: u8 = 5;
-
-/// Exit code of `--forever` if there is no finding so far, but some cores were not found to repeat.
-const OPEN: u8 = 6;
 
 fn main(rt: HostRuntime) -> ExitCode {
     let words = match words_of(&rt) {
@@ -65,8 +60,7 @@ fn main(rt: HostRuntime) -> ExitCode {
 /// Returns the exit code of the counts, or of the fault, which it prints.
 fn end_check(rt: &HostRuntime, options: &Options, found: Result<Checked, CheckFault>) -> ExitCode {
     match found {
-        Ok(checked) if checked.is_clean(options.strict) => ExitCode::SUCCESS,
-        Ok(_) => ExitCode::from(FOUND),
+        Ok(checked) => ExitCode::from(checked.status(options.strict)),
         Err(fault) => {
             let status = fault.status();
             let _ = rt.eprintln(fault);
@@ -90,9 +84,7 @@ fn end_answer(rt: &HostRuntime, told: Result<(), WhyFault>) -> ExitCode {
 /// Returns the exit code of the verdict for all time, or of the fault, which it prints.
 fn end_look(rt: &HostRuntime, verdict: Result<Verdict, ForeverFault>) -> ExitCode {
     match verdict {
-        Ok(Verdict::Clean) => ExitCode::SUCCESS,
-        Ok(Verdict::Found) => ExitCode::from(FOUND),
-        Ok(Verdict::Open) => ExitCode::from(OPEN),
+        Ok(verdict) => ExitCode::from(verdict.status()),
         Err(fault) => {
             let status = fault.status();
             let _ = rt.eprintln(fault);

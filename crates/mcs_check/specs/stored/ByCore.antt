@@ -7,22 +7,9 @@ use Rattle.mcs_system.specs.System.{System}
 use Rattle.mcs_stretch.specs.Stretch.{rows_between}
 use Rattle.mcs_verdict.specs.declared.finding.Found.{Found}
 use Rattle.mcs_verdict.specs.Findings.{past_of}
-use Rattle.mcs_check.specs.declared.counts.Counts.{Counts}
-use Rattle.mcs_check.specs.Counts.{no_counts}
+use Rattle.mcs_check_lines.specs.declared.counts.Counts.{Counts}
+use Rattle.mcs_check_lines.specs.Counts.{no_counts, together}
 use Rattle.mcs_check.specs.stored.Found.{counts_so_far, told_in}
-
--- two counts as one
-abbrev pub together : Counts → Counts → Counts
-together a b =
-    record {
-      missed = capped (a.missed + b.missed);
-      overdue = capped (a.overdue + b.overdue);
-      lost = capped (a.lost + b.lost);
-      never = capped (a.never + b.never);
-      merged = capped (a.merged + b.merged);
-      allowed = capped (a.allowed + b.allowed);
-      hints = capped (a.hints + b.hints);
-    }
 
 -- the rows of core c before time t, the latest first
 abbrev pub before_on : System → ℕ → ℕ → List Row

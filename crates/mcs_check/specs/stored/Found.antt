@@ -5,8 +5,8 @@ use Rattle.mcs_system.specs.System.{System}
 use Rattle.mcs_core.specs.Clock.{clock}
 use Rattle.mcs_verdict.specs.declared.finding.Found.{Found}
 use Rattle.mcs_verdict.specs.Findings.{finding, found_at, past_of}
-use Rattle.mcs_check.specs.declared.counts.Counts.{Counts}
-use Rattle.mcs_check.specs.Counts.{no_counts, told_of}
+use Rattle.mcs_check_lines.specs.declared.counts.Counts.{Counts}
+use Rattle.mcs_check_lines.specs.Counts.{no_counts, told_of}
 use Rattle.mcs_check.specs.stored.Rows.{counted_at}
 
 -- the rows before time t, the latest first

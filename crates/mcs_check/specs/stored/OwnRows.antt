@@ -8,11 +8,11 @@ use Rattle.mcs_system.specs.System.{System}
 use Rattle.mcs_team.specs.Counts.{many_of, one_more}
 use Rattle.mcs_verdict.specs.declared.finding.Found.{Found}
 use Rattle.mcs_verdict.specs.Findings.{InOrder, UpTo, past_of}
-use Rattle.mcs_verdict.specs.Watch.{watch_of}
 use Rattle.mcs_verdict_laws.proofs.Standings.{past-append}
 use Rattle.mcs_check.specs.declared.core_watch.CoreWatch.{CoreWatch}
 use Rattle.mcs_check.specs.stored.Found.{counts_so_far, told_by, told_in}
 use Rattle.mcs_check.specs.stored.Rows.{counted_at}
+use Rattle.mcs_check.specs.stored.Threads.{threads_of}
 
 -- the findings at this time or later
 abbrev pub since : ℕ → List Found → List Found
@@ -30,7 +30,7 @@ rows_seen (Some own) = own.rows
 module _ (system : System) (allowed : List Bool) (from : ℕ) where
   -- the state kept of these rows, with the findings from `from` on
   pub record HasSeen (rows : List Row) (own : CoreWatch) : Type 0 where
-    pub watch : own.watch ≡ watch_of system (past_of [] rows)
+    pub watch : own.watch ≡ threads_of system (past_of [] rows)
     pub counts : own.counts ≡ counts_so_far system allowed (past_of [] rows)
     pub found : own.found.items ≡ since from (told_in system allowed [] rows)
 
@@ -43,8 +43,8 @@ module _ (system : System) (allowed : List Bool) (from : ℕ) where
 abbrev pub SeesMore : List Bool → ℕ → CoreWatch → Row → Bool → CoreWatch → Type 0
 SeesMore allowed from before row taken after =
     (after.rows ≡ one_more before.rows)
-    × ((system : System) (past : List Row) → before.watch ≡ watch_of system past → UpTo row.moment past →
-    (after.watch ≡ watch_of system (row ∷ past))
+    × ((system : System) (past : List Row) → before.watch ≡ threads_of system past → UpTo row.moment past →
+    (after.watch ≡ threads_of system (row ∷ past))
     × (after.counts ≡ counted_at system allowed past row before.counts)
     × (taken ≡ true → after.found.items ≡ before.found.items ++ since from (told_by system allowed past row)))
 
@@ -75,7 +75,7 @@ module _ (system : System) (allowed : List Bool) (from : ℕ) where
       let told : told_in system allowed [] (held ++ row ∷ []) ≡ told_in system allowed [] held ++ told_by system allowed (past_of [] held) row =
       told-append system allowed [] held (row ∷ []) ∙ ap (λ l. told_in system allowed [] held ++ l) (append-nil (told_by system allowed (past_of [] held) row)) in
       record {
-        watch = now.0 ∙ ap (watch_of system) next;
+        watch = now.0 ∙ ap (threads_of system) next;
         counts = now.1 ∙ ap (counted_at system allowed (past_of [] held) row) has.counts ∙ ap (counts_so_far system allowed) next;
         found = now.2 refl ∙ ap (λ l. l ++ since from (told_by system allowed (past_of [] held) row)) has.found
             ∙ sym (filter-append (λ (f : Found). nat_le from f.moment) (told_in system allowed [] held) (told_by system allowed (past_of [] held) row))

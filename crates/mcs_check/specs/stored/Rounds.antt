@@ -7,9 +7,9 @@ use Rattle.mcs_team.specs.Counts.{many_of}
 use Rattle.mcs_window.specs.Desk.{Table, clock_of, turns_left, AllAreHere}
 use Rattle.mcs_check.specs.declared.rounds.Cores.{Cores}
 use Rattle.mcs_check.specs.declared.core_watch.CoreWatch.{CoreWatch}
-use Rattle.mcs_check.specs.declared.counts.Counts.{Counts}
-use Rattle.mcs_check.specs.Counts.{no_counts}
-use Rattle.mcs_check.specs.stored.ByCore.{together, told_on_all}
+use Rattle.mcs_check_lines.specs.declared.counts.Counts.{Counts}
+use Rattle.mcs_check_lines.specs.Counts.{no_counts, together}
+use Rattle.mcs_check.specs.stored.ByCore.{told_on_all}
 use Rattle.mcs_check.specs.stored.Found.{told_in}
 use Rattle.mcs_check.specs.stored.OwnRows.{HasSeen}
 

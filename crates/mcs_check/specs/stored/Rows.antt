@@ -18,16 +18,19 @@ use Rattle.mcs_team.specs.declared.run.SimFault.TheVariants.{NoMemory}
 use Rattle.mcs_check_words.specs.declared.asked.Format.{Format}
 use Rattle.mcs_check_words.specs.declared.asked.Show.{Show}
 use Rattle.mcs_check_words.specs.declared.asked.Show.TheVariants as show
-use Rattle.mcs_check.specs.declared.counts.Counts.{Counts}
+use Rattle.mcs_check_lines.specs.declared.counts.Counts.{Counts}
+use Rattle.mcs_check_lines.specs.declared.unjudged.Unjudged.{Unjudged}
+use Rattle.mcs_check_lines.specs.Unjudged.{unjudged_line}
 use Rattle.mcs_check.specs.declared.seen.Tables.{Tables}
-use Rattle.mcs_check.specs.declared.shown.Shown.{Shown}
-use Rattle.mcs_check.specs.declared.shown.Shown.TheVariants as shown
+use Rattle.mcs_check_lines.specs.declared.shown.Shown.{Shown}
+use Rattle.mcs_check_lines.specs.declared.shown.Shown.TheVariants as shown
 use Rattle.mcs_ticks.specs.Capped.{one_more}
-use Rattle.mcs_check.specs.Chains.{chain_found_lines, chain_lines}
-use Rattle.mcs_check.specs.Counts.{taken, told_of}
-use Rattle.mcs_check.specs.Formats.{found_line, head_text, hint_line, job_line, row_line}
-use Rattle.mcs_check.specs.Figures.{table_lines}
-use Rattle.mcs_check.specs.Told.{found_lines}
+use Rattle.mcs_check_lines.specs.Chains.{chain_found_lines, chain_lines}
+use Rattle.mcs_check_lines.specs.Counts.{taken, told_of}
+use Rattle.mcs_check_lines.specs.Formats.{head_text, hint_line}
+use Rattle.mcs_check_lines.specs.Shown.{shown_text}
+use Rattle.mcs_check_lines.specs.Figures.{table_lines}
+use Rattle.mcs_check_lines.specs.Told.{found_lines}
 use Rattle.mcs_hints.specs.Hints.{hints_of}
 
 -- a finding, as it is shown
@@ -40,29 +43,23 @@ abbrev pub shown_job : Option Job → Option Shown
 shown_job None = None
 shown_job (Some job) = Some (shown.Job job)
 
--- the line of what is shown
-abbrev pub shown_text : Format → System → Shown → List ℕ
-shown_text how system (shown.Found found) = found_line how system found
-shown_text how system (shown.Job job) = job_line how system job
-shown_text how system (shown.Row row) = row_line how system row
-
 -- the line, if there is one
 abbrev pub told_line : Format → System → Option Shown → List ℕ
 told_line how system None = []
 told_line how system (Some entry) = shown_text how system entry
 
 -- the lines after the last row: the slow answers that are due, the findings at the horizon, the
--- chains without an answer, and the hints
-abbrev pub ends_lines : Format → System → List Bool → List ChainFound → List Found → List ChainFound → List ℕ
-ends_lines how system allowed due found unanswered =
+-- chains without an answer, the unjudged threads, and the hints
+abbrev pub ends_lines : Format → System → List Bool → List ChainFound → List Found → List ChainFound → List Unjudged → List ℕ
+ends_lines how system allowed due found unanswered unjudged =
     chain_found_lines how system due ++ found_lines how system allowed found ++ chain_found_lines how system unanswered
-    ++ flat_map (hint_line how system) (hints_of system)
+    ++ flat_map (unjudged_line how system) unjudged ++ flat_map (hint_line how system) (hints_of system)
 
-abbrev pub rest_lines : Format → Show → System → List Bool → List ChainFound → List Found → List ChainFound → List ℕ
-rest_lines how show.Findings system allowed due found unanswered = ends_lines how system allowed due found unanswered
-rest_lines how show.Jobs system allowed due found unanswered = []
-rest_lines how show.Table system allowed due found unanswered = []
-rest_lines how show.Both system allowed due found unanswered = ends_lines how system allowed due found unanswered
+abbrev pub rest_lines : Format → Show → System → List Bool → List ChainFound → List Found → List ChainFound → List Unjudged → List ℕ
+rest_lines how show.Findings system allowed due found unanswered unjudged = ends_lines how system allowed due found unanswered unjudged
+rest_lines how show.Jobs system allowed due found unanswered unjudged = []
+rest_lines how show.Table system allowed due found unanswered unjudged = []
+rest_lines how show.Both system allowed due found unanswered unjudged = ends_lines how system allowed due found unanswered unjudged
 
 -- the tables of these rows, if figures are asked for
 abbrev pub tables_of : System → ℕ → List Row → Tables

@@ -2,11 +2,11 @@
 ghost use Rattle.std.specs.Prelude.{◌≡◌, ◌++◌, ◌∷◌, [], OnOk, OnErr, codes};
 ghost use Rattle.mcs_fields.specs.Fields.{amount, name, object_text};
 ghost use Rattle.mcs_ever_told.specs.declared.line.Line.TheVariants.{Repeats, Open, Miss, Lost, Overdue, Never, Clean};
-ghost use Rattle.mcs_ever_told.specs.Fields.{line_fields, often_fields};
+ghost use Rattle.mcs_ever_told.specs.Fields.{line_fields, often_fields, totals_fields};
 
 use crate::line::cores::cores_text;
 use crate::line::thread::{put_so_far, put_thread};
-use crate::line::{Line, Often};
+use crate::line::{Line, Often, Totals};
 use mcs_ever::CoreSet;
 use mcs_fields::{Cell, put_object};
 use mcs_system::System;
@@ -46,11 +46,7 @@ pub(crate) fn put_fields(
         }
         Line::ThreadSoFar { thread, greatest } => put_so_far(alloc, text, system, thread, greatest),
         Line::Clean { cores } => put_clean(alloc, text, system, &cores),
-        Line::Sets {
-            sets,
-            repeating,
-            findings,
-        } => put_sets(alloc, text, sets, repeating, findings),
+        Line::Sets { totals } => put_sets(alloc, text, &totals),
     }
 }
 
@@ -222,23 +218,17 @@ fn put_moment<'s>(
     put_object(alloc, text, &fields)
 }
 
-fn put_sets(
-    alloc: Global,
-    text: &mut Vec<u8>,
-    sets: u64,
-    repeating: u64,
-    findings: u64,
-) -> Result<(), NoMemory>
-    ensures ok { OnOk result (text.new.items ≡ text.old.items ++ object_text
-        ((codes "kind", name (codes "sets")) ∷ (codes "sets", amount sets) ∷ (codes "repeating", amount repeating)
-        ∷ (codes "findings", amount findings) ∷ [])) }
+fn put_sets(alloc: Global, text: &mut Vec<u8>, totals: &Totals) -> Result<(), NoMemory>
+    ensures ok { OnOk result (text.new.items ≡ text.old.items ++ object_text (totals_fields totals.now)) }
     ensures err { OnErr result (text.new.items ≡ text.old.items) }
 {
     let fields = [
         ("kind", Cell::Name("sets")),
-        ("sets", Cell::Number(sets)),
-        ("repeating", Cell::Number(repeating)),
-        ("findings", Cell::Number(findings)),
+        ("sets", Cell::Number(totals.sets)),
+        ("repeating", Cell::Number(totals.repeating)),
+        ("findings", Cell::Number(totals.findings)),
+        ("threads", Cell::Number(totals.threads)),
+        ("deadlines", Cell::Number(totals.deadlines)),
     ];
     put_object(alloc, text, &fields)
 }

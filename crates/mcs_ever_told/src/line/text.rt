@@ -1,13 +1,13 @@
 //! Lines in words.
 ghost use Rattle.std.specs.Prelude.{◌≡◌, ◌++◌, ◌∷◌, [], OnOk, Some, codes, decimal};
 ghost use Rattle.std.specs.Io.{StartsWith};
-ghost use Rattle.mcs_text.specs.Text.{counted, line};
+ghost use Rattle.mcs_text.specs.Text.{line};
 ghost use Rattle.mcs_ever_told.specs.declared.line.Line.TheVariants.{Repeats, Open, Miss, Lost, Overdue, Never, ThreadSoFar};
-ghost use Rattle.mcs_ever_told.specs.Texts.{known_word, named, often_words, silent_text, throttled_text, words_text};
+ghost use Rattle.mcs_ever_told.specs.Texts.{known_word, named, often_words, silent_text, throttled_text, totals_words, words_text};
 
 use crate::line::cores::cores_text;
 use crate::line::word::{Word, append_line, append_words, known_word};
-use crate::line::{Line, Often};
+use crate::line::{Line, Often, Totals};
 use mcs_ever::CoreSet;
 use mcs_system::System;
 use mcs_text::{note_name, thread_name};
@@ -46,11 +46,7 @@ pub(crate) fn append_told(
         }
         Line::ThreadSoFar { thread, greatest } => append_so_far(text, system, thread, greatest),
         Line::Clean { .. } => append_line(text, "nothing is ever found", &[]),
-        Line::Sets {
-            sets,
-            repeating,
-            findings,
-        } => append_sets(text, sets, repeating, findings),
+        Line::Sets { totals } => append_sets(text, &totals),
     }
 }
 
@@ -263,17 +259,20 @@ fn append_so_far(
     append_line(text, "thread", &words)
 }
 
-fn append_sets(text: &mut Vec<u8>, sets: u64, repeating: u64, findings: u64) -> Result<(), NoMemory>
-    ensures ok { OnOk result (text.new.items ≡ text.old.items
-        ++ line (codes "sets") (decimal sets ∷ counted ((codes "repeating", repeating) ∷ (codes "findings", findings) ∷ []))) }
+fn append_sets(text: &mut Vec<u8>, totals: &Totals) -> Result<(), NoMemory>
+    ensures ok { OnOk result (text.new.items ≡ text.old.items ++ line (codes "sets") (totals_words totals.now)) }
     ensures kept { StartsWith text.new.items text.old.items }
 {
     let words = [
-        Word::Number(sets),
+        Word::Number(totals.sets),
         Word::Plain("repeating"),
-        Word::Number(repeating),
+        Word::Number(totals.repeating),
         Word::Plain("findings"),
-        Word::Number(findings),
+        Word::Number(totals.findings),
+        Word::Plain("threads"),
+        Word::Number(totals.threads),
+        Word::Plain("deadlines"),
+        Word::Number(totals.deadlines),
     ];
     append_line(text, "sets", &words)
 }

@@ -1,6 +1,6 @@
 use Rattle.std.proofs.Common.{◌≡◌, drop}
 use Rattle.std.specs.Prelude.{fold}
-use Rattle.mcs_check.specs.stored.ByCore.{together}
+use Rattle.mcs_check_lines.specs.Counts.{together}
 use Rattle.mcs_check.specs.stored.Rounds.{are_counted_together}
 use Rattle.mcs_check.proofs.by_core.counted.Given as goal
 

@@ -106,6 +106,24 @@ returns-clause-unended g c =
     c.in-Ok-put_together.ensures.unended c.args.allowed.now r.cores.reached
     (subst (AreWatched system c.args.allowed.now r.cores.reached _) (sym same) (ended system c.args.allowed.now c.args.horizon r.cores r.invariant.0 over))
 
+pub returns-clause-rounds : goal.returns-clause-rounds
+returns-clause-rounds g c =
+    let r = c.rounds in
+    let system = c.args.lines.now.system.now in
+    let over : c.args.horizon < r.cores.reached = search rules in
+    let same : c.as_slice-2.result.now ≡ r.cores.watches.items = search rules in
+    c.in-Ok-put_together.ensures.rounds c.args.allowed.now r.cores.reached
+    (subst (AreWatched system c.args.allowed.now r.cores.reached _) (sym same) (ended system c.args.allowed.now c.args.horizon r.cores r.invariant.0 over))
+
+pub returns-clause-unjudged : goal.returns-clause-unjudged
+returns-clause-unjudged g c =
+    let r = c.rounds in
+    let system = c.args.lines.now.system.now in
+    let over : c.args.horizon < r.cores.reached = search rules in
+    let same : c.as_slice-2.result.now ≡ r.cores.watches.items = search rules in
+    c.in-Ok-put_together.ensures.unjudged c.args.allowed.now r.cores.reached
+    (subst (AreWatched system c.args.allowed.now r.cores.reached _) (sym same) (ended system c.args.allowed.now c.args.horizon r.cores r.invariant.0 over))
+
 pub returns-clause-put : goal.returns-clause-put
 returns-clause-put g c =
     let r = c.rounds in

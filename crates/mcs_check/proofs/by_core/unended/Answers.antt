@@ -5,6 +5,7 @@ use Rattle.mcs_core.specs.Clock.{schedule}
 use Rattle.mcs_system.specs.System.{core_of}
 use Rattle.mcs_verdict.specs.Findings.{found_at_end, past_of}
 use Rattle.mcs_check.specs.declared.core_watch.CoreWatch.{CoreWatch}
+use Rattle.mcs_check.specs.declared.thread_watch.ThreadWatch.{ThreadWatch}
 use Rattle.mcs_check.proofs.Cores.{found-at-home, thread-at, unended-next}
 use Rattle.mcs_check.proofs.by_core.unended.Goals as goal
 
@@ -20,7 +21,7 @@ loop-number-preserved c = λ allowed from are.
     let is : part ≡ get_or parts.threads n part = c.part-item.is ∙ ap (λ xs. get_or xs n part) items in
     let home = c.core_of_thread-core.ensures ∙ ap (core_of parts) (thread-at parts n part known is) in
     let found = found-at-home parts allowed c.requires.well_formed c.cores_are_watched.ensures from horizon n core c.args.watches.now c.index-watches-core.result c.unended-finding.result are home
-    (c.index-watches-core.is ∙ ap (λ k. get_or c.args.watches.now k c.index-watches-core.result) c.core.view_is) (λ past e up. c.unended-finding.ensures parts past (sym (ap (λ (w : CoreWatch). w.watch) c.index-watches-core.is) ∙ e) up) in
+    (c.index-watches-core.is ∙ ap (λ k. get_or c.args.watches.now k c.index-watches-core.result) c.core.view_is) (λ past e up. c.unended-finding.ensures parts past (ap (λ (t : ThreadWatch). t.accounts) (sym (ap (λ (w : CoreWatch). w.watch) c.index-watches-core.is) ∙ e)) up) in
     unended-next parts (past_of [] (schedule parts horizon)) horizon n part core c.unended-finding.result c.loop-number.found.items c.keep_finding.new.found.items _ known is c.core_of_thread-core.ensures
     found c.in_ok-keep_finding.ensures.ok (c.loop-number.invariant allowed from are)
 

@@ -1,6 +1,7 @@
 use Rattle.std.proofs.Common.{rules, ◌≡◌, ◌∙◌, ◌++◌, [], false, Err, ap, refl, subst, sym}
 use Rattle.std.specs.Arc.{arc_value}
 use Rattle.mcs_ticks.specs.declared.sink.FlowFault.TheVariants as fault
+use Rattle.mcs_ticks.specs.Capped.{capped}
 use Rattle.mcs_core.specs.Clock.{schedule}
 use Rattle.mcs_system.specs.System.{System}
 use Rattle.mcs_verdict.specs.Findings.{UpTo, found_at_end, past_of}
@@ -9,13 +10,14 @@ use Rattle.mcs_cli.specs.Flow.{AppendsBefore, IsWriteFault}
 use Rattle.mcs_cli.proofs.Flow.{before-none, prefix-before}
 use Rattle.mcs_cli.proofs.Rows.{at-last, at-target, err-is}
 use Rattle.mcs_check_words.specs.declared.asked.Show.TheVariants as show
-use Rattle.mcs_check.specs.Formats.{head_text}
+use Rattle.mcs_check_lines.specs.Formats.{head_text}
+use Rattle.mcs_check.specs.Judged.{all_unjudged, judged_rounds}
 use Rattle.mcs_check.specs.stored.AllFound.{kept_of}
 use Rattle.mcs_check.specs.stored.Found.{counts_so_far}
 use Rattle.mcs_check.specs.stored.Rows.{failed_after, lines_in, rows_text}
 use Rattle.mcs_check.proofs.Finders.{counts-so-far}
 use Rattle.mcs_check.proofs.Results.{moved, refused-fault}
-use Rattle.mcs_check.proofs.Told.{alone-rows, no-due, no-slow, no-unanswered}
+use Rattle.mcs_check.proofs.Told.{alone-rows, no-answers, no-due, no-slow, no-unanswered}
 use Rattle.mcs_check.proofs.find.find_by_core.Goals as goal
 
 pub returns-in_default-clause-fault : goal.returns-in_default-clause-fault
@@ -54,6 +56,11 @@ returns-in-Ok-look-clause-ok g c =
       counts = c.found_with.ensures.counts ∙ c.in-Ok-look.ensures.counts ∙ counted;
       unended = ap (λ v. v.items) c.found_with.ensures.unended ∙ c.in-Ok-look.ensures.unended
           ∙ ap (λ (s : System). found_at_end s (past_of [] (schedule s horizon)) horizon 0 s.threads) system_is;
+      rounds = c.found_with.ensures.judged.0 ∙ c.in-Ok-look.ensures.rounds
+          ∙ ap (λ s. capped (judged_rounds s (past_of [] (schedule s horizon)))) system_is;
+      answers = c.found_with.ensures.judged.1 ∙ sym (no-answers system (past_of [] (schedule system horizon)) none);
+      unjudged = ap (λ v. v.items) c.found_with.ensures.judged.2 ∙ c.in-Ok-look.ensures.unjudged
+          ∙ ap (λ s. all_unjudged s (past_of [] (schedule s horizon)) horizon) system_is;
       due = c.found_with.ensures.none.0 ∙ sym (no-due system (past_of [] (schedule system horizon)) none);
       slow = c.found_with.ensures.none.1 ∙ sym (no-slow system (past_of [] (schedule system horizon)) none);
       unanswered = c.found_with.ensures.none.2 ∙ sym (no-unanswered system (past_of [] (schedule system horizon)) horizon none);

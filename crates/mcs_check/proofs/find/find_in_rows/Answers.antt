@@ -6,8 +6,8 @@ use Rattle.mcs_verdict.specs.Findings.{InOrder, past_of}
 use Rattle.mcs_cli.specs.Devices.{AppendsPrefix}
 use Rattle.mcs_cli.specs.Flow.{AppendsBefore, IsWriteFault}
 use Rattle.mcs_cli.proofs.Rows.{at-last, at-target, err-is}
-use Rattle.mcs_check.specs.Counts.{no_counts}
-use Rattle.mcs_check.specs.Formats.{head_text}
+use Rattle.mcs_check_lines.specs.Counts.{no_counts}
+use Rattle.mcs_check_lines.specs.Formats.{head_text}
 use Rattle.mcs_check.specs.stored.Rows.{counts_in, failed_after, kept_table, rows_text}
 use Rattle.mcs_check.specs.stored.Watches.{watches_of}
 use Rattle.mcs_check.proofs.Finders.{rows-given, rows-some, rows-until}
@@ -50,7 +50,7 @@ returns-in-Ok-result-clause-ok g c =
     (subst (λ show. AppendsBefore (held c.args.target.now) (held last.lines.target.now) (rows_text system c.args.allowed.now first.format show (schedule system horizon)) last.seen.now.text.items) show_is
     (moved (λ w flags sys own. AppendsBefore (held w) (held last.lines.target.now) (rows_text sys flags first.format first.show (schedule own horizon)) last.seen.now.text.items)
     _ _ _ _ _ _ _ _ begun allowed_is system_is shared_is ended.2)) in
-    let working : failed last.lines.target.now ≡ false = ended.0.working ∙ ap failed begun ∙ c.requires in
+    let working : failed last.lines.target.now ≡ false = ended.0.working ∙ ap failed begun ∙ c.requires.working in
     let watched : last.seen.now.watch ≡ watches_of system (past_of [] (schedule system horizon)) =
     moved (λ w flags sys own. last.seen.now.watch ≡ watches_of sys (past_of [] (schedule own horizon))) _ _ _ _ _ _ _ _ begun allowed_is system_is shared_is ended.0.watch_is in
     let counted : last.seen.now.counts ≡ counts_in system c.args.allowed.now [] (schedule system horizon) no_counts =
@@ -102,7 +102,7 @@ returns-in-Ok-result-clause-working g c =
     (subst (λ show. AppendsBefore (held c.args.target.now) (held last.lines.target.now) (rows_text system c.args.allowed.now first.format show (schedule system horizon)) last.seen.now.text.items) show_is
     (moved (λ w flags sys own. AppendsBefore (held w) (held last.lines.target.now) (rows_text sys flags first.format first.show (schedule own horizon)) last.seen.now.text.items)
     _ _ _ _ _ _ _ _ begun allowed_is system_is shared_is ended.2)) in
-    let working : failed last.lines.target.now ≡ false = ended.0.working ∙ ap failed begun ∙ c.requires in
+    let working : failed last.lines.target.now ≡ false = ended.0.working ∙ ap failed begun ∙ c.requires.working in
     at-target (λ w. failed w ≡ false) last.lines.target.now _ (search rules) working
 
 pub returns-in-Err-NoMemory-clause-fault : goal.returns-in-Err-NoMemory-clause-fault
@@ -138,7 +138,7 @@ returns-in-Err-NoMemory-clause-fault g c =
     let target_is : c.schedule_to-result.new.sink.lines.target.ghost_name ≡ c.new-finder.result.lines.target.ghost_name = ended.0.1.target_is in
     at-target (λ w. (failed w ≡ false) × AppendsPrefix (held c.args.target.now) (held w) (rows_text system c.args.allowed.now how asked (schedule system horizon)))
     last.lines.target.now _ (search rules) (
-      ended.0.1.working ∙ ap failed begun ∙ c.requires,
+      ended.0.1.working ∙ ap failed begun ∙ c.requires.working,
       subst (λ form. AppendsPrefix (held c.args.target.now) (held last.lines.target.now) (rows_text system c.args.allowed.now form asked (schedule system horizon))) format_is
           (subst (λ show. AppendsPrefix (held c.args.target.now) (held last.lines.target.now) (rows_text system c.args.allowed.now first.format show (schedule system horizon))) show_is
           (moved (λ w flags sys own. AppendsPrefix (held w) (held last.lines.target.now) (rows_text sys flags first.format first.show (schedule own horizon)))
@@ -181,6 +181,6 @@ returns-in-Err-Sink-clause-fault g c =
     (subst (λ show. AppendsPrefix (held c.args.target.now) (held last.lines.target.now) (rows_text system c.args.allowed.now first.format show (schedule system horizon))) show_is
     (moved (λ w flags sys own. AppendsPrefix (held w) (held last.lines.target.now) (rows_text sys flags first.format first.show (schedule own horizon)))
     _ _ _ _ _ _ _ _ begun allowed_is system_is shared_is ended.1)) in
-    let was = ended.0.failed_is ∙ ap (failed_after last.lines.is_out_of_memory) (ap failed begun ∙ c.requires) in
+    let was = ended.0.failed_is ∙ ap (failed_after last.lines.is_out_of_memory) (ap failed begun ∙ c.requires.working) in
     at-target (λ w. IsWriteFault (held c.args.target.now) (held w) (failed w) (rows_text system c.args.allowed.now how asked (schedule system horizon)) c.refusal.result)
     last.lines.target.now _ (search rules) (refused-fault _ _ _ _ c.refusal.result last.lines.is_out_of_memory c.refusal.ensures was told)

@@ -16,7 +16,8 @@ returns-clause-ok g c =
     let seen = subst (λ s. IsAllSeen s c.args.allowed.now c.args.options.now (held c.args.target.now) (held c.find_in_rows.new.target) c.in_ok-seen.seen) (sym here) c.in_ok-seen.ensures.ok in
     subst (λ s. IfOk c.all_found.result (IsAllFound s c.args.allowed.now c.args.options.now (held c.args.target.now) (held c.find_in_rows.new.target))) here
     (found-all own c.args.allowed.now c.args.options.now (held c.args.target.now) (held c.find_in_rows.new.target) c.in_ok-seen.seen seen.text c.all_found.result
-    c.all_found.ensures.text c.all_found.ensures.counts c.all_found.ensures.due c.all_found.ensures.slow c.all_found.ensures.unanswered c.all_found.ensures.unended c.all_found.ensures.kept seen.counts seen.watch seen.table
+    c.all_found.ensures.text c.all_found.ensures.counts c.all_found.ensures.due c.all_found.ensures.slow c.all_found.ensures.unanswered c.all_found.ensures.unended
+    c.all_found.ensures.rounds c.all_found.ensures.answers c.all_found.ensures.unjudged c.all_found.ensures.kept seen.counts seen.watch seen.table
     (subst (λ s. UpTo horizon (past_of [] (schedule s horizon))) (sym here) in_time))
 
 pub returns-clause-fault : goal.returns-clause-fault

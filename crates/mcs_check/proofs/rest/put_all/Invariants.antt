@@ -1,5 +1,5 @@
 use Rattle.std.proofs.Common.{◌≡◌, ◌++◌, drop}
-use Rattle.mcs_check.specs.Told.{found_lines}
+use Rattle.mcs_check_lines.specs.Told.{found_lines}
 use Rattle.mcs_check.proofs.rest.put_all.Given as goal
 
 abbrev pub invariant-loop-found : goal.invariant-loop-found

@@ -1,5 +1,5 @@
 use Rattle.std.proofs.Common.{◌≡◌, ◌++◌, drop, flat_map}
-use Rattle.mcs_check.specs.Formats.{hint_line}
+use Rattle.mcs_check_lines.specs.Formats.{hint_line}
 use Rattle.mcs_check.proofs.rest.put_hints.Given as goal
 
 abbrev pub invariant-loop-hint : goal.invariant-loop-hint

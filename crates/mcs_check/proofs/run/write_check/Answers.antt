@@ -2,6 +2,7 @@ use Rattle.std.proofs.Common.{rules, ◌≡◌, ◌∙◌, ◌++◌, [], None, t
 use Rattle.std.specs.Io.KnownBytes.{Appends}
 use Rattle.std.specs.Arc.{arc_value}
 use Rattle.std.proofs.lemmas.Result.{IfErr-weaker}
+use Rattle.mcs_ticks.specs.Capped.{capped}
 use Rattle.mcs_system.specs.System.{System}
 use Rattle.mcs_core.specs.Clock.{schedule}
 use Rattle.mcs_hints.specs.Hints.{hints_of}
@@ -11,10 +12,12 @@ use Rattle.mcs_cli.specs.Flow.{AppendsBefore, IsWriteFault}
 use Rattle.mcs_cli.proofs.Flow.{before-all, before-longer, before-none, fault-longer, fault-then, prefix-before, prefix-longer}
 use Rattle.mcs_check.specs.Allowed.{flags_of}
 use Rattle.mcs_check.specs.Check.{check_text, counts_of, names_of}
-use Rattle.mcs_check.specs.Counts.{no_counts, with_hints}
-use Rattle.mcs_check.specs.Formats.{counts_line}
+use Rattle.mcs_check_lines.specs.Counts.{no_counts, with_hints}
+use Rattle.mcs_check_lines.specs.Formats.{counts_line}
 use Rattle.mcs_chain.specs.Found.{all_unanswered}
-use Rattle.mcs_chain.specs.Watch.{all_due, all_slow_many, watch_of as chains_of}
+use Rattle.mcs_chain.specs.Watch.{all_due, all_judged_many, all_slow_many, watch_of as chains_of}
+use Rattle.mcs_check.specs.declared.all_found.AllFound.{AllFound}
+use Rattle.mcs_check.specs.Judged.{all_unjudged, judged_rounds}
 use Rattle.mcs_check.specs.stored.AllFound.{checked_of, kept_of, IsKeptOf}
 use Rattle.mcs_check.specs.stored.Rows.{counts_found, counts_in, rest_lines, rows_text, tabled_lines}
 use Rattle.mcs_check.proofs.AllFound.{kept-accounts}
@@ -23,10 +26,10 @@ use Rattle.mcs_check.proofs.Texts.{behind, checked-put, counts-put, rest_text, t
 use Rattle.mcs_check.proofs.run.write_check.Goals as goal
 
 pub returns-in_default-clause-fault : goal.returns-in_default-clause-fault
-returns-in_default-clause-fault g c = (c.requires, prefix-before _ _ _ _ (before-none (g.T.Target.contents c.args.target.now) _))
+returns-in_default-clause-fault g c = (c.requires.working, prefix-before _ _ _ _ (before-none (g.T.Target.contents c.args.target.now) _))
 
 pub returns-in_default-flags_of-clause-fault : goal.returns-in_default-flags_of-clause-fault
-returns-in_default-flags_of-clause-fault g c = (c.requires, prefix-before _ _ _ _ (before-none (g.T.Target.contents c.args.target.now) _))
+returns-in_default-flags_of-clause-fault g c = (c.requires.working, prefix-before _ _ _ _ (before-none (g.T.Target.contents c.args.target.now) _))
 
 pub returns-in_err-all-clause-fault : goal.returns-in_err-all-clause-fault
 returns-in_err-all-clause-fault g c =
@@ -84,18 +87,25 @@ returns-in_err-write_text-clause-fault g c =
     let due_are = c.in_ok-all.ensures.ok.due ∙ ap (λ s. all_due None 0 (chains_of s (past_of [] (schedule s horizon))).each) system_is in
     let slow_is = c.in_ok-all.ensures.ok.slow ∙ ap (λ s. all_slow_many (chains_of s (past_of [] (schedule s horizon))).each) system_is in
     let unanswered_are = c.in_ok-all.ensures.ok.unanswered ∙ ap (λ (s : System). all_unanswered s (past_of [] (schedule s horizon)) horizon 0 s.chains) system_is in
+    let rounds_are = c.in_ok-all.ensures.ok.rounds ∙ ap (λ s. capped (judged_rounds s (past_of [] (schedule s horizon)))) system_is in
+    let answers_are = c.in_ok-all.ensures.ok.answers ∙ ap (λ s. all_judged_many (chains_of s (past_of [] (schedule s horizon))).each) system_is in
+    let unjudged_are = c.in_ok-all.ensures.ok.unjudged ∙ ap (λ s. all_unjudged s (past_of [] (schedule s horizon)) horizon) system_is in
+    let ended_are = c.in_ok-all.ensures.ok.unended ∙ ap (λ (s : System). found_at_end s (past_of [] (schedule s horizon)) horizon 0 s.threads) system_is in
+    let others = c.put_rest.ensures.others in
     let unended = c.in_ok-all.ensures.ok.unended ∙ ap (λ (s : System). found_at_end s (past_of [] (schedule s horizon)) horizon 0 s.threads) system_is
     ∙ ap (λ (s : System). found_at_end s (past_of [] (schedule system horizon)) horizon 0 s.threads) (sym own_is) in
     let counted = subst (λ found. c.put_rest.new.all.counts ≡ with_hints (length (hints_of c.deref-2.result.now)) (counts_found c.as_slice-allowed.result.now found c.in_ok-all.all.counts)) unended
     (ok-holds c.put_rest.result done c.put_rest.ensures.counts) in
     let counts_are = counts-put names system horizon _ _ _ _ flags_are own_is counted_are counted in
-    let checked_are = checked-put names system horizon c.deref-2.result.now c.put_rest.new.all own_is counts_are (c.put_rest.ensures.slow ∙ slow_is)
-    (ap (λ v. v.items) c.put_rest.ensures.unanswered ∙ unanswered_are) in
+    let checked_are = checked-put names system horizon c.deref-2.result.now c.put_rest.new.all own_is counts_are (ap (λ (a : AllFound). a.slow) others ∙ slow_is)
+    (ap (λ (a : AllFound). a.unanswered.items) others ∙ unanswered_are) (ap (λ (a : AllFound). a.unended.items) others ∙ ended_are)
+    (ap (λ (a : AllFound). a.rounds) others ∙ rounds_are) (ap (λ (a : AllFound). a.answers) others ∙ answers_are)
+    (ap (λ (a : AllFound). a.unjudged.items) others ∙ unjudged_are) in
     let put = subst (λ found. c.put_rest.new.all.text.items ≡ c.in_ok-all.all.text.items
-    ++ rest_lines how asked c.deref-2.result.now c.as_slice-allowed.result.now c.in_ok-all.all.due.items found c.in_ok-all.all.unanswered.items
+    ++ rest_lines how asked c.deref-2.result.now c.as_slice-allowed.result.now c.in_ok-all.all.due.items found c.in_ok-all.all.unanswered.items c.in_ok-all.all.unjudged.items
     ++ tabled_lines how asked c.deref-2.result.now horizon (past_of [] (schedule system horizon)) ++ counts_line how (checked_of c.deref-2.result.now c.put_rest.new.all)) unended
     (ok-holds c.put_rest.result done (c.put_rest.ensures.text (past_of [] (schedule system horizon)) kept in_time)) in
-    let rest_is = behind names system horizon how asked _ _ _ _ _ _ _ flags_are own_is checked_are due_are unanswered_are put in
+    let rest_is = behind names system horizon how asked _ _ _ _ _ _ _ _ flags_are own_is checked_are due_are unanswered_are unjudged_are put in
     let told = subst (λ flags. AppendsBefore (held c.args.target.now) (held c.find_rows-found.new.target) (rows_text system flags how asked (schedule system horizon)) c.in_ok-all.all.text.items) flags_are
     (subst (λ s. AppendsBefore (held c.args.target.now) (held c.find_rows-found.new.target) (rows_text s c.as_slice-allowed.result.now how asked (schedule s horizon)) c.in_ok-all.all.text.items) system_is c.in_ok-all.ensures.ok.text) in
     let longer = before-longer _ _ _ _ (rest_text how asked names system horizon (counts_of names system horizon)) told in
@@ -128,18 +138,25 @@ returns-clause-ok g c =
     let due_are = c.in_ok-all.ensures.ok.due ∙ ap (λ s. all_due None 0 (chains_of s (past_of [] (schedule s horizon))).each) system_is in
     let slow_is = c.in_ok-all.ensures.ok.slow ∙ ap (λ s. all_slow_many (chains_of s (past_of [] (schedule s horizon))).each) system_is in
     let unanswered_are = c.in_ok-all.ensures.ok.unanswered ∙ ap (λ (s : System). all_unanswered s (past_of [] (schedule s horizon)) horizon 0 s.chains) system_is in
+    let rounds_are = c.in_ok-all.ensures.ok.rounds ∙ ap (λ s. capped (judged_rounds s (past_of [] (schedule s horizon)))) system_is in
+    let answers_are = c.in_ok-all.ensures.ok.answers ∙ ap (λ s. all_judged_many (chains_of s (past_of [] (schedule s horizon))).each) system_is in
+    let unjudged_are = c.in_ok-all.ensures.ok.unjudged ∙ ap (λ s. all_unjudged s (past_of [] (schedule s horizon)) horizon) system_is in
+    let ended_are = c.in_ok-all.ensures.ok.unended ∙ ap (λ (s : System). found_at_end s (past_of [] (schedule s horizon)) horizon 0 s.threads) system_is in
+    let others = c.put_rest.ensures.others in
     let unended = c.in_ok-all.ensures.ok.unended ∙ ap (λ (s : System). found_at_end s (past_of [] (schedule s horizon)) horizon 0 s.threads) system_is
     ∙ ap (λ (s : System). found_at_end s (past_of [] (schedule system horizon)) horizon 0 s.threads) (sym own_is) in
     let counted = subst (λ found. c.put_rest.new.all.counts ≡ with_hints (length (hints_of c.deref-2.result.now)) (counts_found c.as_slice-allowed.result.now found c.in_ok-all.all.counts)) unended
     (ok-holds c.put_rest.result done c.put_rest.ensures.counts) in
     let counts_are = counts-put names system horizon _ _ _ _ flags_are own_is counted_are counted in
-    let checked_are = checked-put names system horizon c.deref-2.result.now c.put_rest.new.all own_is counts_are (c.put_rest.ensures.slow ∙ slow_is)
-    (ap (λ v. v.items) c.put_rest.ensures.unanswered ∙ unanswered_are) in
+    let checked_are = checked-put names system horizon c.deref-2.result.now c.put_rest.new.all own_is counts_are (ap (λ (a : AllFound). a.slow) others ∙ slow_is)
+    (ap (λ (a : AllFound). a.unanswered.items) others ∙ unanswered_are) (ap (λ (a : AllFound). a.unended.items) others ∙ ended_are)
+    (ap (λ (a : AllFound). a.rounds) others ∙ rounds_are) (ap (λ (a : AllFound). a.answers) others ∙ answers_are)
+    (ap (λ (a : AllFound). a.unjudged.items) others ∙ unjudged_are) in
     let put = subst (λ found. c.put_rest.new.all.text.items ≡ c.in_ok-all.all.text.items
-    ++ rest_lines how asked c.deref-2.result.now c.as_slice-allowed.result.now c.in_ok-all.all.due.items found c.in_ok-all.all.unanswered.items
+    ++ rest_lines how asked c.deref-2.result.now c.as_slice-allowed.result.now c.in_ok-all.all.due.items found c.in_ok-all.all.unanswered.items c.in_ok-all.all.unjudged.items
     ++ tabled_lines how asked c.deref-2.result.now horizon (past_of [] (schedule system horizon)) ++ counts_line how (checked_of c.deref-2.result.now c.put_rest.new.all)) unended
     (ok-holds c.put_rest.result done (c.put_rest.ensures.text (past_of [] (schedule system horizon)) kept in_time)) in
-    let rest_is = behind names system horizon how asked _ _ _ _ _ _ _ flags_are own_is checked_are due_are unanswered_are put in
+    let rest_is = behind names system horizon how asked _ _ _ _ _ _ _ _ flags_are own_is checked_are due_are unanswered_are unjudged_are put in
     let told = subst (λ flags. AppendsBefore (held c.args.target.now) (held c.find_rows-found.new.target) (rows_text system flags how asked (schedule system horizon)) c.in_ok-all.all.text.items) flags_are
     (subst (λ s. AppendsBefore (held c.args.target.now) (held c.find_rows-found.new.target) (rows_text s c.as_slice-allowed.result.now how asked (schedule s horizon)) c.in_ok-all.all.text.items) system_is c.in_ok-all.ensures.ok.text) in
     let longer = before-longer _ _ _ _ (rest_text how asked names system horizon (counts_of names system horizon)) told in
@@ -165,13 +182,21 @@ returns-clause-counted g c =
     let due_are = c.in_ok-all.ensures.ok.due ∙ ap (λ s. all_due None 0 (chains_of s (past_of [] (schedule s horizon))).each) system_is in
     let slow_is = c.in_ok-all.ensures.ok.slow ∙ ap (λ s. all_slow_many (chains_of s (past_of [] (schedule s horizon))).each) system_is in
     let unanswered_are = c.in_ok-all.ensures.ok.unanswered ∙ ap (λ (s : System). all_unanswered s (past_of [] (schedule s horizon)) horizon 0 s.chains) system_is in
+    let rounds_are = c.in_ok-all.ensures.ok.rounds ∙ ap (λ s. capped (judged_rounds s (past_of [] (schedule s horizon)))) system_is in
+    let answers_are = c.in_ok-all.ensures.ok.answers ∙ ap (λ s. all_judged_many (chains_of s (past_of [] (schedule s horizon))).each) system_is in
+    let unjudged_are = c.in_ok-all.ensures.ok.unjudged ∙ ap (λ s. all_unjudged s (past_of [] (schedule s horizon)) horizon) system_is in
+    let ended_are = c.in_ok-all.ensures.ok.unended ∙ ap (λ (s : System). found_at_end s (past_of [] (schedule s horizon)) horizon 0 s.threads) system_is in
+    let others = c.put_rest.ensures.others in
     let unended = c.in_ok-all.ensures.ok.unended ∙ ap (λ (s : System). found_at_end s (past_of [] (schedule s horizon)) horizon 0 s.threads) system_is
     ∙ ap (λ (s : System). found_at_end s (past_of [] (schedule system horizon)) horizon 0 s.threads) (sym own_is) in
     let counted = subst (λ found. c.put_rest.new.all.counts ≡ with_hints (length (hints_of c.deref-2.result.now)) (counts_found c.as_slice-allowed.result.now found c.in_ok-all.all.counts)) unended
     (ok-holds c.put_rest.result done c.put_rest.ensures.counts) in
     let counts_are = counts-put names system horizon _ _ _ _ flags_are own_is counted_are counted in
     c.checked_of.ensures
-    ∙ checked-put names system horizon c.deref-3.result.now c.put_rest.new.all (search rules) counts_are (c.put_rest.ensures.slow ∙ slow_is) (ap (λ v. v.items) c.put_rest.ensures.unanswered ∙ unanswered_are)
+    ∙ checked-put names system horizon c.deref-3.result.now c.put_rest.new.all (search rules) counts_are (ap (λ (a : AllFound). a.slow) others ∙ slow_is)
+    (ap (λ (a : AllFound). a.unanswered.items) others ∙ unanswered_are) (ap (λ (a : AllFound). a.unended.items) others ∙ ended_are)
+    (ap (λ (a : AllFound). a.rounds) others ∙ rounds_are) (ap (λ (a : AllFound). a.answers) others ∙ answers_are)
+    (ap (λ (a : AllFound). a.unjudged.items) others ∙ unjudged_are)
 
 -- one account for each thread
 pub put_rest-requires : goal.put_rest-requires

@@ -24,4 +24,4 @@ returns-clause-found g c =
     let past = past_of [] (schedule system horizon) in
     let watch_now = subst (λ s. c.schedule_to-result.new.sink.watch ≡ watch_of system (past_of [] (schedule s horizon))) shared_is ended.0 in
     let search_now = subst (λ s. c.schedule_to-result.new.sink.search ≡ trail_of system c.args.thread c.args.number (past_of [] (schedule s horizon))) shared_is ended.1 in
-    c.sought.ensures system c.args.thread c.args.number past search_now watch_now in_time c.requires
+    c.sought.ensures system c.args.thread c.args.number past search_now watch_now in_time c.requires.there

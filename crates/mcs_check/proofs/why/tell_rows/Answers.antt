@@ -78,7 +78,7 @@ returns-in-Ok-result-clause-working g c =
     let begun : c.new-teller.result.lines.target.now ≡ c.args.target.now = search rules in
     let ended = rows-given held failed first threads span last (schedule (arc_value c.in-Ok.shared) horizon) order empty account c.in-Ok-result.ensures.given in
     let target_is : c.schedule_to-result.new.sink.lines.target.ghost_name ≡ c.new-teller.result.lines.target.ghost_name = ended.0.target_is in
-    at-target (λ w. failed w ≡ false) last.lines.target.now _ (search rules) (ended.0.working ∙ ap failed begun ∙ c.requires)
+    at-target (λ w. failed w ≡ false) last.lines.target.now _ (search rules) (ended.0.working ∙ ap failed begun ∙ c.requires.working)
 
 pub returns-in-Err-NoMemory-clause-fault : goal.returns-in-Err-NoMemory-clause-fault
 returns-in-Err-NoMemory-clause-fault g c =
@@ -107,7 +107,7 @@ returns-in-Err-NoMemory-clause-fault g c =
     moved (λ w form sys own. AppendsPrefix (held w) (held last.lines.target.now) (rows_lines form sys span (schedule own horizon)))
     _ _ _ _ _ _ _ _ begun format_is system_is shared_is ended.1 in
     at-target (λ w. (failed w ≡ false) × AppendsPrefix (held c.args.target.now) (held w) (rows_lines how system span (schedule system horizon)))
-    last.lines.target.now _ (search rules) (ended.0.1.working ∙ ap failed begun ∙ c.requires, told)
+    last.lines.target.now _ (search rules) (ended.0.1.working ∙ ap failed begun ∙ c.requires.working, told)
 
 pub returns-clause-fault : goal.returns-clause-fault
 returns-clause-fault g c =
@@ -135,6 +135,6 @@ returns-clause-fault g c =
     let told : AppendsPrefix (held c.args.target.now) (held last.lines.target.now) (rows_lines how system span (schedule system horizon)) =
     moved (λ w form sys own. AppendsPrefix (held w) (held last.lines.target.now) (rows_lines form sys span (schedule own horizon)))
     _ _ _ _ _ _ _ _ begun format_is system_is shared_is ended.1 in
-    let was = ended.0.failed_is ∙ ap (failed_after last.lines.is_out_of_memory) (ap failed begun ∙ c.requires) in
+    let was = ended.0.failed_is ∙ ap (failed_after last.lines.is_out_of_memory) (ap failed begun ∙ c.requires.working) in
     at-target (λ w. IsWriteFault (held c.args.target.now) (held w) (failed w) (rows_lines how system span (schedule system horizon)) c.refusal.result)
     last.lines.target.now _ (search rules) (refused-fault _ _ _ _ c.refusal.result last.lines.is_out_of_memory c.refusal.ensures was told)

@@ -8,7 +8,8 @@ use Rattle.mcs_cli.specs.Devices.{AppendsPrefix}
 use Rattle.mcs_cli.specs.Flow.{AppendsBefore, IsWriteFault}
 use Rattle.mcs_cli.proofs.Flow.{before-all, before-longer, fault-longer, fault-then, prefix-before, prefix-longer}
 use Rattle.mcs_why.specs.Account.{account_of}
-use Rattle.mcs_check.specs.Why.{account_lines, rows_lines, round_text}
+use Rattle.mcs_check.specs.Why.{rows_lines, round_text}
+use Rattle.mcs_check_lines.specs.Account.{account_lines}
 use Rattle.mcs_check.proofs.Results.{ok-holds}
 use Rattle.mcs_check.proofs.why.write_span.Goals as goal
 

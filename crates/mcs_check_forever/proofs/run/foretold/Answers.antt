@@ -19,10 +19,11 @@ returns g c =
     let allowed_is : c.as_slice-2.result.now ≡ c.in_ok-allowed.allowed.items = search rules in
     let shared_is : arc_value c.in_ok-shared.shared ≡ c.args.system = search rules in
     let system_is : c.deref.result.now ≡ c.args.system = search rules in
+    let own_is : c.deref-2.result.now ≡ c.args.system = search rules in
     let told_is : c.as_slice-3.result.now ≡ told = search rules in
     let told_is_too : c.as_slice-4.result.now ≡ told = search rules in
     let so = subst (λ s. AreTold s (flags_of (names_of options) c.args.system.notes) horizon told) shared_is
     (subst (λ (a : List Bool). AreTold (arc_value c.in_ok-shared.shared) a horizon told) (allowed_is ∙ flags) c.in_ok-told.ensures) in
     let text_is = c.in_ok-text.ensures ∙ ap (λ s. told_text options.format s c.as_slice-3.result.now) system_is
     ∙ ap (told_text options.format c.args.system) told_is in
-    record { told = told; so = so; text_is = text_is; verdict_is = c.verdict_of.ensures ∙ ap verdict_of told_is_too }
+    record { told = told; so = so; text_is = text_is; verdict_is = c.verdict_of.ensures ∙ ap (λ s. verdict_of s c.as_slice-4.result.now) own_is ∙ ap (verdict_of c.args.system) told_is_too }

@@ -1,4 +1,5 @@
--- The origins, the slow answers of the latest moment, and how many there are, one row later.
+-- The origins, the slow answers of the latest moment, how many there are, and how many answers are
+-- judged, one row later.
 use Rattle.std.proofs.Common.{rules, ◌≡◌, ◌∙◌, ◌++◌, ◌+◌, ◌==◌, ◌∷◌, ap, ap₂, filter}
 use Rattle.std.proofs.lemmas.Fn.{filter_same}
 use Rattle.std.proofs.lemmas.Result.{on_ok_weaker}
@@ -6,7 +7,7 @@ use Rattle.mcs_ticks.specs.Capped.{capped}
 use Rattle.mcs_chain.specs.declared.one.Late.{Late}
 use Rattle.mcs_chain.specs.Answers.{origins, slow, slow_of}
 use Rattle.mcs_chain.specs.Origins.{Origins, moved}
-use Rattle.mcs_chain.specs.Watch.{One, late_at, lately, one_if, slow_many, slow_sum}
+use Rattle.mcs_chain.specs.Watch.{One, judged_at, judged_many, judged_sum, late_at, lately, one_if, slow_many, slow_sum}
 use Rattle.mcs_chain.proofs.one.One.see.Goals as goal
 
 pub returns : goal.returns
@@ -23,6 +24,9 @@ returns c = λ system past e moves_are.
     let many_are : c.counted-self-inside.result ≡ slow_many system chain (row ∷ past) =
     c.counted-self-inside.ensures (slow_sum system chain past) (ap (λ (one : One). one.slow) own)
     ∙ ap (λ f. capped (one_if f + slow_sum system chain past)) finding_is in
+    let judged_are : c.judged-self-inside.result ≡ judged_many system chain (row ∷ past) =
+    c.judged-self-inside.ensures (judged_sum system chain past) (ap (λ (one : One). one.judged) own)
+    ∙ ap (λ l. capped (judged_at chain.deadline l + judged_sum system chain past)) (c.answered-2.ensures ∙ ap (λ (o : Origins). o.answered) origins_are) in
     on_ok_weaker c.keep.result (λ kept.
     let kept_are : c.keep.new.late.items ≡ lately system chain (row ∷ past) =
     kept ∙ ap₂ (λ late f. late ++ late_at row.moment row.core f) late_are finding_is in

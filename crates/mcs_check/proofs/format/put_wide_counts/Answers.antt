@@ -1,9 +1,0 @@
-use Rattle.std.proofs.Common.{rules, ◌≡◌, ◌++◌, Some, map}
-use Rattle.mcs_fields.specs.Fields.{field_of}
-use Rattle.mcs_check.specs.Fields.{chain_count_fields, counts_fields}
-use Rattle.mcs_check.proofs.format.put_wide_counts.Goals as goal
-
-pub returns-clause-ok : goal.returns-clause-ok
-returns-clause-ok c =
-    let are : map field_of c.as_slice.result.now ≡ counts_fields c.args.counts.now ++ chain_count_fields (Some c.args.chains.now) = search rules in
-    rw are at c.put_object.ensures.ok

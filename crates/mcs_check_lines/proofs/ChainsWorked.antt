@@ -1,0 +1,115 @@
+-- The lines of chains, worked by hand.
+use Rattle.std.specs.Prelude.{◌≡◌, ◌++◌, ℕ, false, [], ◌∷◌, Some, None, codes, refl}
+use Rattle.std.specs.Fmt.{digits}
+use Rattle.serde_json.proofs.OnLiterals.{serde_json_on_literals}
+use Rattle.mcs_system.specs.System.{System}
+use Rattle.mcs_table.specs.declared.figures.Margin.TheVariants.{Over}
+use Rattle.mcs_chain.specs.declared.figures.Figures.{Figures}
+use Rattle.mcs_chain.specs.declared.finding.Finding.{Finding}
+use Rattle.mcs_chain.specs.declared.finding.Finding.TheVariants.{Slow, Unanswered}
+use Rattle.mcs_chain.specs.declared.finding.Found.{Found}
+use Rattle.mcs_check_words.specs.declared.asked.Format.TheVariants as format
+use Rattle.mcs_check_words.specs.declared.asked.Show.TheVariants as show
+use Rattle.mcs_check_lines.specs.declared.checked.Scope.{Scope}
+use Rattle.mcs_check_lines.specs.declared.counts.Counts.{Counts}
+use Rattle.mcs_check_lines.specs.Chains.{chain_found_line, chain_line, with_placed}
+use Rattle.mcs_check_lines.specs.Counts.{no_counts}
+use Rattle.mcs_check_lines.specs.Formats.{counts_line, head_text}
+
+-- a file with the chain e
+system : System
+system =
+    record {
+      cores = 2;
+      delay = 2;
+      call = 1;
+      min_budget = 1;
+      contexts = [];
+      notes = [];
+      threads = [];
+      orders = [];
+      links = [];
+      servers = 0;
+      sources = [];
+      beats = [];
+      chains = record { name = codes "e"; source = 0; thread = 0; badges = 0; deadline = 8 } ∷ [];
+    }
+
+abbrev found : ℕ → ℕ → Finding → Found
+found moment core finding = record { moment = moment; core = core; chain = 0; finding = finding }
+
+-- an interrupt of 3 is answered at 12, a tick too late ..
+slow_text : chain_found_line format.Text system (found 12 1 (Slow 9 8 3)) ≡ codes "12 1 slow e 9 deadline 8 origin 3\n"
+unfolding system digits
+slow_text = refl
+
+slow_row : chain_found_line format.Csv system (found 12 1 (Slow 9 8 3)) ≡ codes "12,1,slow,,,,,,,,,,,,,,e,9,8,3\n"
+unfolding system digits
+slow_row = refl
+
+slow_object : chain_found_line format.Json system (found 12 1 (Slow 9 8 3))
+    ≡ codes "{\"moment\":12,\"core\":1,\"kind\":\"slow\",\"chain\":\"e\",\"latency\":9,\"deadline\":8,\"origin\":3}\n"
+unfolding system digits serde_json_on_literals
+slow_object = refl
+
+-- .. and one of 13 is not answered up to 25
+unanswered_text : chain_found_line format.Text system (found 25 1 (Unanswered 8 13)) ≡ codes "25 1 unanswered e deadline 8 origin 13\n"
+unfolding system digits
+unanswered_text = refl
+
+unanswered_row : chain_found_line format.Csv system (found 25 1 (Unanswered 8 13)) ≡ codes "25,1,unanswered,,,,,,,,,,,,,,e,,8,13\n"
+unfolding system digits
+unanswered_row = refl
+
+-- the columns of findings
+columns : head_text format.Csv show.Findings system
+    ≡ codes "moment,core,kind,thread,note,word,number,response,deadline,activated,queued,ready,running,throttled,blocked,woken"
+    ++ codes ",chain,latency,deadline,origin\n"
+unfolding system
+columns = refl
+
+-- one answer, a tick above the deadline, and none
+abbrev one_answer : Figures
+one_answer =
+    record {
+      interrupts = 2;
+      answers = 1;
+      least = Some 9;
+      greatest = Some 9;
+      total = 9;
+      fiftieth = Some 9;
+      ninetieth = Some 9;
+      ninety_ninth = Some 9;
+      deadline = 8;
+      margin = Some (Over 1);
+    }
+
+figures_text : chain_line format.Text system 0 one_answer
+    ≡ codes "chain e interrupts 2 answers 1 least 9 greatest 9 total 9 p50 9 p90 9 p99 9 deadline 8 margin -1\n"
+unfolding system digits
+figures_text = refl
+
+figures_row : chain_line format.Csv system 0 one_answer ≡ []
+figures_row = refl
+
+-- the counts
+abbrev counts : Counts
+counts = record no_counts { missed = 2; hints = 1 }
+
+abbrev scope : Scope
+scope = record { unjudged = 4; threads = 9; deadlines = 8; judged = 50 }
+
+counts_text : counts_line format.Text (record { counts = counts; scope = scope; chains = Some (record { slow = 3; unanswered = 1 }) })
+    ≡ codes "missed 2 overdue 0 lost 0 never 0 merged 0 allowed 0 unjudged 4 hints 1 threads 9 deadlines 8 judged 50 slow 3 unanswered 1\n"
+unfolding digits
+counts_text = refl
+
+no_chain_text : counts_line format.Text (record { counts = counts; scope = scope; chains = None })
+    ≡ codes "missed 2 overdue 0 lost 0 never 0 merged 0 allowed 0 unjudged 4 hints 1 threads 9 deadlines 8 judged 50\n"
+unfolding digits
+no_chain_text = refl
+
+-- Of the lines of 5, those of findings come first; then those of the first chain, then those of the second.
+in_place : with_placed ((5, codes "a") ∷ (5, codes "b") ∷ (7, codes "c") ∷ []) ((5, codes "d") ∷ (8, codes "e") ∷ (4, codes "f") ∷ (5, codes "g") ∷ (6, codes "h") ∷ [])
+    ≡ codes "fabdghce"
+in_place = refl

@@ -1,0 +1,8 @@
+mod Values
+mod Words
+mod Threads
+mod Runners
+mod Worked
+mod Figured
+pub mod Judged
+mod ChainsWorked

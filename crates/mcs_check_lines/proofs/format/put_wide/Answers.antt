@@ -1,0 +1,12 @@
+use Rattle.std.proofs.Common.{rules, ◌≡◌, ◌++◌, map}
+use Rattle.mcs_fields.specs.Fields.{field_of}
+use Rattle.mcs_check_lines.specs.Fields.{found_fields}
+use Rattle.mcs_check_lines.specs.Formats.{no_columns}
+use Rattle.mcs_check_lines.proofs.Values.{values-are}
+use Rattle.mcs_check_lines.proofs.format.put_wide.Goals as goal
+
+pub returns-in-Csv-clause-ok : goal.returns-in-Csv-clause-ok
+returns-in-Csv-clause-ok c =
+    let fields = found_fields c.args.system.now c.args.found.now ++ no_columns in
+    let are : map field_of c.as_slice.result.now ≡ found_fields c.args.system.now c.args.found.now ++ no_columns = search rules in
+    rw c.in-Csv.is (rw (values-are c.as_slice.result.now fields are) at c.put_row.ensures.ok)

@@ -1,0 +1,11 @@
+use Rattle.std.proofs.Common.{rules, ◌≡◌, map}
+use Rattle.mcs_fields.specs.Fields.{field_of}
+use Rattle.mcs_check_lines.specs.Account.{ran_fields}
+use Rattle.mcs_check_lines.proofs.Values.{values-are}
+use Rattle.mcs_check_lines.proofs.ran.put_told_ran.Goals as goal
+
+pub returns-in-Csv : goal.returns-in-Csv
+returns-in-Csv c =
+    let fields = ran_fields c.args.system.now c.args.thread c.args.ticks in
+    let are : map field_of c.as_slice.result.now ≡ ran_fields c.args.system.now c.args.thread c.args.ticks = search rules in
+    rw c.in-Csv.is (rw (values-are c.as_slice.result.now fields are) at c.put_row.ensures.ok)

@@ -1,0 +1,14 @@
+pub mod Counts
+pub mod Checked
+pub mod Deadlines
+pub mod Status
+pub mod Unjudged
+pub mod Lines
+pub mod Fields
+pub mod RowFields
+pub mod Formats
+pub mod Shown
+pub mod Figures
+pub mod Told
+pub mod Chains
+pub mod Account

@@ -1,0 +1,84 @@
+-- The lines of findings, jobs, counts and hints, as text.
+use Rattle.std.specs.Prelude.{ℕ, List, [], ◌∷◌, ◌++◌, codes, decimal, Option, Some, None}
+use Rattle.mcs_system.specs.System.{System, core_of, thread_part}
+use Rattle.mcs_text.specs.Text.{context_name, counted, line, note_name, thread_name}
+use Rattle.mcs_hints.specs.declared.hint.Hint.{Hint}
+use Rattle.mcs_hints.specs.declared.hint.Hint.TheVariants.{NoThread, NoDeadline, Unsignalled, Unbound, Unused, Overcommitted}
+use Rattle.mcs_verdict.specs.declared.finding.Finding.{Finding}
+use Rattle.mcs_verdict.specs.declared.finding.Finding.TheVariants.{Miss, Overdue, Lost, Never}
+use Rattle.mcs_verdict.specs.declared.finding.Found.{Found}
+use Rattle.mcs_verdict.specs.declared.job.Job.{Job}
+use Rattle.mcs_verdict.specs.declared.standing.Stood.{Stood}
+use Rattle.mcs_check_lines.specs.declared.checked.ChainCounts.{ChainCounts}
+use Rattle.mcs_check_lines.specs.declared.checked.Checked.{Checked}
+use Rattle.mcs_check_lines.specs.declared.checked.Scope.{Scope}
+use Rattle.mcs_check_lines.specs.declared.counts.Counts.{Counts}
+
+-- how a thread stood since its round began
+abbrev pub ways : Stood → List (List ℕ × ℕ)
+ways stood =
+    (codes "ready", stood.ready) ∷ (codes "running", stood.running) ∷ (codes "throttled", stood.throttled)
+    ∷ (codes "blocked", stood.blocked) ∷ (codes "woken", stood.woken) ∷ []
+
+-- a round's deadline, its activation and its parts: how long it was queued, and how the thread
+-- stood
+abbrev pub late_words : ℕ → ℕ → ℕ → Stood → List (List ℕ)
+late_words deadline activated queued stood =
+    counted ((codes "deadline", deadline) ∷ (codes "activated", activated) ∷ (codes "queued", queued) ∷ ways stood)
+
+-- a finding and its numbers
+abbrev pub found_words : System → Finding → List (List ℕ)
+found_words system (Miss thread number response deadline activated queued stood) =
+    codes "miss" ∷ thread_name system thread ∷ decimal number ∷ decimal response ∷ late_words deadline activated queued stood
+found_words system (Overdue thread deadline activated queued stood) =
+    codes "overdue" ∷ thread_name system thread ∷ late_words deadline activated queued stood
+found_words system (Lost note word) = codes "lost" ∷ note_name system note ∷ decimal word ∷ []
+found_words system (Never thread deadline) = codes "never" ∷ thread_name system thread ∷ counted ((codes "deadline", deadline) ∷ [])
+
+-- the line of a finding: its time, its core and the finding
+abbrev pub found_text : System → Found → List ℕ
+found_text system found = line (decimal found.moment) (decimal found.core ∷ found_words system found.finding)
+
+-- the times of a job: activation, beginning, response and parts, with its preemptions
+abbrev pub job_times : Job → List (List ℕ)
+job_times job =
+    counted ((codes "activated", job.activated) ∷ (codes "begun", job.begun) ∷ (codes "response", job.response)
+    ∷ (codes "queued", job.queued) ∷ (codes "preemptions", job.preemptions) ∷ ways job.stood)
+
+-- a job: its thread, its number and these times
+abbrev pub job_words : System → Job → List (List ℕ)
+job_words system job = codes "job" ∷ thread_name system job.thread ∷ decimal job.number ∷ job_times job
+
+-- the line of a job: its end, its thread's core and the job
+abbrev pub job_text : System → Job → List ℕ
+job_text system job = line (decimal job.ended) (decimal (core_of system (thread_part system job.thread)) ∷ job_words system job)
+
+-- the counts behind the first word, and those of chains, if the file has a chain
+abbrev pub counts_words : Counts → Scope → List (List ℕ)
+counts_words counts scope =
+    decimal counts.missed ∷ counted ((codes "overdue", counts.overdue) ∷ (codes "lost", counts.lost)
+    ∷ (codes "never", counts.never) ∷ (codes "merged", counts.merged) ∷ (codes "allowed", counts.allowed)
+    ∷ (codes "unjudged", scope.unjudged) ∷ (codes "hints", counts.hints) ∷ (codes "threads", scope.threads)
+    ∷ (codes "deadlines", scope.deadlines) ∷ (codes "judged", scope.judged) ∷ [])
+
+abbrev pub chain_count_words : Option ChainCounts → List (List ℕ)
+chain_count_words None = []
+chain_count_words (Some chains) = counted ((codes "slow", chains.slow) ∷ (codes "unanswered", chains.unanswered) ∷ [])
+
+-- the line of the counts
+abbrev pub checked_text : Checked → List ℕ
+checked_text checked = line (codes "missed") (counts_words checked.counts checked.scope ++ chain_count_words checked.chains)
+
+-- the subject of a hint and its reason
+abbrev pub hint_words : System → Hint → List (List ℕ)
+hint_words system NoThread = codes "no thread" ∷ []
+hint_words system NoDeadline = codes "no thread has a deadline" ∷ []
+hint_words system (Unsignalled note) = codes "note" ∷ note_name system note ∷ codes "is waited on and no script signals it" ∷ []
+hint_words system (Unbound context) = codes "context" ∷ context_name system context ∷ codes "has no thread" ∷ []
+hint_words system (Unused core) = counted ((codes "core", core) ∷ []) ++ codes "has no thread" ∷ []
+hint_words system (Overcommitted core millionths) =
+    counted ((codes "core", core) ∷ (codes "grants", millionths) ∷ []) ++ codes "of 1000000" ∷ []
+
+-- the line of a hint
+abbrev pub hint_text : System → Hint → List ℕ
+hint_text system hint = line (codes "hint") (hint_words system hint)

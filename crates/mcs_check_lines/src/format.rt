@@ -1,0 +1,404 @@
+//! The lines of what is shown, in each format. If memory runs out, a call leaves the text
+//! unchanged.
+ghost use Rattle.std.specs.Prelude.{◌≡◌, ◌++◌, Some, OnOk, OnErr};
+ghost use Rattle.mcs_fields.specs.Fields.{names_text, object_text};
+ghost use Rattle.mcs_check_words.specs.declared.asked.Show.TheVariants.{Findings};
+ghost use Rattle.mcs_check_lines.specs.Fields.{chain_count_fields, checked_fields, counts_fields, found_fields, hint_fields};
+ghost use Rattle.mcs_check_lines.specs.Formats.{chain_columns, column_names, columns, counts_line, found_line, head_text, hint_line, is_mixed, job_line, no_columns, row_line, written};
+ghost use Rattle.mcs_check_lines.specs.Lines.{found_text};
+ghost use Rattle.mcs_check_lines.specs.Shown.{shown_text};
+
+use crate::fields::{checked_fields, counts_fields, found_fields, job_fields, wide_found_fields};
+use crate::line::{put_counts, put_found, put_hint, put_job};
+use crate::row_fields::row_fields;
+use crate::shown::Shown;
+use crate::{ChainCounts, Checked, Counts, Scope};
+use mcs_check_words::{Format, Show};
+use mcs_fields::{Cell, put_names, put_object, put_row};
+use mcs_hints::Hint;
+use mcs_system::System;
+use mcs_text::{context_name, note_name, put_row as put_row_text};
+use mcs_ticks::{NoMemory, Row};
+use mcs_verdict::{Found, Job};
+use std::alloc::Global;
+
+static FINDINGS: [&str; 16] = [
+    "moment",
+    "core",
+    "kind",
+    "thread",
+    "note",
+    "word",
+    "number",
+    "response",
+    "deadline",
+    "activated",
+    "queued",
+    "ready",
+    "running",
+    "throttled",
+    "blocked",
+    "woken",
+];
+
+/// The columns of findings in a file with a chain.
+static WIDE: [&str; 20] = [
+    "moment",
+    "core",
+    "kind",
+    "thread",
+    "note",
+    "word",
+    "number",
+    "response",
+    "deadline",
+    "activated",
+    "queued",
+    "ready",
+    "running",
+    "throttled",
+    "blocked",
+    "woken",
+    "chain",
+    "latency",
+    "deadline",
+    "origin",
+];
+
+static JOBS: [&str; 15] = [
+    "moment",
+    "core",
+    "kind",
+    "thread",
+    "number",
+    "activated",
+    "begun",
+    "response",
+    "queued",
+    "preemptions",
+    "ready",
+    "running",
+    "throttled",
+    "blocked",
+    "woken",
+];
+
+static TABLE: [&str; 26] = [
+    "kind",
+    "thread",
+    "core",
+    "priority",
+    "budget",
+    "period",
+    "granted",
+    "used",
+    "rounds",
+    "greatest",
+    "p50",
+    "p90",
+    "p99",
+    "deadline",
+    "margin",
+    "missed",
+    "late",
+    "lost",
+    "merged",
+    "ticks_pending",
+    "ticks_ready",
+    "ticks_running",
+    "ticks_throttled",
+    "ticks_blocked",
+    "ticks_woken",
+    "ticks_done",
+];
+
+/// Whether rows of two kinds are asked for as CSV.
+pub fn is_mixed(format: Format, show: Show) -> bool
+    ensures { result ≡ is_mixed format show }
+{
+    matches!((format, show), (Format::Csv, Show::Both))
+}
+
+/// Appends the first line of CSV; other formats have none.
+pub fn put_head(
+    text: &mut Vec<u8>,
+    format: Format,
+    show: Show,
+    system: &System,
+) -> Result<(), NoMemory>
+    ensures ok { OnOk result (text.new.items ≡ text.old.items ++ head_text format show system.now) }
+    ensures err { OnErr result (text.new.items ≡ text.old.items) }
+{
+    match format {
+        Format::Csv => put_columns(text, show, system),
+        Format::Text | Format::Json => Ok(()),
+    }
+}
+
+/// Appends the first line of CSV.
+fn put_columns(text: &mut Vec<u8>, show: Show, system: &System) -> Result<(), NoMemory>
+    ensures ok { OnOk result (text.new.items ≡ text.old.items ++ names_text (columns show system.now.chains)) }
+    ensures err { OnErr result (text.new.items ≡ text.old.items) }
+{
+    match show {
+        Show::Findings => put_finding_columns(text, system),
+        Show::Jobs => put_names(text, JOBS.as_slice()),
+        Show::Table => put_names(text, TABLE.as_slice()),
+        Show::Both => put_names(text, &[]),
+    }
+}
+
+fn put_finding_columns(text: &mut Vec<u8>, system: &System) -> Result<(), NoMemory>
+    ensures ok { OnOk result (text.new.items ≡ text.old.items ++ names_text (columns Findings system.now.chains)) }
+    ensures err { OnErr result (text.new.items ≡ text.old.items) }
+{
+    if system.parts().chains.is_empty() {
+        put_narrow_columns(text)
+    } else {
+        put_wide_columns(text)
+    }
+}
+
+fn put_narrow_columns(text: &mut Vec<u8>) -> Result<(), NoMemory>
+    ensures ok { OnOk result (text.new.items ≡ text.old.items ++ names_text (column_names Findings)) }
+    ensures err { OnErr result (text.new.items ≡ text.old.items) }
+{
+    put_names(text, FINDINGS.as_slice())
+}
+
+/// Appends the columns of findings in a file with a chain.
+fn put_wide_columns(text: &mut Vec<u8>) -> Result<(), NoMemory>
+    ensures ok { OnOk result (text.new.items ≡ text.old.items ++ names_text (column_names Findings ++ chain_columns)) }
+    ensures err { OnErr result (text.new.items ≡ text.old.items) }
+{
+    put_names(text, WIDE.as_slice())
+}
+
+/// Appends the line of what is shown.
+pub fn put_shown(
+    alloc: Global,
+    text: &mut Vec<u8>,
+    format: Format,
+    system: &System,
+    shown: &Shown,
+) -> Result<(), NoMemory>
+    ensures ok { OnOk result (text.new.items ≡ text.old.items ++ shown_text format system.now shown.now) }
+    ensures err { OnErr result (text.new.items ≡ text.old.items) }
+{
+    match shown {
+        Shown::Found(found) => put_found_as(alloc, text, format, system, found),
+        Shown::Job(job) => put_job_as(alloc, text, format, system, job),
+        Shown::Row(row) => put_row_as(alloc, text, format, system, row),
+    }
+}
+
+/// Appends the line of a finding.
+pub fn put_found_as(
+    alloc: Global,
+    text: &mut Vec<u8>,
+    format: Format,
+    system: &System,
+    found: &Found,
+) -> Result<(), NoMemory>
+    ensures ok { OnOk result (text.new.items ≡ text.old.items ++ found_line format system.now found.now) }
+    ensures err { OnErr result (text.new.items ≡ text.old.items) }
+{
+    if system.parts().chains.is_empty() {
+        put_narrow(alloc, text, format, system, found)
+    } else {
+        put_wide(alloc, text, format, system, found)
+    }
+}
+
+/// Appends the line of a finding in a file without chains.
+fn put_narrow(
+    alloc: Global,
+    text: &mut Vec<u8>,
+    format: Format,
+    system: &System,
+    found: &Found,
+) -> Result<(), NoMemory>
+    ensures ok { OnOk result (text.new.items ≡ text.old.items
+        ++ written format (found_text system.now found.now) (found_fields system.now found.now)) }
+    ensures err { OnErr result (text.new.items ≡ text.old.items) }
+{
+    match format {
+        Format::Text => put_found(text, system, found),
+        Format::Csv => put_row(text, found_fields(system, found).as_slice()),
+        Format::Json => put_object(alloc, text, found_fields(system, found).as_slice()),
+    }
+}
+
+/// Appends the line of a finding in a file with a chain.
+fn put_wide(
+    alloc: Global,
+    text: &mut Vec<u8>,
+    format: Format,
+    system: &System,
+    found: &Found,
+) -> Result<(), NoMemory>
+    ensures ok { OnOk result (text.new.items ≡ text.old.items
+        ++ written format (found_text system.now found.now) (found_fields system.now found.now ++ no_columns)) }
+    ensures err { OnErr result (text.new.items ≡ text.old.items) }
+{
+    match format {
+        Format::Text => put_found(text, system, found),
+        Format::Csv => put_row(text, wide_found_fields(system, found).as_slice()),
+        Format::Json => put_object(alloc, text, wide_found_fields(system, found).as_slice()),
+    }
+}
+
+/// Appends the line of a job.
+fn put_job_as(
+    alloc: Global,
+    text: &mut Vec<u8>,
+    format: Format,
+    system: &System,
+    job: &Job,
+) -> Result<(), NoMemory>
+    ensures ok { OnOk result (text.new.items ≡ text.old.items ++ job_line format system.now job.now) }
+    ensures err { OnErr result (text.new.items ≡ text.old.items) }
+{
+    match format {
+        Format::Text => put_job(text, system, job),
+        Format::Csv => put_row(text, job_fields(system, job).as_slice()),
+        Format::Json => put_object(alloc, text, job_fields(system, job).as_slice()),
+    }
+}
+
+/// Appends the line of a row of the schedule.
+fn put_row_as(
+    alloc: Global,
+    text: &mut Vec<u8>,
+    format: Format,
+    system: &System,
+    row: &Row,
+) -> Result<(), NoMemory>
+    ensures ok { OnOk result (text.new.items ≡ text.old.items ++ row_line format system.now row.now) }
+    ensures err { OnErr result (text.new.items ≡ text.old.items) }
+{
+    match format {
+        Format::Text => put_row_text(text, system, row),
+        Format::Csv => put_row(text, row_fields(system, row).as_slice()),
+        Format::Json => put_object(alloc, text, row_fields(system, row).as_slice()),
+    }
+}
+
+/// Appends the line of a hint; CSV has none.
+pub fn put_hint_as(
+    alloc: Global,
+    text: &mut Vec<u8>,
+    format: Format,
+    system: &System,
+    hint: &Hint,
+) -> Result<(), NoMemory>
+    ensures ok { OnOk result (text.new.items ≡ text.old.items ++ hint_line format system.now hint.now) }
+    ensures err { OnErr result (text.new.items ≡ text.old.items) }
+{
+    match format {
+        Format::Text => put_hint(text, system, hint),
+        Format::Csv => Ok(()),
+        Format::Json => put_hint_object(alloc, text, system, hint),
+    }
+}
+
+fn put_hint_object(
+    alloc: Global,
+    text: &mut Vec<u8>,
+    system: &System,
+    hint: &Hint,
+) -> Result<(), NoMemory>
+    ensures ok { OnOk result (text.new.items ≡ text.old.items ++ object_text (hint_fields system.now hint.now)) }
+    ensures err { OnErr result (text.new.items ≡ text.old.items) }
+{
+    let kind = ("kind", Cell::Name("hint"));
+    match *hint {
+        Hint::NoThread => {
+            let hint = ("hint", Cell::Name("no_thread"));
+            put_object(alloc, text, &[kind, hint])
+        }
+        Hint::NoDeadline => {
+            let hint = ("hint", Cell::Name("no_deadline"));
+            put_object(alloc, text, &[kind, hint])
+        }
+        Hint::Unsignalled { note } => {
+            let hint = ("hint", Cell::Name("unsignalled"));
+            let note = ("note", Cell::Name(note_name(system, note)));
+            put_object(alloc, text, &[kind, hint, note])
+        }
+        Hint::Unbound { context } => {
+            let hint = ("hint", Cell::Name("unbound"));
+            let context = ("context", Cell::Name(context_name(system, context)));
+            put_object(alloc, text, &[kind, hint, context])
+        }
+        Hint::Unused { core } => {
+            let hint = ("hint", Cell::Name("unused"));
+            let core = ("core", Cell::Number(core.0 as u64));
+            put_object(alloc, text, &[kind, hint, core])
+        }
+        Hint::Overcommitted { core, millionths } => {
+            let hint = ("hint", Cell::Name("overcommitted"));
+            let core = ("core", Cell::Number(core.0 as u64));
+            let grants = ("grants", Cell::Number(millionths));
+            put_object(alloc, text, &[kind, hint, core, grants])
+        }
+    }
+}
+
+/// Appends the line of the counts; CSV has none.
+pub fn put_counts_as(
+    alloc: Global,
+    text: &mut Vec<u8>,
+    format: Format,
+    checked: &Checked,
+) -> Result<(), NoMemory>
+    ensures ok { OnOk result (text.new.items ≡ text.old.items ++ counts_line format checked.now) }
+    ensures err { OnErr result (text.new.items ≡ text.old.items) }
+{
+    match format {
+        Format::Text => put_counts(text, checked),
+        Format::Csv => Ok(()),
+        Format::Json => put_counts_object(alloc, text, checked),
+    }
+}
+
+fn put_counts_object(alloc: Global, text: &mut Vec<u8>, checked: &Checked) -> Result<(), NoMemory>
+    ensures ok { OnOk result (text.new.items ≡ text.old.items ++ object_text (checked_fields checked.now)) }
+    ensures err { OnErr result (text.new.items ≡ text.old.items) }
+{
+    match &checked.chains {
+        Some(chains) => put_wide_counts(alloc, text, &checked.counts, &checked.scope, chains),
+        None => put_narrow_counts(alloc, text, &checked.counts, &checked.scope),
+    }
+}
+
+/// Appends the counts of a file without chains.
+fn put_narrow_counts(
+    alloc: Global,
+    text: &mut Vec<u8>,
+    counts: &Counts,
+    scope: &Scope,
+) -> Result<(), NoMemory>
+    ensures ok { OnOk result (text.new.items ≡ text.old.items ++ object_text (counts_fields counts.now scope.now)) }
+    ensures err { OnErr result (text.new.items ≡ text.old.items) }
+{
+    put_object(alloc, text, counts_fields(counts, scope).as_slice())
+}
+
+/// Appends the counts with those of chains.
+fn put_wide_counts(
+    alloc: Global,
+    text: &mut Vec<u8>,
+    counts: &Counts,
+    scope: &Scope,
+    chains: &ChainCounts,
+) -> Result<(), NoMemory>
+    ensures ok { OnOk result (text.new.items ≡ text.old.items ++ object_text (counts_fields counts.now scope.now ++ chain_count_fields (Some chains.now))) }
+    ensures err { OnErr result (text.new.items ≡ text.old.items) }
+{
+    put_object(
+        alloc,
+        text,
+        checked_fields(counts, scope, chains).as_slice(),
+    )
+}

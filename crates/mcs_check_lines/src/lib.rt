@@ -1,0 +1,28 @@
+//! The lines of a check in each format: findings, jobs, figures, rows, unjudged threads, hints,
+//! counts, and the account of a round. The counts of findings, and the exit code.
+#![tactic(auto)]
+
+mod chain_line;
+mod checked;
+mod counts;
+mod deadlines;
+mod fields;
+mod figures;
+mod format;
+mod line;
+mod pairs;
+mod ran;
+mod row_fields;
+mod shown;
+mod unjudged;
+
+pub use chain_line::{put_chains, put_chains_found};
+pub use checked::{ChainCounts, Checked, Scope, code};
+pub use counts::{Counts, is_allowed};
+pub use deadlines::{chain_deadlines, thread_deadlines};
+pub use figures::put_table;
+pub use format::{is_mixed, put_counts_as, put_found_as, put_head, put_hint_as, put_shown};
+pub use line::{put_counts, put_found, put_hint, put_job};
+pub use ran::put_account;
+pub use shown::Shown;
+pub use unjudged::{Unjudged, put_unjudged_as};

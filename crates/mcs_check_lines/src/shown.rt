@@ -1,0 +1,13 @@
+use mcs_ticks::Row;
+use mcs_verdict::{Found, Job};
+
+/// The subject of a line.
+#[derive(Clone, Copy, Debug, PartialEq, Eq)]
+pub enum Shown {
+    /// A finding.
+    Found(Found),
+    /// A job.
+    Job(Job),
+    /// A row of the schedule.
+    Row(Row),
+}
