@@ -1,8 +1,8 @@
-/* mcsim.h: the mcsim simulator as a library. Link libmcs.so (-lmcs), or libmcs_c.a.
+/* mcsim.h: the mcsim simulator and its checker as a library. Link libmcs.so (-lmcs), or libmcs_c.a.
  *
- * The library has one function. It takes the text of a system, and writes the lines that the
- * program mcsim prints, or the line of the text's first fault, to memory of the caller. Its results
- * are proved: see crates/mcs_c/README.md in the repository. */
+ * A call takes the text of a system. It writes the lines that the program mcsim or mcscheck prints,
+ * or rows and findings in numbers, to memory of the caller. Its results are proved: see
+ * crates/mcs_c/README.md in the repository. */
 #ifndef MCSIM_H
 #define MCSIM_H
 
@@ -16,7 +16,8 @@ extern "C" {
 /* The version of this interface. A new minor number adds calls or values, and a program that was
  * built with an earlier one still runs. The major number is that of libmcs.so.1. */
 #define MCS_VERSION_MAJOR 1
-#define MCS_VERSION_MINOR 0
+#define MCS_VERSION_MINOR 1
+#define MCS_VERSION (MCS_VERSION_MAJOR * 65536 + MCS_VERSION_MINOR)
 
 /* The maximum horizon, in ticks: 2^40. */
 #define MCS_HORIZON_MAX (UINT64_C(1) << 40)
@@ -28,15 +29,38 @@ enum {
     MCS_BOTH = 2      /* the schedule, then the reports */
 };
 
+/* What a check writes: values of `part`. */
+enum {
+    MCS_FINDINGS = 0, /* a line for each finding and each hint */
+    MCS_JOBS = 1,     /* a line for each job that ended */
+    MCS_TABLE = 2,    /* the figures of each thread, context and chain */
+    MCS_ALL = 3       /* the findings, then the figures */
+};
+
+/* The format of what a check writes: values of `format`. The objects of JSON stand one a line. */
+enum {
+    MCS_TEXT = 0,
+    MCS_CSV = 1,
+    MCS_JSON = 2
+};
+
 /* Results of a call. */
 enum {
-    MCS_LINES = 0,    /* the room begins with the lines, each with its line feed */
-    MCS_FAULT = 1,    /* the text is not a system: the room begins with the line of its first fault,
-                         without a line feed */
-    MCS_ROOM = 2,     /* the room is too small: *length bytes are needed, for lines or a fault */
-    MCS_REFUSED = 3,  /* horizon or show is out of range */
-    MCS_NO_MEMORY = 4 /* out of memory */
+    MCS_LINES = 0,     /* the room begins with the lines, each with its line feed; or all rows, all
+                          findings or the name are there. Of a check: nothing was found */
+    MCS_FAULT = 1,     /* the text is not a system, or a name is unknown: the room begins with the
+                          line of the first fault, without a line feed */
+    MCS_ROOM = 2,      /* the room is too small: *length bytes, or *many findings, are needed */
+    MCS_REFUSED = 3,   /* an argument is out of range */
+    MCS_NO_MEMORY = 4, /* out of memory */
+    MCS_FOUND = 5,     /* of a check: the room begins with the lines, and something was found */
+    MCS_UNJUDGED = 6,  /* of a check: the room begins with the lines; nothing was found, and nothing
+                          was judged */
+    MCS_PART = 7       /* the array is full of the first rows */
 };
+
+/* Stands where a row or a finding has no such number. */
+#define MCS_NONE UINT64_MAX
 
 /* Simulates the system that a text describes, up to a horizon.
  *
@@ -71,6 +95,157 @@ enum {
  * It keeps all rows of a run until the last is made, whatever show is. To read a long run while it
  * proceeds, start the program. The call has no time limit, and cannot be stopped. */
 uint32_t mcs_run(const uint8_t *text, size_t text_bytes, uint64_t horizon, uint32_t show, uint8_t *room, size_t room_bytes, size_t *length);
+
+/* The version of the library, as MCS_VERSION has that of this header. It has the calls of this
+ * header if it is at least MCS_VERSION and its major number, mcs_version() / 65536, is the same. */
+uint32_t mcs_version(void);
+
+/* Checks the system that a text describes, up to a horizon: what mcscheck prints.
+ *
+ *   text, text_bytes    The text, as above.
+ *   horizon             The last time of the run, in ticks: 0 to MCS_HORIZON_MAX.
+ *   part, format        What is written, and how. MCS_CSV does not go with MCS_ALL.
+ *   allowed,            The names of the notifications at which a lost signal is no finding, one a
+ *   allowed_bytes       line, without a line feed behind the last; of 0 bytes if there is none.
+ *   room, room_bytes    Memory for the output.
+ *   length              Receives the number of bytes of the output.
+ *
+ *   Result              *length                      Room
+ *   MCS_LINES           bytes of the lines           the lines; nothing was found
+ *   MCS_FOUND           bytes of the lines           the lines; something was found
+ *   MCS_UNJUDGED        bytes of the lines           the lines; nothing was found or judged
+ *   MCS_FAULT           bytes of the fault's line    the line, as mcscheck writes it: of the text,
+ *                                                    or of a name that no notification has
+ *   MCS_ROOM            bytes needed                 unchanged
+ *   MCS_REFUSED         0                            unchanged: horizon, part or format is out of
+ *                                                    range, they do not go together, or allowed is
+ *                                                    not UTF-8
+ *   MCS_NO_MEMORY       0                            unchanged
+ *
+ * Bytes behind the output are unchanged. The duties are those of mcs_run, for allowed as for text.
+ * The call keeps all rows until the last is made, unless part is MCS_FINDINGS and the text has no
+ * chain. */
+uint32_t mcs_check(const uint8_t *text, size_t text_bytes, uint64_t horizon, uint32_t part, uint32_t format, const uint8_t *allowed, size_t allowed_bytes, uint8_t *room, size_t room_bytes, size_t *length);
+
+/* The kinds of rows. */
+enum {
+    MCS_RELEASE = 0,   /* the thread `part` leaves the release queue */
+    MCS_RUN = 1,       /* the thread is chosen to run */
+    MCS_STOP = 2,      /* the thread stops: `why`, charged `value` ticks; `more` is the date of the
+                          replenishment for which it waits, or MCS_NONE */
+    MCS_SIGNAL = 3,    /* the thread's signal at `note` takes effect, with the badge `value` */
+    MCS_ARRIVE = 4,    /* the badge `value` of the core `part` arrives at `note` */
+    MCS_WAKE = 5,      /* the thread is woken at `note` with the word `value` */
+    MCS_HOLD = 6,      /* no thread waits at `note`, whose word is now `value` */
+    MCS_GOT = 7,       /* the thread took the word `value` of `note` without blocking */
+    MCS_ROUND = 8,     /* the round `value` of the thread ended, with the response `more` */
+    MCS_ORDER = 9,     /* the context `part` is reconfigured */
+    MCS_INTERRUPT = 10 /* the source `part` posts the badge `value` at `note` */
+};
+
+/* Why a thread stops, in the order of docs/FORMAT.md. */
+enum {
+    MCS_SPENT = 0,
+    MCS_YIELD = 1,
+    MCS_WAIT = 2,
+    MCS_CALL = 3,
+    MCS_DONE = 4,
+    MCS_PREEMPT = 5,
+    MCS_BY_ORDER = 6
+};
+
+/* A row of a schedule. Threads, contexts, notifications and sources are numbered from 0, each in
+ * the order of the file; servers are numbered behind the notifications: a thread's MCS_SIGNAL or
+ * MCS_GOT at a server is that it leaves or enters it. */
+typedef struct mcs_row {
+    uint64_t moment; /* the time, in ticks */
+    uint64_t core;
+    uint64_t kind;
+    uint64_t part; /* a thread, context, source or core, by kind; MCS_NONE of MCS_HOLD */
+    uint64_t note; /* a notification or server, by kind; else MCS_NONE */
+    uint64_t why;  /* of MCS_STOP; else MCS_NONE */
+    uint64_t value;
+    uint64_t more;
+} mcs_row;
+
+/* Simulates the system that a text describes, up to a horizon, and writes its first rows to an
+ * array, as many as fit.
+ *
+ *   Result              *many             *whole_before
+ *   MCS_LINES           all rows          horizon + 1
+ *   MCS_PART            rows_many         the time of the first row that is missing
+ *   MCS_FAULT           0                 0; mcs_run gives the line of the fault
+ *   MCS_REFUSED         0                 0; the horizon is above MCS_HORIZON_MAX
+ *   MCS_NO_MEMORY       0                 0
+ *
+ * *many is the number of rows written. All rows before the time *whole_before are among them. Rows
+ * of the array behind them are unchanged. The duties are those of mcs_run; calloc is enough. The
+ * call makes the whole run, however small the array is. */
+uint32_t mcs_rows(const uint8_t *text, size_t text_bytes, uint64_t horizon, mcs_row *rows, size_t rows_many, size_t *many, uint64_t *whole_before);
+
+/* The kinds of findings. */
+enum {
+    MCS_MISS = 0,    /* a round of the thread ended after its deadline */
+    MCS_OVERDUE = 1, /* a round that has not ended at the horizon can only end after its deadline */
+    MCS_LOST = 2,    /* a signal or interrupt at the notification changed nothing */
+    MCS_NEVER = 3    /* a thread with a deadline was not activated */
+};
+
+/* A finding of a thread or a notification. A number that its kind does not have is 0. */
+typedef struct mcs_finding {
+    uint64_t moment; /* the time, in ticks */
+    uint64_t core;
+    uint64_t kind;
+    uint64_t thread;    /* of MCS_MISS, MCS_OVERDUE and MCS_NEVER; else MCS_NONE */
+    uint64_t note;      /* of MCS_LOST; else MCS_NONE */
+    uint64_t number;    /* the number of the round, from 1, of MCS_MISS */
+    uint64_t response;  /* of MCS_MISS, from the activation */
+    uint64_t deadline;  /* of the thread */
+    uint64_t activated; /* when the round was activated, of MCS_MISS and MCS_OVERDUE */
+    uint64_t queued;    /* ticks from then to its beginning */
+    uint64_t word;      /* the notification's word, of MCS_LOST */
+    uint64_t ready;     /* ticks in which the thread stood ready from the beginning on, */
+    uint64_t running;   /* ran, */
+    uint64_t throttled; /* was without budget, */
+    uint64_t blocked;   /* waited for a server or a word, */
+    uint64_t woken;     /* and was woken but not yet chosen */
+} mcs_finding;
+
+/* Writes the findings of threads and notifications to an array: those of the rows in order, then
+ * those at the horizon. Lost signals that mcs_check is told to allow are among them; findings of
+ * chains are not.
+ *
+ *   Result              *many
+ *   MCS_LINES           the findings written
+ *   MCS_FAULT           0; mcs_check gives the line of the fault
+ *   MCS_ROOM            the findings there are; none was written
+ *   MCS_REFUSED         0; the horizon is above MCS_HORIZON_MAX
+ *   MCS_NO_MEMORY       0
+ *
+ * The duties are those of mcs_rows. */
+uint32_t mcs_findings(const uint8_t *text, size_t text_bytes, uint64_t horizon, mcs_finding *findings, size_t findings_many, size_t *many);
+
+/* The kinds of things that have names: values of `kind`. */
+enum {
+    MCS_THREAD = 0,
+    MCS_CONTEXT = 1,
+    MCS_NOTE = 2, /* a notification, or behind these a server */
+    MCS_SOURCE = 3,
+    MCS_CHAIN = 4
+};
+
+/* Writes the name of a thing of the system that a text describes, by its number. It has at most 32
+ * bytes.
+ *
+ *   Result              *length           Room
+ *   MCS_LINES           bytes             the name
+ *   MCS_FAULT           0                 unchanged; mcs_run gives the line of the fault
+ *   MCS_ROOM            bytes needed      unchanged
+ *   MCS_REFUSED         0                 unchanged: there is no such thing
+ *   MCS_NO_MEMORY       0                 unchanged
+ *
+ * The duties are those of mcs_run. */
+uint32_t mcs_name(const uint8_t *text, size_t text_bytes, uint32_t kind, uint64_t number, uint8_t *room, size_t room_bytes, size_t *length);
 
 #ifdef __cplusplus
 }

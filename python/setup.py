@@ -1,4 +1,4 @@
-"""Builds the package: the shared library of ../bin, mcscheck and the tool that draws go into it, so that no compiler is needed where it is installed."""
+"""Builds the package: the shared library of ../bin and the tool that draws go into it, so that no compiler is needed where it is installed."""
 from __future__ import annotations
 
 import pathlib
@@ -10,7 +10,7 @@ from setuptools.command.build_py import build_py
 from wheel.bdist_wheel import bdist_wheel
 
 TOP = pathlib.Path(__file__).resolve().parent.parent
-# what the programs and the library need: Linux on x86-64, and glibc 2.34
+# what the library needs: Linux on x86-64, and glibc 2.34
 PLATFORM = 'manylinux_2_34_x86_64'
 
 
@@ -25,7 +25,6 @@ class WithBundle(build_py):
         made = ['sh', str(TOP / 'launcher' / 'shared.sh'), str(TOP / 'bin' / 'libmcs_c.a'), str(bundle / 'libmcs.so.1')]
         if subprocess.run(made).returncode:
             raise SystemExit('mcsim: the shared library was not made: building the package needs a C compiler, its wheel needs none')
-        shutil.copy(TOP / 'bin' / 'mcscheck', bundle)
         shutil.copy(TOP / 'tools' / 'view', bundle / 'tools')
         shutil.copytree(TOP / 'tools' / 'mcsim_tools', bundle / 'tools' / 'mcsim_tools', ignore=shutil.ignore_patterns('__pycache__'))
 

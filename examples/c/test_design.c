@@ -1,37 +1,33 @@
 /* A unit test of a design: test_design FILE THREAD fails if the budget of a thread is ever exhausted. */
+#include <inttypes.h>
 #include <mcsim.h>
 #include <stdio.h>
 #include <stdlib.h>
 #include <string.h>
 
 #define HORIZON 10000
+#define MOST 100000
 
-/* the rows of the schedule, with a 0 byte at the end */
-static char *rows_of(const uint8_t *text, size_t bytes)
+static mcs_row rows[MOST];
+
+/* the number of the thread with a name */
+static uint64_t thread_named(const uint8_t *text, size_t bytes, const char *wanted)
 {
-    size_t room = 1 << 16, length = 0;
-    uint32_t result = MCS_ROOM;
-    char *rows = NULL;
+    uint8_t name[32];
+    size_t length = 0;
 
-    while (result == MCS_ROOM) {
-        free(rows);
-        rows = calloc(room + 1, 1);
-        if (rows == NULL)
-            exit(4);
-        result = mcs_run(text, bytes, HORIZON, MCS_SCHEDULE, (uint8_t *)rows, room, &length);
-        room = length;
-    }
-    if (result != MCS_LINES) {
-        fprintf(stderr, "test_design: %s\n", result == MCS_FAULT ? rows : "no memory");
-        exit(1);
-    }
-    return rows;
+    for (uint64_t number = 0; mcs_name(text, bytes, MCS_THREAD, number, name, sizeof name, &length) == MCS_LINES; number++)
+        if (length == strlen(wanted) && memcmp(name, wanted, length) == 0)
+            return number;
+    fprintf(stderr, "test_design: no thread is called %s\n", wanted);
+    exit(2);
 }
 
 int main(int count, char **words)
 {
     static uint8_t text[1 << 16];
-    char wrong[64];
+    size_t many = 0;
+    uint64_t before = 0;
     int failed = 0;
     FILE *file = count == 3 ? fopen(words[1], "rb") : NULL;
 
@@ -41,13 +37,15 @@ int main(int count, char **words)
     }
     size_t bytes = fread(text, 1, sizeof text, file);
     fclose(file);
-    snprintf(wrong, sizeof wrong, " stop %s spent ", words[2]);
-    char *rows = rows_of(text, bytes);
-    for (char *row = strtok(rows, "\n"); row != NULL; row = strtok(NULL, "\n")) {
-        if (strstr(row, wrong) != NULL && failed++ == 0)
-            printf("FAIL: %s\n", row);
+    uint32_t result = mcs_rows(text, bytes, HORIZON, rows, MOST, &many, &before);
+    if (result != MCS_LINES) {
+        fprintf(stderr, "test_design: %s\n", result == MCS_FAULT ? "the file is not a system" : result == MCS_PART ? "too many rows" : "no memory");
+        return 1;
     }
-    free(rows);
+    uint64_t thread = thread_named(text, bytes, words[2]);
+    for (size_t at = 0; at < many; at++)
+        if (rows[at].kind == MCS_STOP && rows[at].why == MCS_SPENT && rows[at].part == thread && failed++ == 0)
+            printf("FAIL: at %" PRIu64 "\n", rows[at].moment);
     printf("%s: the budget of %s is exhausted %d times\n", words[1], words[2], failed);
     return failed != 0;
 }

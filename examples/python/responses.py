@@ -14,8 +14,8 @@ import pandas as pd
 
 # beside the repository, unless the variable names another one
 CHECKER = os.environ.get('MCSCHECK') or pathlib.Path(__file__).resolve().parents[2] / 'mcscheck'
-# nothing was found, or something
-VERDICTS = (0, 5)
+# nothing was found, something was, or nothing was judged
+VERDICTS = (0, 5, 6)
 PARTS = ['queued', 'ready', 'running', 'throttled', 'blocked']
 
 

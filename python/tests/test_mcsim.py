@@ -71,12 +71,24 @@ class Checked(unittest.TestCase):
     def test_a_miss(self) -> None:
         found = TICKING.check(14)
         self.assertEqual(list(found), [mcsim.Miss(4, 0, 'H', 1, 4, 3, activated=0, queued=1, ready=0, running=3, throttled=0, blocked=0, woken=0)])
-        self.assertEqual(found.counts, mcsim.Counts(missed=1, overdue=0, lost=0, never=0, merged=0, allowed=0, hints=0))
-        self.assertFalse(found.is_clean)
+        self.assertEqual(found.counts, mcsim.Counts(missed=1, overdue=0, lost=0, never=0, merged=0, allowed=0,
+                                                    unjudged=0, hints=0, threads=1, deadlines=1, judged=2))
+        self.assertEqual((found.is_clean, found.is_judged), (False, True))
 
     def test_a_deadline_that_is_met(self) -> None:
         found = TICKING.put(dataclasses.replace(TICKING.thread('H'), deadline=4)).check(14)
-        self.assertEqual((found.is_clean, len(found), found.hints), (True, 0, ()))
+        self.assertEqual((found.is_clean, found.is_judged, len(found), found.hints), (True, True, 0, ()))
+
+    def test_a_job_that_is_not_judged_yet(self) -> None:
+        # at 3 the job that was activated at 0 goes on, and its deadline is 4
+        found = TICKING.put(dataclasses.replace(TICKING.thread('H'), deadline=4)).check(3)
+        self.assertEqual((list(found.unjudged), found.is_clean, found.is_judged), ([mcsim.Unjudged(3, 0, 'H', 4, activated=0)], True, False))
+
+    def test_nothing_to_judge(self) -> None:
+        for system, kind in ((mcsim.System(), 'no_thread'), (TICKING.put(dataclasses.replace(TICKING.thread('H'), deadline=0)), 'no_deadline')):
+            found = system.check(14)
+            self.assertEqual((found.is_clean, found.is_judged, found.hints[0]), (True, False, mcsim.Hint(kind)))
+        self.assertEqual(list(mcsim.System().check(14).hints)[1:], [mcsim.Hint('unused', core=0)])
 
     def test_what_is_overdue_never_and_lost(self) -> None:
         # `H` starts at 25: the ticks at 10 and 20 find the word of that at 0
@@ -124,7 +136,8 @@ class Checked(unittest.TestCase):
         self.assertEqual((second.number, second.activated, second.begun, second.moment, second.response, second.queued), (2, 10, 10, 13, 3, 0))
 
     def test_a_kind_of_finding_that_is_not_known(self) -> None:
-        counts = b'{"kind":"counts","missed":0,"overdue":0,"lost":0,"never":0,"merged":0,"allowed":0,"hints":0,"new":1}\n'
+        counts = b'{"kind":"counts","missed":0,"overdue":0,"lost":0,"never":0,"merged":0,"allowed":0,"unjudged":0,"hints":0,"threads":1,' \
+            b'"deadlines":0,"judged":0,"new":1}\n'
         found = verdict.verdict_of(b'{"moment":3,"core":1,"kind":"slow","chain":"way","latency":9}\n' + counts)
         self.assertEqual(list(found), [mcsim.Other(3, 1, 'slow', {'moment': 3, 'core': 1, 'chain': 'way', 'latency': 9})])
         self.assertFalse(found.is_clean)
@@ -221,6 +234,9 @@ class Refused(unittest.TestCase):
     def test_a_notification_that_is_not_there(self) -> None:
         with self.assertRaisesRegex(ValueError, 'no notification is called "tack": the nearest is tick'):
             TICKING.check(14, allow_lost=['tack'])
+        for name in ('', 'tick\ntick'):
+            with self.assertRaisesRegex(ValueError, 'no notification is called'):
+                TICKING.check(14, allow_lost=[name])
 
 
 class Seen(unittest.TestCase):

@@ -1,6 +1,6 @@
-//! The simulator for programs in C, Python or other languages. The text of a system goes in. The
-//! lines of its schedule and reports, or the line of the text's first fault, come out in the
-//! caller's memory. `include/mcsim.h` is the header.
+//! The simulator and the checker for programs in C, Python or other languages. The text of a system
+//! goes in. The lines of its schedule, reports or verdict, the line of the text's first fault, or
+//! rows and findings in numbers come out in the caller's memory. `include/mcsim.h` is the header.
 #![tactic(auto)]
 
 ghost use Rattle.std.specs.Prelude.{◌≡◌, ◌≤◌, ◌<◌, ◌^◌, ◌++◌, ◌↔◌, ◌⊎◌, Ok, Err, length, take, drop};
@@ -12,12 +12,34 @@ ghost use Rattle.mcs_cli.specs.declared.fault.RunFault.TheVariants.{Load};
 ghost use Rattle.mcs_c.specs.Output.{IsLengthOf, show_of};
 
 mod answer;
+mod check;
+mod findings;
+mod name;
+mod numbers;
+mod options;
 mod output;
+mod room;
 
 use answer::{Answer, answer_to};
+pub use check::mcs_check;
+pub use findings::{NumberedFinding, NumberedStood, mcs_findings};
 use mcs_cli::Show;
 use mcs_ticks::Tick;
+pub use name::mcs_name;
+pub use numbers::{NumberedRow, mcs_rows};
+use room::handed;
 use std::alloc::Global;
+
+/// The version of the interface: 65,536 times the major number, and the minor number.
+const VERSION: u32 = 65_536 + 1;
+
+/// Returns the version of the library, which is that of the header that it was built with.
+#[unsafe(no_mangle)]
+pub extern "C" fn mcs_version() -> u32
+    ensures { result ≡ 65537 }
+{
+    VERSION
+}
 
 /// Simulates the system that a text describes, up to a horizon of at most 2^40 ticks, on the
 /// calling thread only. It keeps all rows until the last is made.
@@ -71,25 +93,4 @@ pub extern "C" fn mcs_run(
         Answer::Fault(line) => handed(line.as_bytes(), room, length_of, 1),
         Answer::NoMemory => 4,
     }
-}
-
-/// Copies bytes to the caller and sets their number. Returns `code` if they fit into the room, else
-/// 2.
-fn handed(bytes: &[u8], room: &mut [u8], length_of: &mut usize, code: u32) -> u32
-    requires { code ≤ 1 }
-    ensures code { (result ≡ code) ⊎ (result ≡ 2) }
-    ensures length { length_of.new ≡ length bytes.now }
-    ensures done { result ≡ code → take length_of.new room.new ≡ bytes.now }
-    ensures fits { result ≡ code → length_of.new ≤ length room.new }
-    ensures behind { result ≡ code → drop length_of.new room.new ≡ drop length_of.new room.old }
-    ensures needs { result ≡ 2 → length room.new < length_of.new }
-    ensures unchanged { result ≡ 2 → room.new ≡ room.old }
-    ensures room { length room.new ≡ length room.old }
-{
-    *length_of = bytes.len();
-    if bytes.len() > room.len() {
-        return 2;
-    }
-    room[..bytes.len()].copy_from_slice(bytes);
-    code
 }

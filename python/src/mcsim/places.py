@@ -1,11 +1,10 @@
-"""The files that come with the package: the shared library, the program that checks, and the tool that draws."""
+"""The files that come with the package: the shared library, and the tool that draws."""
 from __future__ import annotations
 
 import pathlib
 
 BUNDLE = pathlib.Path(__file__).resolve().parent / 'bundle'
 LIBRARY = BUNDLE / 'libmcs.so.1'
-CHECKER = BUNDLE / 'mcscheck'
 VIEW = BUNDLE / 'tools' / 'view'
 
 

@@ -10,7 +10,7 @@ from collections.abc import Iterator, Mapping, Sequence
 from dataclasses import dataclass
 from typing import Any, Optional, TypeVar, Union
 
-from . import checker, library, rows, verdict, views
+from . import library, rows, verdict, views
 from .parts import Chain, Context, Link, Named, Note, Order, Part, Server, Source, Thread
 
 # the last time of a run, where none is given
@@ -112,19 +112,19 @@ class System:
 
     def check(self, horizon: int = HORIZON, allow_lost: Sequence[str] = ()) -> verdict.Verdict:
         """What is wrong with the schedule up to a horizon; at the notifications of allow_lost a lost signal is no finding."""
-        return verdict.verdict_of(checker.lines_of(self.data(), horizon, 'findings', allow_lost))
+        return verdict.verdict_of(library.check(self.data(), horizon, 'findings', allow_lost))
 
     def table(self, horizon: int = HORIZON) -> list[verdict.Figures]:
         """The figures of each thread up to a horizon; pandas.DataFrame takes them as they are."""
-        return verdict.table_of(checker.lines_of(self.data(), horizon, 'table'))
+        return verdict.table_of(library.check(self.data(), horizon, 'table'))
 
     def unused(self, horizon: int = HORIZON) -> dict[str, Optional[int]]:
         """The ticks that each context could have let run and did not; None if an order names the context."""
-        return verdict.unused_of(checker.lines_of(self.data(), horizon, 'table'))
+        return verdict.unused_of(library.check(self.data(), horizon, 'table'))
 
     def jobs(self, horizon: int = HORIZON) -> Iterator[verdict.Job]:
         """The jobs that ended up to a horizon, by their ends."""
-        return verdict.jobs_of(checker.lines_of(self.data(), horizon, 'jobs'))
+        return verdict.jobs_of(library.check(self.data(), horizon, 'jobs'))
 
     def view(self, horizon: int = HORIZON, begin: int = 0, end: Optional[int] = None, width: int = 1000) -> views.View:
         """A picture of the schedule up to a horizon, from begin to end."""

@@ -65,6 +65,17 @@ class Never:
 
 
 @dataclass(frozen=True)
+class Unjudged:
+    """A thread with a deadline whose first job was activated, has not ended at the horizon, and still has time. It is no finding."""
+
+    moment: int
+    core: int
+    thread: str
+    deadline: int
+    activated: int
+
+
+@dataclass(frozen=True)
 class Other:
     """A finding of a kind that this package does not know, with all of its values."""
 
@@ -79,7 +90,8 @@ Finding = Union[Miss, Overdue, Lost, Never, Other]
 
 @dataclass(frozen=True)
 class Hint:
-    """A likely mistake in the file: `unsignalled` has a note, `unbound` a context, `overcommitted` a core and what it grants, in millionths."""
+    """A likely mistake in the file: `no_thread` and `no_deadline` are of all of it, `unsignalled` has a note, `unbound` a context, `unused` a core without a
+    thread, and `overcommitted` a core and what it grants, in millionths."""
 
     hint: str
     note: Optional[str] = None
@@ -90,7 +102,8 @@ class Hint:
 
 @dataclass(frozen=True)
 class Counts:
-    """How many findings there are of each kind. Merged and allowed ones are none, nor are hints."""
+    """How many findings there are of each kind. Merged and allowed ones are none, nor are unjudged threads and hints. Then how many threads and deadlines
+    the file has, and how many jobs and answers with a deadline ended or are overdue."""
 
     missed: int
     overdue: int
@@ -98,21 +111,31 @@ class Counts:
     never: int
     merged: int
     allowed: int
+    unjudged: int
     hints: int
+    threads: int
+    deadlines: int
+    judged: int
 
 
 @dataclass(frozen=True)
 class Verdict:
-    """The findings in the order of the schedule, then those at the horizon; the hints; and the counts."""
+    """The findings in the order of the schedule, then those at the horizon; the threads that are unjudged; the hints; and the counts."""
 
     findings: Sequence[Finding]
+    unjudged: Sequence[Unjudged]
     hints: Sequence[Hint]
     counts: Counts
 
     @property
     def is_clean(self) -> bool:
-        """Whether nothing was found. Hints are no findings."""
+        """Whether nothing was found, which says nothing unless something was judged. Unjudged threads and hints are no findings."""
         return not self.findings
+
+    @property
+    def is_judged(self) -> bool:
+        """Whether any job or answer with a deadline ended or is overdue."""
+        return self.counts.judged > 0
 
     def __iter__(self) -> Iterator[Finding]:
         return iter(self.findings)
@@ -173,36 +196,44 @@ class Figures:
 
 
 FINDINGS: Mapping[str, type[Union[Miss, Overdue, Lost, Never]]] = {'miss': Miss, 'overdue': Overdue, 'lost': Lost, 'never': Never}
+# the names of the values that each class has
+NAMES: Mapping[type[Any], frozenset[str]] = {
+    kind: frozenset(field.name for field in dataclasses.fields(kind)) for kind in (Miss, Overdue, Lost, Never, Hint, Counts, Job, Figures)
+}
 
 
 def objects_of(lines: bytes) -> Iterator[tuple[str, dict[str, Any]]]:
-    """The objects of the lines that mcscheck writes: the kind of each, and its other values."""
-    for line in lines.splitlines():
-        values: dict[str, Any] = json.loads(line)
+    """The objects of the lines that mcscheck writes: the kind of each, and its other values. No object has a line feed in it."""
+    found: list[dict[str, Any]] = json.loads(b'[%s]' % lines.rstrip(b'\n').replace(b'\n', b','))
+    for values in found:
         yield values.pop('kind'), values
 
 
-def known(of: type[Any], values: Mapping[str, Any]) -> dict[str, Any]:
-    """The values that a class has; a later program may write more."""
-    names = {field.name for field in dataclasses.fields(of)}
-    return {name: value for name, value in values.items() if name in names}
+def made(of: type[Any], values: dict[str, Any]) -> Any:
+    """An object of the values that its class has; a later library may write more."""
+    names = NAMES[of]
+    return of(**values) if names.issuperset(values) else of(**{name: value for name, value in values.items() if name in names})
 
 
-def finding_of(kind: str, values: Mapping[str, Any]) -> Finding:
+def finding_of(kind: str, values: dict[str, Any]) -> Finding:
     if kind in FINDINGS:
-        return FINDINGS[kind](**known(FINDINGS[kind], values))
+        found: Finding = made(FINDINGS[kind], values)
+        return found
     return Other(values['moment'], values['core'], kind, values)
 
 
 def verdict_of(lines: bytes) -> Verdict:
     """The verdict that these lines tell."""
     findings: list[Finding] = []
+    unjudged: list[Unjudged] = []
     hints: list[Hint] = []
     for kind, values in objects_of(lines):
         if kind == 'hint':
-            hints.append(Hint(**known(Hint, values)))
+            hints.append(made(Hint, values))
+        elif kind == 'unjudged':
+            unjudged.append(made(Unjudged, values))
         elif kind == 'counts':
-            return Verdict(tuple(findings), tuple(hints), Counts(**known(Counts, values)))
+            return Verdict(tuple(findings), tuple(unjudged), tuple(hints), made(Counts, values))
         else:
             findings.append(finding_of(kind, values))
     raise EOFError('the verdict has no line of counts')
@@ -211,11 +242,11 @@ def verdict_of(lines: bytes) -> Verdict:
 def jobs_of(lines: bytes) -> Iterator[Job]:
     for kind, values in objects_of(lines):
         if kind == 'job':
-            yield Job(**known(Job, values))
+            yield made(Job, values)
 
 
 def table_of(lines: bytes) -> list[Figures]:
-    return [Figures(**known(Figures, values)) for kind, values in objects_of(lines) if kind == 'thread']
+    return [made(Figures, values) for kind, values in objects_of(lines) if kind == 'thread']
 
 
 def unused_of(lines: bytes) -> dict[str, Optional[int]]:
