@@ -10,19 +10,21 @@ from . import scale, tabling
 from .colours import DOUBTFUL, TITLE, WELL, WRONG
 from .printable import printable
 from .tabling import Object
-from .verdict import COUNTED, FOUND, NOTHING
+from .verdict import COUNTED, FOUND, NOTHING, UNJUDGED
 
-# exit code of mcscheck: with --forever nothing is found so far, and it is not known whether there will be something
-NOT_KNOWN = 6
-MISS, HINT, COUNTS, SETS, THREAD, CHAIN, WHY, RAN, IDLE = 'miss', 'hint', 'counts', 'sets', 'thread', 'chain', 'why', 'ran', 'idle'
-HINTS = 'hints'
+MISS, HINT, COUNTS, SETS, WHY, RAN, IDLE = 'miss', 'hint', 'counts', 'sets', 'why', 'ran', 'idle'
+# kinds of lines that are no finding, and may be a mistake
+IN_DOUBT = (HINT, 'unjudged')
 # what a kind of finding says of whom it names, of one and of several
 SAID = {
     'overdue': ('job overdue', 'jobs overdue'), 'lost': ('signal lost', 'signals lost'), 'never': ('thread never activated', 'threads never activated'),
-    'slow': ('answer late', 'answers late'), 'unanswered': ('interrupt unanswered', 'interrupts unanswered'), 'hints': ('hint', 'hints'),
+    'slow': ('answer late', 'answers late'), 'unanswered': ('interrupt unanswered', 'interrupts unanswered'), 'unjudged': ('thread unjudged', 'threads unjudged'),
+    'hints': ('hint', 'hints'),
 }
-# counts of a verdict that are no finding
-NO_FINDINGS = ('merged', 'allowed')
+# how much was looked at, by the last line
+THREADS, DEADLINES, JUDGED = 'threads', 'deadlines', 'judged'
+# counts of a verdict that are nothing that is wrong, or may be
+NO_FINDINGS = ('merged', 'allowed', THREADS, DEADLINES, JUDGED)
 # the keys of whom a line names
 NAMES = ('thread', 'note', 'chain', 'context', 'source', 'server')
 # the keys that say how often something is found for all time
@@ -31,22 +33,13 @@ OFTEN = ('each_period', 'before', 'so_far')
 
 def severity(kind: str) -> str:
     """The colour of a kind of line."""
-    return WRONG if kind in COUNTED else DOUBTFUL if kind == HINT else ''
+    return WRONG if kind in COUNTED else DOUBTFUL if kind in IN_DOUBT else ''
 
 
 def counted(many: int, key: str) -> str:
     """A count in words; that of an unknown key has the key."""
     one, several = SAID.get(key, (key, key))
     return f'{many} {one if many == 1 else several}'
-
-
-@dataclass(frozen=True)
-class Asked:
-    """What a verdict is about: its last time, the threads of the file and those with a deadline. None if it is not known."""
-
-    horizon: Optional[int] = None
-    threads: Optional[int] = None
-    deadlines: Optional[int] = None
 
 
 @dataclass
@@ -58,7 +51,6 @@ class Facts:
     first: dict[str, Object] = field(default_factory=dict)
     last: dict[str, Object] = field(default_factory=dict)
     ran: list[tuple[str, int]] = field(default_factory=list)
-    deadlines: int = 0
 
     def add(self, line: Object) -> None:
         kind = str(line.get(tabling.KIND))
@@ -69,18 +61,27 @@ class Facts:
             self.named.setdefault(kind, {})[name] = None
         if kind == RAN and isinstance(line.get('ticks'), int):
             self.ran.append((name, line['ticks']))
-        self.deadlines += kind in (THREAD, CHAIN) and 'deadline' in line
 
     def findings(self) -> Iterator[Object]:
         """The first finding of each kind."""
         return (line for kind, line in self.first.items() if kind in COUNTED)
 
+    def counts(self) -> Object:
+        """The last line: the counts of a verdict, or of one for all time."""
+        return self.last.get(COUNTS) or self.last.get(SETS) or {}
+
+    def status(self) -> int:
+        """The exit code that the last line has without --strict."""
+        counts = self.counts()
+        if any(counts.get(key) for key in (*COUNTED.values(), 'findings')):
+            return FOUND
+        is_open = counts.get('repeating', 0) < counts.get('sets', 0)
+        return UNJUDGED if is_open or 0 in (counts.get(JUDGED), counts.get(DEADLINES)) else NOTHING
+
     def others(self) -> str:
         """What is counted beside misses, in words."""
-        counts = {key: many for key, many in self.last.get(COUNTS, {}).items() if isinstance(many, int) and key not in (COUNTED[MISS], *NO_FINDINGS)}
-        # the hints of the view itself are among its lines alone
-        counts[HINTS] = max(self.many[HINT], counts.get(HINTS, 0))
-        return ', '.join(counted(many, key) for key, many in counts.items() if many)
+        counts = self.last.get(COUNTS, {}).items()
+        return ', '.join(counted(many, key) for key, many in counts if isinstance(many, int) and many and key not in (COUNTED[MISS], *NO_FINDINGS))
 
 
 def name_of(line: Object) -> str:
@@ -119,48 +120,60 @@ def first_of(facts: Facts, unit: scale.Unit) -> str:
     return f'; first: {first[tabling.KIND]}, {place_of(first, unit)}' if first else ''
 
 
-def misses_of(facts: Facts, asked: Asked, unit: scale.Unit) -> str:
+def misses_of(facts: Facts, unit: scale.Unit) -> str:
     """How many threads miss their deadline, and which first."""
     many = len(facts.named[MISS])
-    threads = asked.threads or facts.many[THREAD]
+    threads = facts.counts().get(THREADS, 0)
     one, of = many == 1, f' of {threads}' if threads >= many else ''
     whose = f'thread{"" if one and threads <= 1 else "s"} {"misses its" if one else "miss their"} deadline'
     return f'{many}{of} {whose}; first: {place_of(facts.first[MISS], unit)}'
 
 
-def clean(facts: Facts, asked: Asked, unit: scale.Unit) -> str:
+def why_unjudged(counts: Object) -> str:
+    """Why no deadline was judged."""
+    if counts.get(THREADS) == 0:
+        return 'the system has no thread'
+    if counts.get(DEADLINES) == 0:
+        return 'no thread has a deadline' if SETS in counts else 'no thread and no chain has a deadline'
+    return 'nothing with a deadline has ended or is overdue'
+
+
+def clean(facts: Facts, horizon: Optional[int], status: int, unit: scale.Unit) -> Sentence:
     """What a verdict without a finding says."""
-    until = f' up to {time_of(asked.horizon, unit)}' if asked.horizon is not None else ''
-    deadlines = facts.deadlines if asked.deadlines is None and facts.many[THREAD] else asked.deadlines
-    if deadlines == 0:
-        return f'Nothing is found{until}: no thread and no chain has a deadline'
-    return f'{"The deadline is" if deadlines == 1 else "All deadlines are"} met{until}'
+    until = f' up to {time_of(horizon, unit)}' if horizon is not None else ''
+    others = ''.join(f'; {text}' for text in [facts.others()] if text)
+    counts = facts.last[COUNTS]
+    if status == UNJUDGED:
+        return Sentence(f'No deadline is judged{until}: {why_unjudged(counts)}{others}', DOUBTFUL)
+    return Sentence(f'{"The deadline is" if counts.get(DEADLINES) == 1 else "All deadlines are"} met{until}{others}', WELL)
 
 
-def of_verdict(facts: Facts, asked: Asked, status: int, unit: scale.Unit) -> Sentence:
+def of_verdict(facts: Facts, horizon: Optional[int], status: int, unit: scale.Unit) -> Sentence:
     """What a run with findings, hints or neither comes to."""
     others = facts.others()
     missed = facts.last[COUNTS].get(COUNTED[MISS], 0)
     if MISS in facts.named:
-        return Sentence(misses_of(facts, asked, unit) + (f'; also {others}' if others else ''), WRONG)
+        return Sentence(misses_of(facts, unit) + (f'; also {others}' if others else ''), WRONG)
     if missed:
         # the lines of findings were not asked for
         jobs = 'job misses its deadline' if missed == 1 else 'jobs miss their deadline'
         return Sentence(f'{missed} {jobs}' + (f'; also {others}' if others else ''), WRONG)
     if status == FOUND:
         return Sentence(f'No deadline is missed, but there is: {others}{first_of(facts, unit)}', WRONG)
-    return Sentence(clean(facts, asked, unit) + (f'; {others}' if others else ''), WELL)
+    return clean(facts, horizon, status, unit)
 
 
-def of_all_time(facts: Facts, asked: Asked, status: int, unit: scale.Unit) -> Sentence:
+def of_all_time(facts: Facts, status: int, unit: scale.Unit) -> Sentence:
     """What a verdict for all time comes to."""
     sets = facts.last[SETS]
     repeating = f'{sets.get("repeating")} of {sets.get("sets")} sets of cores repeat{"s" if sets.get("repeating") == 1 else ""}'
     if status == NOTHING:
         return Sentence(f'For ever no deadline is missed, and no signal is lost unless that is allowed; {repeating}', WELL)
-    if status == NOT_KNOWN:
+    if status == UNJUDGED and sets.get(DEADLINES) == 0:
+        return Sentence(f'No deadline is judged: {why_unjudged(sets)}; {repeating}', DOUBTFUL)
+    if status == UNJUDGED:
         return Sentence(f'Nothing is found so far, and nothing is known of later times: {repeating}', DOUBTFUL)
-    head = misses_of(facts, asked, unit) if MISS in facts.named else f'No deadline is missed{first_of(facts, unit)}'
+    head = misses_of(facts, unit) if MISS in facts.named else f'No deadline is missed{first_of(facts, unit)}'
     return Sentence(f'{head}; {repeating}', WRONG)
 
 
@@ -177,10 +190,10 @@ def of_job(facts: Facts, unit: scale.Unit) -> Sentence:
     return Sentence(printable(f'{name}, round {job.get("number")}, from {begin} to {end}{open_end}: {ran}'), TITLE)
 
 
-def conclusion(facts: Facts, asked: Asked, status: int, unit: scale.Unit) -> Optional[Sentence]:
-    """The sentence of a verdict, if it is whole."""
+def conclusion(facts: Facts, horizon: Optional[int], status: int, unit: scale.Unit) -> Optional[Sentence]:
+    """The sentence of a verdict up to a horizon, if it is whole."""
     if WHY in facts.last:
         return of_job(facts, unit)
     if SETS in facts.last:
-        return of_all_time(facts, asked, status, unit)
-    return of_verdict(facts, asked, status, unit) if COUNTS in facts.last else None
+        return of_all_time(facts, status, unit)
+    return of_verdict(facts, horizon, status, unit) if COUNTS in facts.last else None

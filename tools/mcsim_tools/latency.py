@@ -10,7 +10,7 @@ from .faults import Fault
 from .reading import Listener, Reading, Round
 from .settings import Tables
 from .system import Chain
-from .trying import Case, Question, Seen
+from .trying import Case, Question, Seen, Span
 from .verdict import REFUSED
 
 
@@ -92,6 +92,15 @@ class Latencies(Question):
         latency = None if found.answer is None else found.answer.latency
         age = 0 if found.unanswered is None else self.horizon - found.unanswered
         return Seen(age, is_open=True) if age > (latency or 0) else Seen(latency)
+
+    def span(self, tables: Tables) -> Optional[Span]:
+        found, _ = self.read(tables)
+        if found is None:
+            return None
+        spans = [] if found.answer is None else [(found.answer.origin, found.answer.moment)]
+        if found.unanswered is not None:
+            spans.append((found.unanswered, self.horizon))
+        return trying.longest(spans)
 
     def case(self, tables: Tables, seen: Seen) -> Case:
         found, _ = self.read(tables)

@@ -1,5 +1,5 @@
 """pretty [FILE] [--color WHEN] [--tick-us N] [--rows]
-pretty [--color WHEN] [--tick-us N] [--rows] [--system FILE] --run mcscheck [OPTION ..] [FILE]
+pretty [--color WHEN] [--tick-us N] [--rows] --run mcscheck [OPTION ..] [FILE]
 
 Shows what mcscheck writes as JSON in tables with heads, and last in one sentence. It reads FILE, or standard input; with --run it runs mcscheck, and its
 exit code is that of mcscheck. `mcscheck --format pretty` does this.
@@ -13,7 +13,6 @@ import collections
 import contextlib
 import decimal
 import json
-import pathlib
 import shutil
 import subprocess
 import sys
@@ -21,26 +20,24 @@ from collections.abc import Iterable, Iterator, Sequence
 from typing import IO, Optional
 
 from . import colours, concluding, scale, source, system, tabling
-from .concluding import Asked, Facts
+from .concluding import Facts
 from .faults import Fault, why
 from .frame import WRITE_FAILED, OutputLost
 from .options import STANDARD_INPUT, Options
-from .system import System
 from .tabling import KIND, Look, Object
-from .verdict import FOUND, NOTHING
+from .verdict import FOUND, NOTHING, UNJUDGED
 
 # rows of a kind that are shown, those with a time, and with --rows
 MOST, MOST_TIMES, MOST_ROWS = 100, 20, 10_000
 # exit codes that are no fault
-ANSWERS = (NOTHING, FOUND, concluding.NOT_KNOWN)
+ANSWERS = (NOTHING, FOUND, UNJUDGED)
 # kinds of lines that begin a group of lines about some cores
 BEGIN_GROUP = ('repeats', 'open')
-# what --show asks for without findings and hints
-WITHOUT_HINTS = ('jobs', 'table')
 # what hints mean
 MEANINGS = {
     'unsignalled': 'waited on, and never signalled', 'unbound': 'no thread is bound to it',
-    'overcommitted': 'its contexts have more than it', 'unused': 'no thread runs on it',
+    'overcommitted': 'its contexts have more than it', 'unused': 'no thread runs on it', 'no_thread': 'the file has none',
+    'no_deadline': 'no deadline can be judged',
 }
 ROWS = 'rows'
 NARROWEST = 20
@@ -166,32 +163,10 @@ def rest_of(row: Object, unit: scale.Unit) -> str:
 
 # What is shown
 
-def hints_of(known: System) -> list[Object]:
-    """Hints that mcscheck does not give: cores on which no thread runs."""
-    used = known.by_core()
-    return [{KIND: concluding.HINT, concluding.HINT: 'unused', 'core': core} for core in range(known.cores) if core not in used]
-
-
-def system_in(path: Optional[pathlib.Path]) -> Optional[System]:
-    """The system of a file, None if it is not to be had: the program is what says why."""
-    if path is None or not path.is_file():
-        return None
-    with contextlib.suppress(Fault):
-        return system.parse(path, system.read_bytes(path))
-    return None
-
-
-def deadlines_of(known: System) -> int:
-    """How many threads and chains have a deadline."""
-    return sum(bool(thread.deadline) for thread in known.threads.values()) + sum(bool(chain.deadline) for chain in known.chains.values())
-
-
-def asked_of(words: Sequence[str], known: Optional[System]) -> Asked:
-    """What a verdict is about, by the options of the program and the file."""
+def horizon_of(words: Sequence[str]) -> Optional[int]:
+    """The last time of a verdict, by the options of the program."""
     horizon = option_of(words, '--horizon') or str(source.HORIZON)
-    threads = None if known is None else known.threads.values()
-    deadlines = None if known is None else deadlines_of(known)
-    return Asked(int(horizon) if horizon.isdigit() else None, None if threads is None else len(threads), deadlines)
+    return int(horizon) if horizon.isdigit() else None
 
 
 def option_of(words: Sequence[str], name: str) -> Optional[str]:
@@ -204,16 +179,16 @@ def option_of(words: Sequence[str], name: str) -> Optional[str]:
     return None
 
 
-def last_time(verdict: Verdict, asked: Asked) -> int:
+def last_time(verdict: Verdict, horizon: Optional[int]) -> int:
     """The last time of a verdict, by which the unit is chosen."""
-    return max([asked.horizon or 0, *(value for line in verdict.facts.last.values() for key, value in line.items() if tabling.is_time(key) and isinstance(value, int))])
+    return max([horizon or 0, *(value for line in verdict.facts.last.values() for key, value in line.items() if tabling.is_time(key) and isinstance(value, int))])
 
 
-def show(verdict: Verdict, view: View, asked: Asked, status: int) -> None:
+def show(verdict: Verdict, view: View, horizon: Optional[int], status: int) -> None:
     """Writes what was read."""
     for line in verdict.others:
         print(line, file=view.stream)
-    sentence = concluding.conclusion(verdict.facts, asked, status, view.look.unit) if status in ANSWERS else None
+    sentence = concluding.conclusion(verdict.facts, horizon, status, view.look.unit) if status in ANSWERS else None
     if sentence and verdict.is_why:
         view.part()
         view.say(sentence.text, sentence.colour)
@@ -252,13 +227,12 @@ def options() -> Options:
         help='colours; auto: on a terminal, unless NO_COLOR is set (default: %(default)s)')
     words.add_argument('--tick-us', type=microseconds, metavar='N', help='a tick is N microseconds: times are in real units')
     words.add_argument('--rows', action='store_true', help='shows 10,000 rows of a kind, and with --why those of the schedule')
-    words.reads('--system', metavar='FILE', help='the file of the system, for how many threads it has and for cores that no thread uses')
     words.add_argument('--run', nargs=argparse.REMAINDER, metavar='WORD ..', help='runs mcscheck: its path, its options and its FILE')
     return words
 
 
-def view_of(asked: argparse.Namespace, verdict: Verdict, about: Asked) -> View:
-    unit = scale.Clock(asked.tick_us).unit(last_time(verdict, about))
+def view_of(asked: argparse.Namespace, verdict: Verdict, horizon: Optional[int]) -> View:
+    unit = scale.Clock(asked.tick_us).unit(last_time(verdict, horizon))
     width = max(NARROWEST, shutil.get_terminal_size().columns)
     return View(Look(width, unit, colours.Paint(colours.are_wanted(asked.color, sys.stdout))), sys.stdout)
 
@@ -272,8 +246,7 @@ def read_file(asked: argparse.Namespace) -> int:
             verdict.read(source.text_lines(file))
     except OSError as error:
         raise why(path, error) from None
-    found = Asked() if asked.system is None else asked_of([], system_in(asked.system))
-    show(verdict, view_of(asked, verdict, found), found, FOUND if any(verdict.facts.findings()) else NOTHING)
+    show(verdict, view_of(asked, verdict, None), None, verdict.facts.status())
     return 0
 
 
@@ -286,13 +259,9 @@ def run(asked: argparse.Namespace) -> int:
     with running(words) as child:
         verdict.read(source.text_lines(source.pipe_of(child.stdout)))
         status = child.wait()
-    known = system_in(asked.system) if status in ANSWERS else None
-    if known is not None and not is_why and '--forever' not in words and option_of(words, '--show') not in WITHOUT_HINTS:
-        for hint in hints_of(known):
-            verdict.add(hint)
-    about = asked_of(words, known)
+    horizon = horizon_of(words)
     try:
-        show(verdict, view_of(asked, verdict, about), about, status)
+        show(verdict, view_of(asked, verdict, horizon), horizon, status)
         sys.stdout.flush()
     except OutputLost:
         raise Fault('write failed', WRITE_FAILED) from None

@@ -99,6 +99,15 @@ class Numbers(Choice):
     def said(self, chosen: Point) -> str:
         return f'{self.text}={self.values[chosen[0]]}'
 
+    def place_of(self, start: int) -> Optional[int]:
+        """Where a start stands in the range, or one some periods before or after it."""
+        values = self.values
+        away = (start - int(values[0])) % self.period
+        if isinstance(values, range):
+            place, rest = divmod(away, values.step)
+            return place if rest == 0 and place < len(values) else None
+        return next((place for place, value in enumerate(values) if int(value) - int(values[0]) == away), None)
+
     def aligned(self, moment: int, late: Mapping[str, int]) -> Optional[Point]:
         if not self.period:
             return None
@@ -305,13 +314,15 @@ class Space:
         self.sizes = [size for choice in choices for size in choice.sizes]
         self.count = math.prod(choice.count for choice in choices)
 
+    def places(self) -> list[range]:
+        """The places of each choice's coordinates in a point."""
+        ends = list(itertools.accumulate(len(choice.sizes) for choice in self.choices))
+        return [range(begin, end) for begin, end in zip([0, *ends], ends)]
+
     def parts(self, point: Point) -> Iterator[tuple[Choice, Point]]:
         """Each choice with its own coordinates."""
-        begin = 0
-        for choice in self.choices:
-            end = begin + len(choice.sizes)
-            yield choice, point[begin:end]
-            begin = end
+        for choice, its in zip(self.choices, self.places()):
+            yield choice, point[its.start:its.stop]
 
     def all(self) -> Iterator[Point]:
         for parts in itertools.product(*(choice.all() for choice in self.choices)):
@@ -351,12 +362,7 @@ class Space:
 
     def longest(self) -> dict[int, int]:
         """The coordinates that are times of computation, each with its greatest value."""
-        found, begin = {}, 0
-        for choice in self.choices:
-            if choice.is_time:
-                found[begin] = choice.sizes[0] - 1
-            begin += len(choice.sizes)
-        return found
+        return {its.start: choice.sizes[0] - 1 for choice, its in zip(self.choices, self.places()) if choice.is_time}
 
     def moments(self) -> list[int]:
         """When jobs may come together: once all that is left open has begun, at a date of each

@@ -15,7 +15,7 @@ from typing import Optional
 from . import frame
 from .settings import Value
 from .sweeping import Sweep
-from .verdict import Programs, Result
+from .verdict import UNJUDGED, Programs, Result
 
 
 class End(enum.Enum):
@@ -31,10 +31,11 @@ class End(enum.Enum):
 
 @dataclass
 class Found:
-    """What a search came to: the value, if there is one, and how many were refused before it."""
+    """What a search came to: the value, if there is one, and before it those that were refused, and those under which nothing was judged."""
 
     value: Optional[Value] = None
     refused: list[tuple[Value, str]] = field(default_factory=list)
+    unjudged: list[Value] = field(default_factory=list)
 
 
 def seconds_text(seconds: float) -> str:
@@ -92,6 +93,8 @@ def search(sweep: Sweep, programs: Programs, end: End, jobs: int) -> Found:
                 break
             if result.is_refused:
                 found.refused.append((value, result.fault))
+            if result.status == UNJUDGED:
+                found.unjudged.append(value)
             if done == 1 and len(values) > 1:
                 left = len(values) - 1
                 frame.say(f'{left} value{"s are" if left > 1 else " is"} left at most, {seconds_text(seconds * left / jobs)}')
@@ -107,6 +110,8 @@ def answer(sweep: Sweep, end: End, found: Found) -> str:
     if found.value is not None:
         return f'{place.text} {found.value}: the {end.value} of {numbers[0]} to {numbers[-1]} under which nothing{whom} is found'
     line = f'{place.text}: under none of {numbers[0]} to {numbers[-1]} nothing{whom} is found'
+    if found.unjudged:
+        line += f'; under {len(found.unjudged)} of {len(numbers)} no deadline{whom} is judged, the first {found.unjudged[0]}'
     if found.refused:
         line += f'; {len(found.refused)} of {len(numbers)} are refused, the first {found.refused[0][0]}: {found.refused[0][1]}'
     return line

@@ -5,7 +5,7 @@ sweep SYSTEM --set PLACE=VALUES .. --horizon N --emit DIR; sweep --run FILE ..; 
 
 Runs a system with each combination of settings, and writes one CSV: the settings, the exit code of mcscheck and its fault, what was missed, lost,
 overdue and never activated, with chains also what was slow and unanswered, and the greatest response of each thread with a deadline, empty where it ended no round. A combination that is refused is
-a line with the exit code 1 and the fault. A run that fails in another way ends the sweep: it is no answer about the system.
+a line with the exit code 1 and the fault; one with the exit code 6 judged no deadline, so it says nothing. A run that fails in another way ends the sweep: it is no answer about the system.
 
 A PLACE is context.NAME.KEY, thread.NAME.KEY, note.NAME.KEY, thread.NAME.script.K (the number of item K, from 1), order.K.KEY (the K-th order),
 link.MAKER-HOME.delay, or delay, call or min_budget, and in version 3 server.NAME.KEY, server.NAME.script.K, source.NAME.KEY, source.NAME.at.K (number K of its list) and chain.NAME.KEY. VALUES are
@@ -13,8 +13,8 @@ A:B:STEP with B in it, A:B, or a list with commas. --of looks at these threads a
 waits and at chains that end with it, and at what is slow or unanswered of a chain. If both have a name, it means both. A sweep with -o that was interrupted goes on where it was, by the same words and the same programs:
 what is done stands in FILE.csv.part.
 
---least tells the least value of a range under which nothing is found, and --greatest the greatest. Each value is tried, from that end on, since more is
-not always better. The exit code is 5 if there is none.
+--least tells the least value of a range under which a deadline is judged and nothing is found, and --greatest the greatest. Each value is tried, from that
+end on, since more is not always better. The exit code is 5 if there is none.
 
 On many machines: --emit writes a file for each combination, their names in DIR/jobs, and sweep.pyz, which is all of this tool. An engine runs
 `python3 sweep.pyz --run FILE ..` where DIR is seen or copied, which leaves each result beside its file, and --collect makes the CSV of them."""

@@ -1,5 +1,6 @@
 """tasks TASKS.csv [-o FILE] [--analyse]
 tasks --random N --utilisation U --seed S [-o FILE] [--analyse]
+tasks --handlers SYSTEM [--horizon N] [--format csv|text|json]
 
 Makes a system's file for mcsim of a list of periodic tasks: a CSV whose first line names its columns, `name`, `work` and `period`, and, if they are
 wanted, `deadline` (default: the period), `offset` (0), `priority` (the maximum runs first) and `core` (0). Times are ticks. If no task has a priority,
@@ -12,7 +13,11 @@ work. With --clocks each waits for a timer of its own, a source, as on a board; 
 maximum response seen, counted from its release, and their ratio. A job that had not ended at the horizon counts with its age. Without --horizon the
 run is as long as the answer needs: one busy period if all tasks of a core begin together, else until the schedule repeats.
 
---random makes a list by UUniFast; the same options give the same list, and --list writes it as CSV."""
+--random makes a list by UUniFast; the same options give the same list, and --list writes it as CSV.
+
+--handlers reads a system's file instead, of version 3, and writes a row for each source: the bound on the time from its interrupt to the end of the job that
+handles it, with what other threads, servers and earlier jobs delay, and the maximum that a run shows. A row for each chain has the same of its latency. If
+the analysis does not hold, the last column says why, and there is no bound."""
 from __future__ import annotations
 
 import argparse
@@ -25,7 +30,7 @@ from collections.abc import Callable, Iterable, Sequence
 from dataclasses import dataclass, replace
 from typing import Any, Optional
 
-from . import analysis, digits, named, options, output, source, system, writing
+from . import analysis, digits, handling, named, options, output, source, system, writing
 from .analysis import Demand, Effort, TooLong
 from .faults import Fault
 from .options import Options
@@ -318,8 +323,8 @@ def analysed(form: Form, bounds: Sequence[Optional[int]], found: dict[str, int])
     rows: list[list[object]] = []
     for task, most in zip(form.tasks, bounds):
         greatest = found[task.name]
-        ratio = 'none' if most is None else f'{greatest / most:.3f}'
-        rows.append([task.name, task.core, task.priority, task.work, task.period, task.deadline, 'none' if most is None else most, greatest, ratio])
+        ratio = None if most is None else greatest / most
+        rows.append([task.name, task.core, task.priority, task.work, task.period, task.deadline, most, greatest, ratio])
     return rows
 
 
@@ -365,7 +370,19 @@ def tasks_of(asked: argparse.Namespace) -> list[Task]:
     return with_priorities(random_tasks(asked.random, asked.utilisation, asked.seed, asked.periods), asked.priorities)
 
 
-def main() -> None:
+def handlers(asked: argparse.Namespace) -> int:
+    """Writes the analysis of a system's handlers. The exit code is 1 if a run shows more than a bound."""
+    others = {'--random': asked.random, 'TASKS.csv': asked.tasks, '--clocks': asked.clocks, '--list': asked.list, '--priorities': asked.priorities, '-o': asked.output}
+    if given := [name for name, value in others.items() if value]:
+        raise Fault(f'--handlers analyses a system, and takes no {given[0]}')
+    found = handling.found_of(asked.program, asked.handlers, asked.horizon)
+    output.write(None, handling.table_of(found, asked.format))
+    if defects := found.defects():
+        raise Fault(defects[0], 1)
+    return 0
+
+
+def main() -> Optional[int]:
     words = Options(__doc__)
     words.reads('tasks', nargs='?', metavar='TASKS.csv', help='the list of tasks')
     words.add_argument('--priorities', choices=('given', 'rate', 'deadline'), help='those of the list, or by the shortest period or deadline')
@@ -376,20 +393,25 @@ def main() -> None:
     words.add_argument('--periods', type=periods, default=(10, 1000), metavar='A:B', help='their periods (default: 10:1000)')
     words.add_argument('--list', action='store_true', help='writes the list of tasks, and no system')
     words.add_argument('--analyse', action='store_true', help='writes the analysis beside what is seen; the system goes to -o FILE alone')
-    words.add_argument('-n', '--horizon', type=source.moment, metavar='N', help='the last moment of the run of --analyse')
+    words.reads('--handlers', metavar='SYSTEM', help='analyses the handlers of interrupts of a system, - for standard input')
+    words.add_argument('--format', choices=handling.FORMATS, default='csv', help='of the analysis: csv, aligned text, or a JSON object in each line')
+    words.add_argument('-n', '--horizon', type=source.moment, metavar='N', help='the last moment of the run of --analyse and --handlers')
     words.add_argument('--program', default=source.default_program(), metavar='PATH', help='the program to run (default: %(default)s)')
     words.writes('-o', '--output', metavar='FILE', help='where the system goes (default: standard output)')
     asked = words.asked()
+    if asked.handlers:
+        return handlers(asked)
     if asked.analyse and (asked.list or asked.output == output.STANDARD):
         raise Fault('--list and --analyse write to the same place' if asked.list else '-o - and --analyse write to the same place')
     tasks = tasks_of(asked)
     if asked.list:
-        return output.write(asked.output, list_text(tasks))
+        output.write(asked.output, list_text(tasks))
+        return None
     form = Form(tasks, asked.clocks)
     rows = analysis_of(form, asked.program, asked.horizon) if asked.analyse else []
-    comments = {('thread', place): [f'response at most {row[6]}, seen {row[7]}'] for place, row in enumerate(rows)}
+    comments = {('thread', place): [f'response at most {handling.shown(row[6])}, seen {row[7]}'] for place, row in enumerate(rows)}
     if asked.output or not asked.analyse:
         output.write(asked.output, writing.system_text(form.tables(), [f'{len(tasks)} periodic tasks.'], comments))
     if asked.analyse:
-        with output.written(None) as out:
-            csv.writer(out, lineterminator='\n').writerows([ANALYSED, *rows])
+        output.write(None, handling.table(asked.format, ANALYSED, rows))
+    return None

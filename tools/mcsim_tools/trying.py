@@ -6,7 +6,7 @@ import contextlib
 import json
 import subprocess
 from collections.abc import Callable, Iterator, Sequence
-from dataclasses import dataclass
+from dataclasses import dataclass, replace
 from typing import Any, NamedTuple, Optional
 
 from . import identity, verdict, writing
@@ -16,10 +16,12 @@ from .journal import Journal
 from .printable import printable
 from .searching import Progress
 from .settings import Tables
-from .verdict import FOUND, NOTHING, REFUSED, Result
+from .verdict import ANSWERS, NOTHING, REFUSED, Result
 from .workers import Queue, Worker
 
 OPEN = 'open'
+# from when to when something was
+Span = tuple[int, int]
 
 
 @dataclass(frozen=True)
@@ -55,8 +57,13 @@ class Case(NamedTuple):
     which mcscheck shows why, if it does."""
 
     said: str
-    span: Optional[tuple[int, int]] = None
+    span: Optional[Span] = None
     asked: Optional[str] = ''
+
+
+def longest(spans: Sequence[Span]) -> Optional[Span]:
+    """The longest span, the earlier one of two alike; None if there is none."""
+    return max(spans, key=lambda span: (span[1] - span[0], -span[0])) if spans else None
 
 
 def lines_of(program: str, text: bytes, asked: Sequence[str]) -> tuple[int, list[str], str]:
@@ -66,7 +73,7 @@ def lines_of(program: str, text: bytes, asked: Sequence[str]) -> tuple[int, list
     except OSError as error:
         raise why(program, error) from None
     said = ended.stderr.decode(errors='replace')
-    if ended.returncode not in (NOTHING, REFUSED, FOUND):
+    if ended.returncode not in ANSWERS:
         raise verdict.failure(program, ended.returncode, said)
     fault = printable(first_line(said).removeprefix('mcscheck: ').removeprefix('mcsim: '), verdict.LONGEST_FAULT)
     return ended.returncode, ended.stdout.decode(errors='replace').splitlines(), fault
@@ -92,6 +99,10 @@ class Question(abc.ABC):
     @abc.abstractmethod
     def case(self, tables: Tables, seen: Seen) -> Case:
         """What has the value that was seen."""
+
+    @abc.abstractmethod
+    def span(self, tables: Tables) -> Optional[Span]:
+        """From when to when the worst value of a run was, or to the horizon; None without one."""
 
     @abc.abstractmethod
     def nothing(self) -> str:
@@ -132,8 +143,7 @@ class Responses(Question):
         return lines_of(self.checker, text, ['--horizon', str(self.horizon), *asked])
 
     def seen(self, tables: Tables) -> Seen:
-        allowed = [f'--allow-lost={row["name"]}' for row in tables.get('note', [])]
-        status, lines, fault = self.run(self.text(tables), ['--show', 'both', '--format', 'json', *allowed])
+        status, lines, fault = self.found(tables)
         if status == REFUSED:
             return Seen(fault=fault or 'it is refused')
         row = self.row_of(lines, 'thread')
@@ -146,11 +156,24 @@ class Responses(Question):
             return Seen(age, is_open=True)
         return Seen(ended)
 
+    def found(self, tables: Tables) -> tuple[int, list[str], str]:
+        """What mcscheck finds, and its figures."""
+        allowed = [f'--allow-lost={row["name"]}' for row in tables.get('note', [])]
+        return self.run(self.text(tables), ['--show', 'both', '--format', 'json', *allowed])
+
+    def rows_of(self, lines: Sequence[str], kind: str) -> Iterator[dict[str, Any]]:
+        """The lines of a kind that are of the thread, the last first."""
+        wanted = f'"kind":"{kind}","thread":"{self.name}"'
+        return (json.loads(line) for line in reversed(lines) if wanted in line)
+
     def row_of(self, lines: Sequence[str], kind: str) -> Optional[dict[str, Any]]:
         """The line of a kind that is of the thread."""
-        wanted = f'"kind":"{kind}","thread":"{self.name}"'
-        found = next((line for line in reversed(lines) if wanted in line), None)
-        return json.loads(found) if found else None
+        return next(self.rows_of(lines, kind), None)
+
+    def span(self, tables: Tables) -> Optional[Span]:
+        _, lines, _ = replace(self, least=1).found(tables)
+        spans = [(int(row['activated']), int(row['moment'])) for kind in ('miss', 'overdue') for row in self.rows_of(lines, kind)]
+        return longest(spans)
 
     def case(self, tables: Tables, seen: Seen) -> Case:
         """The first job of the thread with this response, as mcscheck confirms it."""

@@ -23,12 +23,14 @@ KINDS = ('missed', 'lost', 'overdue', 'never')
 OF_CHAINS = ('slow', 'unanswered')
 # the word of a finding, and what it counts as
 COUNTED = {'miss': 'missed', **dict(zip(KINDS[1:], KINDS[1:])), **dict(zip(OF_CHAINS, OF_CHAINS))}
-# exit codes of mcscheck that are answers: nothing found, the system is refused, something found
-NOTHING, REFUSED, FOUND = 0, 1, 5
+# exit codes of mcscheck that are answers: nothing found, the system is refused, something found, nothing found since nothing was judged
+NOTHING, REFUSED, FOUND, UNJUDGED = ANSWERS = 0, 1, 5, 6
 # exit codes of mcscheck that are none: its options, reading or writing, memory
 FAILED = (2, 3, 4)
 # the line of counts
 LAST = 'missed '
+# what the figures of a thread and of a chain call what ended
+ENDED = {'thread': 'rounds', 'chain': 'answers'}
 LONGEST_FAULT = 300
 
 
@@ -67,7 +69,7 @@ class Result:
     @classmethod
     def of(cls, told: object) -> Result:
         """Returns the result that was kept in this form, or raises a ValueError."""
-        if not isinstance(told, dict) or told.get('status') not in (NOTHING, REFUSED, FOUND) or not isinstance(told.get('fault'), str):
+        if not isinstance(told, dict) or told.get('status') not in ANSWERS or not isinstance(told.get('fault'), str):
             raise ValueError
         parts = (told.get('counts'), told.get('greatest'))
         if not all(isinstance(part, dict) and all(type(number) is int for number in part.values()) for part in parts):
@@ -115,15 +117,15 @@ class Programs:
         """What the two programs are."""
         return {'mcsim': identity.digest(self.program), 'mcscheck': identity.digest(self.checker)}
 
-    def check(self, text: bytes, horizon: int) -> tuple[int, list[str], str]:
+    def check(self, text: bytes, horizon: int, show: str = 'findings') -> tuple[int, list[str], str]:
         """The exit code of mcscheck, which is an answer, its lines, and what it says on standard error."""
         try:
-            asked = [self.checker, '--horizon', str(horizon), '--show', 'findings']
+            asked = [self.checker, '--horizon', str(horizon), '--show', show]
             ended = subprocess.run(asked, input=text, capture_output=True, check=False)
         except OSError as error:
             raise why(self.checker, error) from None
         said = ended.stderr.decode(errors='replace')
-        if ended.returncode not in (NOTHING, REFUSED, FOUND):
+        if ended.returncode not in ANSWERS:
             raise failure(self.checker, ended.returncode, said)
         lines = ended.stdout.decode(errors='replace').splitlines()
         if ended.returncode == REFUSED:
@@ -144,7 +146,8 @@ class Programs:
 
     def result(self, text: bytes, horizon: int, of: Sequence[str], wants_responses: bool = True) -> Result:
         """What is found, of all or of some threads and chains."""
-        status, lines, said = self.check(text, horizon)
+        # the figures of threads say whether a job of one of them was judged
+        status, lines, said = self.check(text, horizon, 'both' if of else 'findings')
         if status == REFUSED:
             return Result(status, printable(first_line(said).removeprefix('mcscheck: '), LONGEST_FAULT))
         system = systems.system_of(tables.read(text))
@@ -153,7 +156,29 @@ class Programs:
         if unread is not None and not all(kind in counts for kind in OF_CHAINS):
             raise Fault(f'--of {unread}: {self.checker} reports nothing of chains: take a later one')
         greatest = self.greatest(text, system, horizon) if wants_responses else {}
-        return Result(FOUND if any(counts.values()) else NOTHING, '', counts, greatest)
+        return Result(status_of(status, counts, not of or is_judged(lines, system, of)), '', counts, greatest)
+
+
+def status_of(status: int, counts: Mapping[str, int], is_judged: bool) -> int:
+    """The exit code for what was looked at, of a run with this one."""
+    if any(counts.values()):
+        return FOUND
+    return NOTHING if is_judged and status != UNJUDGED else UNJUDGED
+
+
+def chains_of(system: System, of: Collection[str]) -> set[str]:
+    """The chains that are looked at if some threads and chains are named: a thread has those that end with it."""
+    return {name for name, chain in system.chains.items() if name in of or chain.thread in of and chain.thread in system.threads}
+
+
+def is_judged(lines: Sequence[str], system: System, of: Collection[str]) -> bool:
+    """Whether a job or an answer of what is named ended that has a deadline."""
+    named_ones = {'thread': set(of), 'chain': chains_of(system, of)}
+    for kind, name, *words in (line.split() for line in lines if line.startswith(tuple(ENDED))):
+        values = dict(zip(words[::2], words[1::2]))
+        if name in named_ones[kind] and values['deadline'] != '-' and values[ENDED[kind]] != '0':
+            return True
+    return False
 
 
 def kinds_of(system: System) -> tuple[str, ...]:
@@ -166,7 +191,7 @@ def counted(lines: Sequence[str], system: System, of: Collection[str]) -> dict[s
     and the chains that end with it."""
     threads = [name for name in of if name in system.threads]
     notes = {note for name in threads for note in system.threads[name].waits}
-    chains = {name for name, chain in system.chains.items() if name in of or chain.thread in threads}
+    chains = chains_of(system, of)
     wanted = {'lost': notes, **dict.fromkeys(OF_CHAINS, chains)}
     counts: collections.Counter[str] = collections.Counter()
     for line in lines:

@@ -4,10 +4,11 @@ worst SYSTEM --of THREAD|CHAIN --phases [--times PERCENT] --horizon N
 
 Searches for the worst response time of a thread, or the worst latency of a chain, over what you
 leave open in a system: offsets and phases, execution times, bursts and jitter of interrupts. The
-search begins with the critical instant and the ends of all ranges, then tries random points, and
-then changes one value or a few of the best points. It reports the worst value found, what gives it,
-and the command that shows why; -o writes the system with these values. The value is that of a run:
-the worst case is this or more. Only --all covers every combination, and then none up to N is more.
+search begins with the critical instant and the ends of all ranges. Then it climbs several times,
+from random points: it changes one value or a few of the best ones, or puts an interrupt where
+something happens in the worst job. It reports the worst value found, what gives it, and the command
+that shows why; -o writes the system with these values. The value is that of a run: the worst case
+is this or more. Only --all covers every combination, and then none up to N is more.
 
 The latency of a chain is the greatest of an answer: from an interrupt of its source to the end of
 the first job that answers it. An interrupt without an answer at N counts with its age, if that is
@@ -35,10 +36,11 @@ from collections.abc import Iterator
 from dataclasses import dataclass, replace
 from typing import Any, Optional
 
-from . import bounding, climbing, frame, options, output, ranges, source, system, workers
+from . import bounding, climbing, frame, guiding, options, output, ranges, source, system, workers
 from .bounding import NoBound
 from .climbing import Climb, Point
 from .faults import Fault
+from .guiding import Guide
 from .journal import Journal
 from .latency import Latencies
 from .options import Options
@@ -47,13 +49,16 @@ from .settings import Tables
 from .trying import Case, Question, Responses, Seeking, Seen, Trials, program_of, team
 from .verdict import FOUND, Programs
 
-RUNS = 500
+RUNS = 2000
 MOST_RUNS = 10**6
 
 
-def climb(space: Space, runs: int, seed: int) -> Climb:
+def climb(space: Space, runs: int, seed: int, guide: Optional[Guide]) -> Climb:
     """The search through a space."""
-    return Climb(space.sizes, space.corners(), runs, seed, space.longest())
+    search = Climb(space.sizes, space.corners(), runs, seed, space.longest())
+    search.join(space.places())
+    search.guide = guide.step if guide and guide.starts else None
+    return search
 
 
 class Reached(Exception):
@@ -72,6 +77,8 @@ class Search:
     runs: int
     seed: int
     is_all: bool
+    # mcsim, which shows the rows of a run
+    program: str
 
     @property
     def is_whole(self) -> bool:
@@ -86,7 +93,8 @@ class Search:
     def batches(self) -> climbing.Batches:
         if self.is_whole:
             return climbing.exhaust(self.space.all())
-        return climb(self.space, self.runs, self.seed).run()
+        guide = Guide(self.space, self.question.horizon, guiding.runs_of(self.space, self.question, self.program))
+        return climb(self.space, self.runs, self.seed, guide).run()
 
     def seen(self, point: Point) -> Seen:
         return self.question.seen(self.space.tables_of(point))
@@ -281,7 +289,7 @@ def search_of(words: argparse.Namespace, text: bytes, programs: Programs) -> Sea
         bound, why = bound_of(space, words.of)
     else:
         bound, why = None, f'{question.name} is a chain'
-    return Search(space, question, base, bound, why, words.runs, words.seed, words.all)
+    return Search(space, question, base, bound, why, words.runs, words.seed, words.all, program_of(programs.program))
 
 
 @contextlib.contextmanager

@@ -14,30 +14,21 @@ from typing import Any, Optional
 
 from worked import TOOLS
 from mcsim_tools import colours, concluding, pretty, scale
-from mcsim_tools import system as systems
-from mcsim_tools.concluding import Asked
 from mcsim_tools.tabling import Look, Table
 
 MISS = {'moment': 11, 'core': 0, 'kind': 'miss', 'thread': 'Loop', 'number': 1, 'response': 9, 'deadline': 5}
 LOST = {'moment': 20, 'core': 0, 'kind': 'lost', 'note': 'tick', 'word': 1}
-NOTHING = {'kind': 'counts', 'missed': 0, 'overdue': 0, 'lost': 0, 'never': 0, 'merged': 0, 'allowed': 0, 'hints': 0}
+# 12 jobs of one of three threads end in time
+NOTHING = {
+    'kind': 'counts', 'missed': 0, 'overdue': 0, 'lost': 0, 'never': 0, 'merged': 0, 'allowed': 0, 'unjudged': 0, 'hints': 0, 'threads': 3, 'deadlines': 1,
+    'judged': 12,
+}
+SETS = {'kind': 'sets', 'sets': 3, 'repeating': 3, 'findings': 0, 'threads': 3, 'deadlines': 2}
 WHY = [
     {'moment': 4, 'core': 1, 'kind': 'arrive', 'note': 'tick', 'badge': 1, 'from': 2}, {'moment': 15, 'core': 1, 'kind': 'run', 'thread': 'B'},
     {'kind': 'why', 'thread': 'B', 'number': 2, 'from': 4, 'to': 24, 'waited': 0, 'activated': 4, 'begun': 4, 'ended': 24},
     {'kind': 'ran', 'thread': 'A', 'ticks': 3}, {'kind': 'ran', 'thread': 'B', 'ticks': 7}, {'kind': 'ran', 'thread': 'C', 'ticks': 4}, {'kind': 'idle', 'ticks': 6},
 ]
-# two threads on cores 1 and 3 of four; a context on core 2 without one
-FOUR = '''
-version = 1
-cores = 4
-delay = 1
-context = [
-  { name = "a", core = 1, budget = 2, period = 5 }, { name = "b", core = 2, budget = 2, period = 5 }, { name = "c", core = 3, budget = 2, period = 5 },
-]
-thread = [
-  { name = "A", context = "a", priority = 5, script = ["compute 5"] }, { name = "C", context = "c", priority = 5, script = ["compute 5"] },
-]
-'''
 MS = scale.Unit(Decimal('0.5'), 'ms')
 RED, END = '\x1b[1;31m', '\x1b[0m'
 
@@ -50,20 +41,20 @@ def counts(**found: int) -> dict[str, Any]:
     return {**NOTHING, **found}
 
 
-def sentence(*lines: dict[str, Any], asked: Asked = Asked(), status: Optional[int] = None, unit: scale.Unit = scale.TICKS) -> str:
+def sentence(*lines: dict[str, Any], horizon: Optional[int] = None, status: Optional[int] = None, unit: scale.Unit = scale.TICKS) -> str:
     verdict = pretty.Verdict(False)
     for line in lines:
         verdict.add(line)
-    found = concluding.conclusion(verdict.facts, asked, status if status is not None else 5 if any(verdict.facts.findings()) else 0, unit)
+    found = concluding.conclusion(verdict.facts, horizon, status if status is not None else verdict.facts.status(), unit)
     assert found is not None
     return found.text
 
 
-def shown(*lines: dict[str, Any], width: int = 80, rows: bool = False, is_why: bool = False, asked: Asked = Asked(), status: int = 0) -> list[str]:
+def shown(*lines: dict[str, Any], width: int = 80, rows: bool = False, is_why: bool = False, status: int = 0) -> list[str]:
     verdict = pretty.Verdict(rows, is_why)
     verdict.read(json.dumps(line) + '\n' for line in lines)
     out = io.StringIO()
-    pretty.show(verdict, pretty.View(Look(width), out), asked, status)
+    pretty.show(verdict, pretty.View(Look(width), out), None, status)
     return out.getvalue().splitlines()
 
 
@@ -135,13 +126,13 @@ class Tables(unittest.TestCase):
 class Sentences(unittest.TestCase):
     def test_threads_that_miss(self) -> None:
         other = {**MISS, 'thread': 'Late', 'moment': 40}
-        self.assertEqual(sentence(MISS, counts(missed=1)), '1 thread misses its deadline; first: Loop, round 1, at 11')
-        self.assertEqual(sentence(MISS, MISS, counts(missed=2), asked=Asked(threads=9)), '1 of 9 threads misses its deadline; first: Loop, round 1, at 11')
-        found = sentence(MISS, other, LOST, counts(missed=2, lost=1, hints=2, merged=7), asked=Asked(threads=9))
+        self.assertEqual(sentence(MISS, counts(missed=1, threads=1)), '1 of 1 thread misses its deadline; first: Loop, round 1, at 11')
+        self.assertEqual(sentence(MISS, MISS, counts(missed=2)), '1 of 3 threads misses its deadline; first: Loop, round 1, at 11')
+        found = sentence(MISS, other, LOST, counts(missed=2, lost=1, hints=2, merged=7, threads=9))
         self.assertEqual(found, '2 of 9 threads miss their deadline; first: Loop, round 1, at 11; also 1 signal lost, 2 hints')
 
     def test_times_are_in_the_unit(self) -> None:
-        self.assertEqual(sentence(MISS, counts(missed=1), unit=MS), '1 thread misses its deadline; first: Loop, round 1, at 5.5 ms')
+        self.assertEqual(sentence(MISS, counts(missed=1), unit=MS), '1 of 3 threads misses its deadline; first: Loop, round 1, at 5.5 ms')
 
     def test_other_findings(self) -> None:
         self.assertEqual(sentence(LOST, LOST, counts(lost=2)), 'No deadline is missed, but there is: 2 signals lost; first: lost, tick, at 20')
@@ -155,27 +146,46 @@ class Sentences(unittest.TestCase):
 
     def test_hints_alone(self) -> None:
         hint = {'kind': 'hint', 'hint': 'unbound', 'context': 'spare'}
-        self.assertEqual(sentence(hint, counts(hints=1), asked=Asked(30, 3, 2)), 'All deadlines are met up to 30; 1 hint')
-        self.assertEqual(sentence(hint, counts(hints=1), asked=Asked(30, 3, 2), status=5), 'No deadline is missed, but there is: 1 hint')
+        self.assertEqual(sentence(hint, counts(hints=1, deadlines=2), horizon=30), 'All deadlines are met up to 30; 1 hint')
+        self.assertEqual(sentence(hint, counts(hints=1), horizon=30, status=5), 'No deadline is missed, but there is: 1 hint')
+
+    def test_unjudged_threads_alone(self) -> None:
+        young = {'moment': 30, 'core': 0, 'kind': 'unjudged', 'thread': 'D', 'deadline': 5, 'activated': 28}
+        self.assertEqual(sentence(young, counts(unjudged=1, deadlines=2), horizon=30), 'All deadlines are met up to 30; 1 thread unjudged')
+        self.assertEqual(sentence(young, counts(unjudged=1, deadlines=2), status=5), 'No deadline is missed, but there is: 1 thread unjudged')
+        found = sentence(young, counts(unjudged=2, judged=0), horizon=30)
+        self.assertEqual(found, 'No deadline is judged up to 30: nothing with a deadline has ended or is overdue; 2 threads unjudged')
 
     def test_nothing(self) -> None:
-        self.assertEqual(sentence(NOTHING, asked=Asked(30, 3, 1)), 'The deadline is met up to 30')
-        self.assertEqual(sentence(NOTHING, asked=Asked(30, 3, 0), unit=MS), 'Nothing is found up to 15 ms: no thread and no chain has a deadline')
-        chain = {'kind': 'chain', 'chain': 'e', 'greatest': 7, 'deadline': 8}
-        self.assertEqual(sentence({'kind': 'thread', 'thread': 'A'}, chain, counts()), 'The deadline is met')
-        self.assertEqual(sentence(NOTHING), 'All deadlines are met')
+        self.assertEqual(sentence(NOTHING, horizon=30), 'The deadline is met up to 30')
+        self.assertEqual(sentence(counts(deadlines=2)), 'All deadlines are met')
+        found = sentence(counts(deadlines=0, judged=0, hints=1), horizon=30, unit=MS)
+        self.assertEqual(found, 'No deadline is judged up to 15 ms: no thread and no chain has a deadline; 1 hint')
+        self.assertEqual(sentence(counts(threads=0, deadlines=0, judged=0)), 'No deadline is judged: the system has no thread')
+
+    def test_exit_codes_by_the_last_line(self) -> None:
+        def status(line: dict[str, Any]) -> int:
+            verdict = pretty.Verdict(False)
+            verdict.add(line)
+            return verdict.facts.status()
+
+        for line, code in (
+            (NOTHING, 0), (counts(hints=1, unjudged=1, merged=1, allowed=1), 0), (counts(judged=0), 6), (counts(lost=1, judged=0), 5), (counts(unanswered=1), 5),
+            (SETS, 0), ({**SETS, 'repeating': 2}, 6), ({**SETS, 'deadlines': 0}, 6), ({**SETS, 'findings': 1, 'repeating': 2}, 5),
+        ):
+            self.assertEqual(status(line), code, line)
 
     def test_a_verdict_that_is_cut_off_has_none(self) -> None:
-        self.assertIsNone(concluding.conclusion(concluding.Facts(), Asked(), 0, scale.TICKS))
+        self.assertIsNone(concluding.conclusion(concluding.Facts(), None, 0, scale.TICKS))
         self.assertEqual(shown(MISS, status=4)[-1], '    11     0  Loop         1         9         5')
 
     def test_all_time(self) -> None:
-        sets = {'kind': 'sets', 'sets': 3, 'repeating': 3, 'findings': 0}
-        self.assertEqual(sentence(sets), 'For ever no deadline is missed, and no signal is lost unless that is allowed; 3 of 3 sets of cores repeat')
-        found = sentence({**sets, 'repeating': 1}, status=6)
+        self.assertEqual(sentence(SETS), 'For ever no deadline is missed, and no signal is lost unless that is allowed; 3 of 3 sets of cores repeat')
+        found = sentence({**SETS, 'repeating': 1})
         self.assertEqual(found, 'Nothing is found so far, and nothing is known of later times: 1 of 3 sets of cores repeats')
+        self.assertEqual(sentence({**SETS, 'deadlines': 0}), 'No deadline is judged: no thread has a deadline; 3 of 3 sets of cores repeat')
         miss = {'kind': 'miss', 'thread': 'Loop', 'each_period': 9, 'before': 12}
-        found = sentence(miss, {**sets, 'findings': 1}, asked=Asked(threads=3))
+        found = sentence(miss, {**SETS, 'findings': 1})
         self.assertEqual(found, '1 of 3 threads misses its deadline; first: Loop, 9 each period, 12 before; 3 of 3 sets of cores repeat')
 
 
@@ -187,7 +197,7 @@ class Shown(unittest.TestCase):
 
     def test_kinds_come_in_their_order_each_with_its_number(self) -> None:
         found = shown(MISS, LOST, {**MISS, 'moment': 13, 'number': 2}, counts(missed=2, lost=1), status=5)
-        self.assertEqual([line for line in found if line.split('(')[0].strip() in ('miss', 'lost', 'counts')], ['miss (2)', 'lost', 'counts'])
+        self.assertEqual([line for line in found if line.split(' (')[0] in ('miss', 'lost', 'counts')], ['miss (2)', 'lost', 'counts'])
 
     def test_many_rows_are_cut_and_counted(self) -> None:
         many = [{**MISS, 'moment': moment} for moment in range(250)]
@@ -215,17 +225,18 @@ class Shown(unittest.TestCase):
 
     def test_sets_of_cores_head_their_lines(self) -> None:
         sets = [{'kind': 'repeats', 'cores': '0 1', 'from': 170, 'period': 120}, {'kind': 'thread', 'thread': 'A', 'greatest': 24}]
-        found = shown(*sets, {**sets[0], 'cores': '2'}, sets[1], {'kind': 'sets', 'sets': 2, 'repeating': 2, 'findings': 0})
+        found = shown(*sets, {**sets[0], 'cores': '2'}, sets[1], SETS)
         self.assertEqual([line for line in found if line.startswith('repeats')], ['repeats  cores 0 1  from 170  period 120', 'repeats  cores 2  from 170  period 120'])
         self.assertEqual(found.count('thread  greatest'), 2)
 
     def test_hints_say_what_they_mean(self) -> None:
         found = shown({'kind': 'hint', 'hint': 'unbound', 'context': 'spare'}, counts(hints=1))
         self.assertEqual(found[1:3], ['hint     context  meaning', 'unbound  spare    no thread is bound to it'])
+        found = shown({'kind': 'hint', 'hint': 'no_deadline'}, {'kind': 'hint', 'hint': 'unused', 'core': 2}, counts(hints=2))
+        self.assertEqual(found[1:4], ['hint         core  meaning', 'no_deadline     -  no deadline can be judged', 'unused          2  no thread runs on it'])
 
-    def test_cores_that_no_thread_uses(self) -> None:
-        found = pretty.hints_of(systems.parse(pathlib.Path('system'), FOUR.encode()))
-        self.assertEqual([hint['core'] for hint in found], [0, 2])
+    def test_doubts_are_coloured_as_doubts(self) -> None:
+        self.assertEqual([concluding.severity(kind) for kind in ('miss', 'hint', 'unjudged', 'counts')], [colours.WRONG, colours.DOUBTFUL, colours.DOUBTFUL, ''])
 
 
 class Colours(unittest.TestCase):
@@ -268,36 +279,18 @@ class Tool(unittest.TestCase):
             self.assertEqual(found.stdout.endswith('; first: Loop, round 1, at 11\n'), status in (0, 5, 6))
         self.assertEqual((self.folder / 'program-5.words').read_text(), '--format json a.toml --horizon 20\n')
 
-    def test_the_file_of_the_system_says_how_many_threads_it_has(self) -> None:
-        system = self.folder / 'system.toml'
-        system.write_text(FOUR)
-        found = self.ran('--system', system, '--run', self.program(5), system).stdout
-        self.assertIn('1 of 2 threads misses its deadline; first: Loop, round 1, at 11; also 2 hints\n', found)
-        self.assertIn('\nunused     0  no thread runs on it\nunused     2  no thread runs on it\n', found)
-        for option in ('--why', '--forever', '--show=table'):
-            self.assertNotIn('unused', self.ran('--system', system, '--run', self.program(5), system, option).stdout)
-
     def test_output_that_is_not_written_is_told_as_the_program_tells_it(self) -> None:
         with open('/dev/full', 'wb') as full:
             command = [sys.executable, TOOLS / 'pretty', '--run', self.program(5)]
             found = subprocess.run(command, stdout=full, stderr=subprocess.PIPE, text=True)
         self.assertEqual((found.returncode, found.stderr), (3, 'to a person\nprogram-5: write failed\n'))
 
-    def test_a_file_that_is_no_system_adds_nothing(self) -> None:
-        system = self.folder / 'system.toml'
-        for text in ('', 'cores = 2\nthread = 5\n', 'not TOML', 'version = 1\ncores = "many"\n'):
-            system.write_text(text)
-            for status in (1, 5):
-                found = self.ran('--system', system, '--run', self.program(status), system)
-                self.assertEqual((found.returncode, found.stderr), (status, 'to a person\n'))
-                self.assertNotIn('hint', found.stdout.replace('hints', ''))
-
     def test_lines_of_a_file_and_of_standard_input(self) -> None:
         file = self.folder / 'lines.json'
         file.write_text(LINES)
         for found in (self.ran(file), self.ran(input=LINES), self.ran('-', input=LINES)):
             self.assertEqual((found.returncode, found.stderr), (0, ''))
-            self.assertTrue(found.stdout.endswith('1 thread misses its deadline; first: Loop, round 1, at 11\n'), found.stdout)
+            self.assertTrue(found.stdout.endswith('1 of 3 threads misses its deadline; first: Loop, round 1, at 11\n'), found.stdout)
 
     def test_colours_and_units(self) -> None:
         coloured = self.ran('--color', 'always', input=LINES).stdout

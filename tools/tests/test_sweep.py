@@ -54,19 +54,24 @@ CHAINED = ['12 0 slow e 9 deadline 8 origin 3', '22 0 slow e 9 deadline 8 origin
 MISS = '11 0 miss A 1 11 deadline 10 activated 0 queued 0 ready 0 running 5 throttled 6 blocked 0 woken 0'
 LOST = '12 0 lost n 1'
 OTHER = '20 1 overdue B deadline 5 activated 0 queued 0 ready 20 running 0 throttled 0 blocked 0 woken 0'
-COUNTS = 'missed 0 overdue 0 lost 0 never 0 merged 0 allowed 0 hints 1'
+COUNTS = 'missed 0 overdue 0 lost 0 never 0 merged 0 allowed 0 unjudged 0 hints 1 threads 2 deadlines 1 judged 1'
+NOTHING_JUDGED = COUNTS.replace('judged 1', 'judged 0')
+# A ended a job and has a deadline, B ended three and has none
+FIGURES = ['thread A core 0 rounds 1 greatest 7 deadline 10', 'thread B core 1 rounds 3 greatest 5 deadline -']
 HINT = 'hint note n is waited on and no script signals it'
 # a hint, also one that has the name of a notification, is no finding
-CLEAN: tuple[int, list[str], str] = (0, [HINT, COUNTS], '')
+CLEAN: tuple[int, list[str], str] = (0, [HINT, *FIGURES, COUNTS], '')
 # by the budget of a: what mcscheck answers
 ANSWERS: dict[int, tuple[int, list[str], str]] = {
-    1: (5, [MISS, LOST, LOST, COUNTS], ''),
-    2: (5, [MISS, OTHER, COUNTS], ''),
-    3: (5, [OTHER, COUNTS], ''),
+    1: (5, [MISS, LOST, LOST, *FIGURES, COUNTS], ''),
+    2: (5, [MISS, OTHER, *FIGURES, COUNTS], ''),
+    3: (5, [OTHER, *FIGURES, COUNTS], ''),
     4: CLEAN,
-    5: (5, ['5 0 never A deadline 10', COUNTS], ''),
+    5: (5, ['5 0 never A deadline 10', FIGURES[0].replace('rounds 1', 'rounds 0'), COUNTS], ''),
     6: (1, [], 'mcscheck: control: budget over period at context 1 budget\n'),
 }
+# and what it may answer where no job of A ended
+UNJUDGED = [HINT, FIGURES[0].replace('rounds 1', 'rounds 0'), FIGURES[1]]
 
 
 # what mcscheck says of the budget of a, the first time or always: a file BUDGET.out with its lines, BUDGET.err, BUDGET.status
@@ -113,6 +118,11 @@ class Case(unittest.TestCase):
         path.chmod(0o755)
         return path
 
+    def answers(self, budget: int, status: int, lines: list[str]) -> None:
+        """Lets mcscheck answer this under a budget."""
+        (self.programs / f'{budget}.status').write_text(str(status))
+        (self.programs / f'{budget}.out').write_text(''.join(f'{line}\n' for line in lines))
+
     @contextlib.contextmanager
     def failing(self, budget: int, how: str, is_once: bool = False) -> Iterator[None]:
         """Within this mcscheck fails under a budget, by the words of a shell, always or the first time."""
@@ -153,7 +163,18 @@ class Lines(Case):
         self.assertEqual([line.split(',')[:6] for line in told.stdout.splitlines()[1:]],
                          [['1', '5', '', '1', '2', '0'], ['2', '5', '', '1', '0', '0'], ['3', '0', '', '0', '0', '0']])
         told = self.ran(self.file, '--set', 'context.a.budget=1:3', '--of', 'B')
-        self.assertEqual([line.split(',')[1] for line in told.stdout.splitlines()[1:]], ['0', '5', '5'])
+        # B has no deadline, so nothing is judged of it
+        self.assertEqual([line.split(',')[1] for line in told.stdout.splitlines()[1:]], ['6', '5', '5'])
+
+    def test_nothing_is_judged(self) -> None:
+        self.answers(3, 6, [*UNJUDGED, NOTHING_JUDGED])
+        told = self.ran(self.file, '--set', 'context.a.budget=3:4')
+        self.assertEqual((told.status, told.stdout.splitlines()[1:]), (0, ['3,6,,0,0,0,0,7', '4,0,,0,0,0,0,7']))
+        # no job of A ended, though one of another thread with a deadline did
+        self.answers(3, 0, [*UNJUDGED, COUNTS])
+        for of, wanted in ((['A'], '6'), (['A', 'B'], '6'), ([], '0')):
+            told = self.ran(self.file, '--set', 'context.a.budget=3', *(['--of', *of] if of else []))
+            self.assertEqual(told.stdout.splitlines()[1].split(',')[1], wanted)
 
     def test_a_system_with_chains_has_columns_for_them(self) -> None:
         self.file.write_text(NEW_SYSTEM)
@@ -176,7 +197,7 @@ class Lines(Case):
         (self.programs / '1.out').write_text(''.join(f'{line}\n' for line in [MISS, LOST, *CHAINED, f'{COUNTS} slow 2 unanswered 1']))
         # a miss of A, a signal lost to A, 2 slow answers of e, and an interrupt that f has not answered
         for names, wanted in ((['e'], '1,5,,0,0,0,0,2,0,7'), (['f'], '1,5,,0,0,0,0,0,1,7'), (['e', 'f'], '1,5,,0,0,0,0,2,1,7'),
-                              (['B'], '1,0,,0,0,0,0,0,0,7'), (['B', 'f'], '1,5,,0,0,0,0,0,1,7'), (['A'], '1,5,,1,1,0,0,2,1,7')):
+                              (['B'], '1,6,,0,0,0,0,0,0,7'), (['B', 'f'], '1,5,,0,0,0,0,0,1,7'), (['A'], '1,5,,1,1,0,0,2,1,7')):
             self.assertEqual(self.ran(self.file, '--set', 'context.a.budget=1', '--of', *names).stdout.splitlines()[1], wanted)
 
     def test_a_name_of_a_thread_and_of_a_chain_means_both(self) -> None:
@@ -225,7 +246,8 @@ FAILURES = (
     ("echo 'mcscheck: unexpected argument'; exit 2", 'mcscheck ended with 2: mcscheck: unexpected argument', 2),
     ("echo 'mcscheck: bin/mcscheck was changed'; exit 127", 'mcscheck ended with 127: mcscheck: bin/mcscheck was changed', 2),
     ('kill -KILL $$', 'mcscheck ended by SIGKILL', 2),
-    ('exit 6', 'mcscheck ended with 6', 2),
+    ('exit 7', 'mcscheck ended with 7', 2),
+    ('exit 6', 'mcscheck gave no verdict', 2),
     ('exit 5', 'mcscheck gave no verdict', 2),
     ('exit 0', 'mcscheck gave no verdict', 2),
     ('exit 1', 'mcscheck refused the system and did not say why', 2),
@@ -385,8 +407,9 @@ class Searches(Case):
         # A misses its deadline under less than 4, and e is answered in time from 2 on
         self.file.write_text(NEW_SYSTEM)
         clean = f'{COUNTS} slow 0 unanswered 0'
-        left = [MISS, CHAINED[2], f'{COUNTS} slow 0 unanswered 1']
-        for budget, lines in ((1, [*CHAINED, f'{COUNTS} slow 2 unanswered 1']), (2, left), (3, [MISS, clean]), (4, [clean])):
+        ended = [*FIGURES, 'chain e interrupts 3 answers 2 greatest 7 deadline 8']
+        left = [MISS, CHAINED[2], *ended, f'{COUNTS} slow 0 unanswered 1']
+        for budget, lines in ((1, [*CHAINED, f'{COUNTS} slow 2 unanswered 1']), (2, left), (3, [MISS, clean]), (4, [*ended, clean])):
             (self.programs / f'{budget}.out').write_text(''.join(f'{line}\n' for line in lines))
         for name, least in (('e', 2), ('A', 4)):
             told = self.ran(self.file, '--least', 'context.a.budget=1:4', '--of', name, '--jobs', 1)
@@ -422,6 +445,13 @@ class Searches(Case):
         told = self.ran(self.file, '--greatest', 'context.a.budget=5:6')
         refused = '1 of 2 are refused, the first 6: control: budget over period at context 1 budget'
         self.assertEqual((told.status, told.stdout), (5, f'context.a.budget: under none of 5 to 6 nothing is found; {refused}\n'))
+
+    def test_a_value_under_which_nothing_is_judged_is_no_answer(self) -> None:
+        for budget in (2, 3):
+            self.answers(budget, 6, [*UNJUDGED, NOTHING_JUDGED])
+        self.assertEqual(self.ran(self.file, '--least', 'context.a.budget=1:5').stdout, 'context.a.budget 4: the least of 1 to 5 under which nothing is found\n')
+        told = self.ran(self.file, '--least', 'context.a.budget=1:3')
+        self.assertEqual((told.status, told.stdout), (5, 'context.a.budget: under none of 1 to 3 nothing is found; under 2 of 3 no deadline is judged, the first 2\n'))
 
 
 VALUES = 'A:B, A:B:STEP with A at most B, or a list with commas, of numbers up to 2^63-1'

@@ -2,6 +2,7 @@
 from __future__ import annotations
 
 import pathlib
+import random
 import tempfile
 import tomllib
 import unittest
@@ -10,11 +11,14 @@ from unittest import mock
 
 import worked
 from worked import Ended
-from mcsim_tools import bounding, climbing, journal, ranges, worst
+from mcsim_tools import bounding, climbing, guiding, journal, ranges, system, worst
 from mcsim_tools.bounding import NoBound
 from mcsim_tools.climbing import Climb, Point
 from mcsim_tools.faults import Fault
+from mcsim_tools.guiding import Guide
+from mcsim_tools.latency import Latencies
 from mcsim_tools.ranges import Space
+from mcsim_tools.trying import Responses
 
 # B waits for a source of period 10, and A, which is above it, for one of period 20
 SYSTEM = '''
@@ -217,6 +221,48 @@ the interrupt of s at 5 is answered at 16, by job 1 of F; -o FILE writes this sy
         ])
 
 
+class Spans(Case):
+    """From when to when the worst value was."""
+
+    def setUp(self) -> None:
+        super().setUp()
+        self.script('mcsim', ROWS)
+
+    def of_jobs(self, *lines: str) -> Any:
+        text = '\n'.join(lines)
+        checker = self.script('spans', f"#!/bin/sh\ncat >/dev/null\ncat <<'E'\n{text}\nE\nexit 5\n")
+        return Responses(str(checker), 'B', 100).span(tables())
+
+    def test_a_response(self) -> None:
+        # B has two jobs of 15 ticks, and A one of 20: the first job of B counts
+        lines = [f'{{"moment":{end},"core":0,"kind":"miss","thread":"{name}","activated":{begin}}}' for name, begin, end in (('B', 10, 25), ('A', 10, 30), ('B', 30, 45))]
+        self.assertEqual(self.of_jobs(*lines), (10, 25))
+        # a job that has not ended is 40 ticks old
+        self.assertEqual(self.of_jobs(*lines, '{"moment":100,"core":0,"kind":"overdue","thread":"B","activated":60}'), (60, 100))
+        self.assertIsNone(self.of_jobs('{"kind":"counts"}'))
+
+    def latency(self, start: int) -> Any:
+        made = tomllib.loads(CHAIN)
+        made['source'][0]['start'] = start
+        return Latencies(str(self.folder / 'mcsim'), system.system_of(made).chains['far'], 40).span(made)
+
+    def test_the_rows_up_to_the_end(self) -> None:
+        # the answer to the interrupt at 3 comes at 12; rows so late that they would be too many are not read
+        made = tomllib.loads(CHAIN)
+        space = Space(made, [ranges.choice_of('source.s.start=3..4', made, 40)])
+        program = str(self.folder / 'mcsim')
+        question = Latencies(program, system.system_of(made).chains['far'], 40)
+        found = guiding.runs_of(space, question, program)((0,))
+        assert found
+        self.assertEqual((found[0], found[1][6]), ((3, 12), '3 0 interrupt s n 1'))
+        with mock.patch.object(guiding, 'FARTHEST', 11):
+            self.assertIsNone(guiding.runs_of(space, question, program)((0,)))
+
+    def test_a_latency(self) -> None:
+        # the answer to the interrupt at 3 comes 9 later; that at 7 has none, 6 is refused, and with 8 none comes
+        self.assertEqual([self.latency(start) for start in (3, 7, 6, 8)], [(3, 12), (7, 40), None, None])
+
+
 class Faults(Case):
     def expect(self, said: str, *words: object) -> None:
         self.assertEqual(self.ran(*words)[:3:2], (2, f'worst: {said}\n'))
@@ -349,6 +395,83 @@ class Climbs(unittest.TestCase):
         tried: list[Point] = []
         self.found([50, 50], lambda point: (tried.append(point), 0)[1], 300)
         self.assertEqual(len(tried), len(set(tried)))
+
+
+    def test_coordinates_of_a_block_are_one_choice(self) -> None:
+        # two of three steps change the first or the last coordinate, not two of 22
+        climb = Climb([9] * 22, [(0,) * 22], 100, 1)
+        climb.join([[0], range(1, 21), [21]])
+        climbing.drive(climb.run(), lambda batch: [0] * len(batch))
+        chosen = [climb.random.choice(climb.blocks) for _ in range(300)]
+        self.assertEqual(len(climb.blocks), 3)
+        self.assertGreater(sum(len(block) == 1 for block in chosen), 150)
+
+    def test_a_guide_leads_to_a_needle(self) -> None:
+        # one point of a million has a value above 0, and the guide names it
+        needle = (777, 333)
+        climb = Climb([1000, 1000], [(0, 0)], 200, 1)
+        climb.guide = lambda point, chance: needle
+        climbing.drive(climb.run(), lambda batch: [int(point == needle) for point in batch])
+        self.assertEqual(climb.best, needle)
+
+
+class Guides(unittest.TestCase):
+    """s has the period 10, and a start of 30 to 39; r has 20, and a start of 30 to 49."""
+
+    def guide(self, *texts: str, rows: Any = None, horizon: int = 100) -> Guide:
+        space = Space(tables(), [ranges.choice_of(text, tables(), horizon) for text in texts])
+        return Guide(space, horizon, rows or (lambda point: None))
+
+    def test_a_window(self) -> None:
+        # the job was from 60 to 70, so 30 ticks before it are looked at
+        rows = [f'{time} 0 run A' for time in (10, 29, 30, 45, 45, 60, 70, 71)]
+        window = guiding.window_of((60, 70), rows)
+        self.assertEqual(window, ((60, 70), [30, 45, 60, 70]))
+        # 40 ticks before a job of 40
+        self.assertEqual(guiding.window_of((50, 90), rows)[1], [10, 29, 30, 45, 60, 70, 71])
+
+    def test_a_start_moves_in_its_period(self) -> None:
+        guide = self.guide('source.r.start=30..49', 'source.s.start=30..39')
+        self.assertEqual(guide.moved((19, 9), guide.starts, 3), (2, 2))
+        self.assertEqual(guide.moved((0, 0), guide.starts[1:], -13), (0, 7))
+
+    def test_a_start_stays_in_its_range(self) -> None:
+        guide = self.guide('source.s.start=30..38:4')
+        # 30, 34 and 38: 34 is 4 after 30, and 44 is 14; 35 and 41 are no places
+        self.assertEqual([guide.moved((0,), guide.starts, ticks) for ticks in (4, 14, 5, 11)], [(1,), (1,), None, None])
+        guide = self.guide('source.s.start=31,38')
+        self.assertEqual([guide.moved((0,), guide.starts, ticks) for ticks in (7, -3, 1)], [(1,), (1,), None])
+
+    def test_jitter_moves_with_its_interrupts(self) -> None:
+        # two dates in each period of 10: with 3 ticks more, a start of 39 is 42, so the start is 32
+        # and each interrupt is that of one period later in the list
+        guide = self.guide('source.s.start=30..39', 'source.s.at=jitter 3', horizon=60)
+        point = (9, 1, 2, 0, 0, 3, 0)
+        self.assertEqual(guide.moved(point, guide.starts, 3), (2, 3, 0, 1, 2, 0, 0))
+        self.assertEqual(guide.moved((2, 3, 0, 1, 2, 0, 0), guide.starts, -3), point)
+
+    def test_an_interrupt_comes_to_a_row(self) -> None:
+        # s comes 2 and 6 after its start. One of both is at 64 to 66 if the start ends with 2, 3, 4
+        # or with 8, 9, 0
+        guide = self.guide('source.s.start=30..39', rows=lambda point: ((65, 70), ['65 0 run A']))
+        chance = random.Random(1)
+        made = {guide.aligned((0,), guiding.Window((65, 70), [65]), chance) for _ in range(100)}
+        self.assertEqual(made, {(2,), (3,), (4,), (8,), (9,), (0,)})
+
+    def test_an_open_job_comes_sooner(self) -> None:
+        # from 60 to the horizon of 100: 40 % of the moves are 1 to 100 ticks forward
+        guide = self.guide('source.s.start=30..39')
+        chance = random.Random(1)
+        away = [guide.away(guiding.Window((60, 100), [60]), chance) for _ in range(200)]
+        self.assertGreater(sum(-10 <= ticks < 0 for ticks in away), 20)
+        # the start of the job comes to the earliest time, 30
+        self.assertIn(-30, away)
+
+    def test_nothing_to_read(self) -> None:
+        chance = random.Random(1)
+        self.assertEqual(self.guide('source.s.start=30..39').step((4,), chance), (4,))
+        none = self.guide('thread.A.script.2=3..5', rows=lambda point: ((1, 2), ['1 0 run A']))
+        self.assertEqual(none.step((1,), chance), (1,))
 
 
 class Bounds(unittest.TestCase):
