@@ -5,11 +5,12 @@ mcscheck is the one beside the program that is tried, or else the repository's. 
 Debian's Python has none. A file that a page names and then shows as TOML has the lines that are shown.
 
 The lines of a block that follows a command are lines of its output, in order; a page may leave lines out, and marks that by a line of two dots.
-Each command says nothing on standard error, and ends with status 0, or with 5 where its verdict is that something was found. So does that of each row
+Each command says nothing on standard error, and ends with status 0, or with 5 or 6 where its verdict is that something was found, or that nothing was
+judged. So does that of each row
 of a table of questions and commands, and the words that the row names are in what it writes.
 
 The jobs of pipelines on docs/CI.md are YAML, and the lines of their scripts are run in a shell with an empty environment, for a system in which all is
-well and for one in which a deadline is missed."""
+well, for one in which a deadline is missed, and verdicts for one that was cut off and has no thread."""
 from __future__ import annotations
 
 import functools
@@ -44,18 +45,17 @@ FRAMES = ('examples/python/responses.py ',)
 DEBIAN_PYTHON = '/usr/bin/python3'
 # a search for a least value makes some hundred runs
 SECONDS = 600
-# the status of a verdict that is not clean, and the lines by which it is told
-FOUND = 5
-# the status of one for all time that is not known to be clean, its last line, and the line of a set that is clean
-NOT_KNOWN = 6
-SETS = re.compile(r'sets (\d+) repeating (\d+) findings (\d+)')
-CLEAN = 'nothing is ever found'
+# the statuses of a verdict by which something is found, and of one that judged nothing, or not for all time, and the lines by which they are told
+FOUND, UNJUDGED = 5, 6
+SETS = re.compile(r'sets (\d+) repeating (\d+) findings (\d+) threads \d+ deadlines (\d+)')
 FOREVER = ' --forever'
 # what has no line of counts at its end, which says how the verdict ends
 WITHOUT_COUNTS = (' --format csv', ' --format pretty')
 # options that the launcher reads, and no program
 TYPED = (' --format pretty', ' --tick-us ')
-COUNTS = re.compile(r'missed (\d+) overdue (\d+) lost (\d+) never (\d+) .*hints (\d+)(?: slow (\d+) unanswered (\d+))?')
+COUNTS = re.compile(
+    r'missed (\d+) overdue (\d+) lost (\d+) never (\d+) merged \d+ allowed \d+ unjudged (\d+) hints (\d+) threads \d+ deadlines \d+ judged (\d+)'
+    r'(?: slow (\d+) unanswered (\d+))?')
 # a block that ends with the status of any of its verdicts
 EXITS = 'exit $status'
 NONE_WILL_DO = re.compile(r'.*: under none of .*')
@@ -117,31 +117,34 @@ def gives_a_verdict(block: str) -> bool:
 def status_of(block: str, written: Sequence[str]) -> int:
     """The status with which a block is to end: that of its verdict, where no other command ends it."""
     if EXITS in block:
-        return FOUND if any(is_found(line, block) for line in written) else 0
-    if FOREVER in block.rpartition('|')[2] and written:
-        return status_for_ever(written)
-    return FOUND if gives_a_verdict(block.rpartition('|')[2]) and written and is_found(written[-1], block) else 0
+        # that of the last verdict that has one above 0
+        return next(filter(None, (status_of_line(line, block) for line in reversed(written))), 0)
+    last = block.rpartition('|')[2]
+    if FOREVER in last and written:
+        return status_for_ever(written[-1])
+    return status_of_line(written[-1], block) if gives_a_verdict(last) and written else 0
 
 
-def status_for_ever(written: Sequence[str]) -> int:
-    """That of a verdict for all time."""
-    told = SETS.fullmatch(written[-1])
+def status_for_ever(line: str) -> int:
+    """That of a verdict for all time, by its last line."""
+    told = SETS.fullmatch(plain(line))
     if told is None or told[3] != '0':
         return FOUND
-    return 0 if written.count(CLEAN) == int(told[1]) else NOT_KNOWN
+    return 0 if told[1] == told[2] and told[4] != '0' else UNJUDGED
 
 
 def plain(line: str) -> str:
     """A line, or an object of counts as the line that text has."""
-    return ' '.join(re.findall(r'\w+', line.partition('"counts",')[2])) or line
+    return ' '.join(re.findall(r'\w+', line.partition('"counts",')[2] or line.partition('"kind":"sets",')[2])) or line
 
 
-def is_found(line: str, block: str) -> bool:
-    """Whether a line is the last one of a verdict that is not clean."""
+def status_of_line(line: str, block: str) -> int:
+    """The status of the verdict whose last line this is; 0 if it is another line."""
     if counts := COUNTS.fullmatch(plain(line)):
-        missed, overdue, lost, never, hints, slow, unanswered = map(int, counts.groups(default='0'))
-        return any((missed, overdue, lost, never, slow, unanswered)) or ('--strict' in block and hints > 0)
-    return NONE_WILL_DO.fullmatch(line) is not None
+        missed, overdue, lost, never, unjudged, hints, judged, slow, unanswered = map(int, counts.groups(default='0'))
+        is_found = any((missed, overdue, lost, never, slow, unanswered)) or ('--strict' in block and any((unjudged, hints)))
+        return FOUND if is_found else 0 if judged else UNJUDGED
+    return FOUND if NONE_WILL_DO.fullmatch(line) else 0
 
 
 def is_shown(block: str, written: Sequence[str]) -> bool:
@@ -184,7 +187,7 @@ def try_block(program: pathlib.Path, name: pathlib.Path, block: str, count: Coun
     status, stdout, stderr = ran(program, block.strip())
     written = stdout.decode().splitlines()
     has_counts = not any(word in block for word in WITHOUT_COUNTS)
-    is_good = status in ((status_of(block, written),) if has_counts else (0, FOUND)) and is_silent(block, stderr.decode())
+    is_good = status in ((status_of(block, written),) if has_counts else (0, FOUND, UNJUDGED)) and is_silent(block, stderr.decode())
     count.expect(f'{name}: {block.strip()}: status {status}, {stderr.decode().strip()}', is_good)
     return written
 
@@ -240,6 +243,8 @@ JOBS = TOP / 'docs' / 'CI.md'
 # what a job gets from elsewhere
 FETCHES = ('apt-get ', 'git clone ')
 GOOD, BAD = (common.DATA / 'examples' / f'{name}.toml' for name in ('refills_enough', 'refills_too_few'))
+# the first lines of a system, in which nothing can be judged
+CUT_OFF = 'version = 1\ncores = 1\ndelay = 1\n'
 
 
 def script_lines(job: object) -> Iterator[str]:
@@ -267,6 +272,14 @@ def ran_in_a_job(program: pathlib.Path, checker: pathlib.Path, line: str, system
         return common.run(['sh', '-ec', line], seconds=SECONDS, cwd=folder, env={'PATH': path, 'MCSIM': str(program), 'PYTHONDONTWRITEBYTECODE': '1'})
 
 
+def ran_cut_off(program: pathlib.Path, checker: pathlib.Path, line: str) -> Ran:
+    """What a line comes to for a system that was cut off."""
+    with tempfile.TemporaryDirectory() as place:
+        system = pathlib.Path(place, 'cut.toml')
+        system.write_text(CUT_OFF)
+        return ran_in_a_job(program, checker, line, system)
+
+
 def try_jobs(program: pathlib.Path, count: Count) -> None:
     checker = common.checker_of(program)
     if not HAS_YAML or checker is None:
@@ -281,6 +294,9 @@ def try_jobs(program: pathlib.Path, count: Count) -> None:
                 continue
             ends = [ran_in_a_job(program, checker, line, system).status for system in (GOOD, BAD)]
             count.expect(f'{JOBS.relative_to(TOP)}: {line}: status {ends}', ends == ([0, FOUND] if 'mcscheck' in line else [0, 0]))
+            if 'mcscheck' in line:
+                status = ran_cut_off(program, checker, line).status
+                count.expect(f'{JOBS.relative_to(TOP)}: {line}: status {status} where nothing is judged', status == (FOUND if '--strict' in line else UNJUDGED))
 
 
 def main() -> None:

@@ -1,5 +1,5 @@
 #!/usr/bin/env python3
-"""Checks that response-time analysis, the runs and the table of mcscheck agree, on 300 random sets of tasks.
+"""Checks that response-time analysis, the runs and the table of mcscheck agree, on 300 random sets of tasks and 500 systems of event loops.
 
 Each set is made by UUniFast for one to three cores, with deadlines below and above the periods. Where all tasks begin together, the greatest response
 seen in the run of mcsim has to be the bound of `tools/tasks`, tick for tick, and that of cores which are played here tick by tick; with offsets no
@@ -12,7 +12,10 @@ so a task is compared where its bound is at most its period.
 
 A table would be wrong, and this script fails, that counted from the beginning of a round, as a row does: too little where a job waits for the one
 before it, and too much where the context is the clock; that left out the job of the moment at which all tasks begin; that had the call in the response;
-or that told the end of a bucket, as percentiles do, of a response of 128 and above. Sets that show none of these are a failure too."""
+or that told the end of a bucket, as percentiles do, of a response of 128 and above. Sets that show none of these are a failure too.
+
+The systems of event loops have sources, handlers, servers, signals and contexts of all kinds. Each runs with three choices of phases, and no handler of
+an interrupt may take longer than its bound by `tools/tasks --handlers`. Analyses that forget a rule are to be shown wrong by these runs."""
 from __future__ import annotations
 
 import collections
@@ -29,6 +32,7 @@ sys.dont_write_bytecode = True
 sys.path[0] = str(pathlib.Path(__file__).resolve().parents[2])
 from checks import common
 from checks.common import TOP, Count
+from checks.program import handler_bounds
 
 sys.path.insert(0, str(TOP / 'tools'))
 from mcsim_tools import tasks, writing
@@ -49,6 +53,8 @@ ABOVE = {True: 'above the period with a clock', False: 'above the period without
 COMPARED = (*WITH_CLOCKS, *AS_CLOCKS, 'missed', 'in time', '128 or more')
 # the longest run of a set that is played here
 FAR = 20_000
+# systems of event loops for each three sets of tasks
+SYSTEMS = 5
 
 
 def played(form: Form, core: int, ticks: int) -> dict[str, int]:
@@ -189,7 +195,6 @@ class Trial:
             self.count.expect(f'no set shows a task: {what}', self.seen[what] > 0)
         if not self.checker:
             self.count.skip('the table of mcscheck, which is not there')
-        self.count.end()
 
 
 def main() -> None:
@@ -199,6 +204,11 @@ def main() -> None:
     for number in range(words.sets):
         trial.try_set(number, words.seed)
     trial.end()
+    handlers = handler_bounds.Trial(program, trial.count)
+    for number in range(words.sets * SYSTEMS // 3):
+        handlers.try_system(number, words.seed)
+    handlers.end()
+    trial.count.end()
 
 
 if __name__ == '__main__':

@@ -27,19 +27,30 @@ class Chained(Reading):
     @functools.cached_property
     def all_found(self) -> list[tuple[str, str]]:
         """The kind and the line of all that is found. Slow answers of one time follow what the rows of that time show, chain by chain; chains that are
-        unanswered follow what is found at the horizon."""
+        unanswered follow what is found of threads at the horizon, and what is unjudged follows them."""
         of_rows = [(row.moment, found) for row in self.rows if (found := self.found(row))]
         slow = [(int(line.split()[0]), ('slow', line)) for chain in self.chains for line in chain.slow()]
         # the order of those that have one time stays
         timed = sorted([*of_rows, *slow], key=lambda found: found[0])
         at_end = [found for thread in self.threads if (found := self.found_at_end(thread))]
-        return [*(found for _, found in timed), *at_end, *(('unanswered', line) for chain in self.chains if (line := self.left(chain)))]
+        unanswered = [('unanswered', line) for chain in self.chains if (line := self.left(chain))]
+        return [*(found for _, found in timed), *at_end, *unanswered, *self.unjudged_lines()]
 
     def left(self, chain: ChainReading) -> str:
         """The line of a chain with an interrupt that had to be answered by the horizon, or nothing."""
         core = self.contexts[self.threads[chain.chain['thread']]['context']]['core']
         left = chain.left(self.horizon)
         return f'{self.horizon} {core} {left}' if left else ''
+
+    def with_deadlines(self) -> list[ChainReading]:
+        return [chain for chain in self.chains if chain.chain.get('deadline')]
+
+    def deadlines(self) -> int:
+        return super().deadlines() + len(self.with_deadlines())
+
+    def judged(self) -> int:
+        """What is judged of threads, and of chains with a deadline each answer and an interrupt that had to be answered by the horizon."""
+        return super().judged() + sum(len(chain.answers) + bool(self.left(chain)) for chain in self.with_deadlines())
 
     def table(self) -> list[Values]:
         return [*super().table(), *map(figures, self.chains)]

@@ -29,7 +29,7 @@ from checks.program.progress import PATIENCE, WIPED, Command, terminal
 NAME = 'mcscheck'
 # the page, and the system of its examples
 PAGE, SYSTEM = TOP / 'docs' / 'CHECK.md', TOP / 'docs' / 'late.toml'
-CLEAN = 'missed 0 overdue 0 lost 0 never 0 merged 0 allowed 0 hints %d\n'
+CLEAN = 'missed 0 overdue 0 lost 0 never 0 merged 0 allowed 0 unjudged %d hints %d threads %d deadlines %d judged %d\n'
 READ_FAILED, WRITE_FAILED = (exactly(f'{NAME}: {what} failed\n'.encode()) for what in ('read', 'write'))
 NO_MEMORY = exactly(f'{NAME}: no memory\n'.encode())
 MIXED_ROUND = f'{NAME}: --why: not with --show, --strict, --allow-lost or --format csv\n'
@@ -37,6 +37,16 @@ UNKNOWN = f'{NAME}: --allow-lost: no notification is called "%s": %s\n'
 # a system without a thread, and one of two notifications of like names
 EMPTY = b'version = 1\ncores = 1\ndelay = 1\ncontext = [{ name = "a", core = 0, budget = 2, period = 5 }]\n'
 NOTES = EMPTY + b'note = [{ name = "tick", core = 0 }, { name = "tock", core = 0 }]\n'
+# a job of A ends 2 ticks after each multiple of 5, which is its deadline; nobody has the context b
+MET = b'''version = 1
+cores = 1
+delay = 1
+context = [{ name = "a", core = 0, budget = 2, period = 5 }, { name = "b", core = 0, budget = 1, period = 5 }]
+thread = [{ name = "A", context = "a", priority = 9, deadline = 5, script = ["compute 2"] }]
+'''
+# the hints of a system without a thread, before and behind those of its contexts
+NO_THREAD, UNUSED = b'hint no thread\n', b'hint core 0 has no thread\n'
+UNBOUND = b'hint context %s has no thread\n'
 # so little that a text of this many bytes has no room
 SPACE, LARGE = 48 * 2**20, 40 * 2**20
 # a thread that misses its deadline once in some 10^6 ticks
@@ -91,12 +101,83 @@ def unknown(name: str, said: str) -> bytes:
     return (UNKNOWN % (name, said)).encode()
 
 
-def hinted(many: int) -> bytes:
-    return b'hint context a has no thread\n' * many + (CLEAN % many).encode()
+def clean(*, unjudged: int = 0, hints: int = 0, threads: int = 0, deadlines: int = 0, judged: int = 0) -> bytes:
+    """The line of counts where nothing is found."""
+    return (CLEAN % (unjudged, hints, threads, deadlines, judged)).encode()
+
+
+def cases_of_what_is_judged() -> Iterator[Case]:
+    """Systems in which nothing is found: what was judged decides, and with --strict hints and unjudged threads."""
+    findings = '--show=findings'
+    hints = NO_THREAD + UNBOUND % b'a' + UNUSED
+    yield Case('no thread', [findings], EMPTY, exactly(hints + clean(hints=3)), NOTHING, 6)
+    yield Case('no thread, and hints that count', [findings, '--strict'], EMPTY, exactly(hints + clean(hints=3)), NOTHING, 5)
+    yield Case('hints and figures', ['--horizon=5'], EMPTY, exactly(hints + b'context a unused 2\n' + clean(hints=3)), NOTHING, 6)
+    yield Case('jobs of no thread', ['--show=jobs', '--strict'], EMPTY, exactly(clean(hints=3)), NOTHING, 5)
+    yield Case('no row of CSV', ['--show=jobs', '--format=csv'], EMPTY, begins(b'moment,core,kind,thread,number,'), NOTHING, 6)
+    first = b'{"kind":"hint","hint":"no_thread"}\n{"kind":"hint","hint":"unbound","context":"a"}\n{"kind":"hint","hint":"unused","core":0}\n{"kind":"counts",'
+    yield Case('hints as JSON', [findings, '--format=json'], EMPTY, begins(first, b'"hints":3,"threads":0,"deadlines":0,"judged":0}\n'), NOTHING, 6)
+    top = EMPTY.partition(b'context')[0]
+    ways: tuple[tuple[list[str], int], ...] = (([], 6), (['--strict'], 5))
+    for words, status in ways:
+        yield Case(f'nothing with {words}', words, top, exactly(NO_THREAD + UNUSED + clean(hints=2)), NOTHING, status)
+    unbound, twelve = UNBOUND % b'b', ['--horizon=12', findings]
+    met = clean(hints=1, threads=1, deadlines=1, judged=3)
+    yield Case('three jobs that end in time', twelve, MET, exactly(unbound + met), NOTHING, 0)
+    yield Case('three jobs, and a hint that counts', [*twelve, '--strict'], MET, exactly(unbound + met), NOTHING, 5)
+    alone = MET.replace(b', { name = "b", core = 0, budget = 1, period = 5 }', b'')
+    yield Case('three jobs, and nothing in doubt', [*twelve, '--strict'], alone, exactly(clean(threads=1, deadlines=1, judged=3)), NOTHING, 0)
+    none = b'hint no thread has a deadline\n' + clean(hints=1, threads=1)
+    without = alone.replace(b' deadline = 5,', b'')
+    yield Case('three jobs without a deadline', twelve, without, exactly(none), NOTHING, 6)
+    yield Case('a hint of no deadline as JSON', [*twelve, '--format=json'], without, begins(b'{"kind":"hint","hint":"no_deadline"}\n'), NOTHING, 6)
+    yield from cases_of_a_job_that_goes_on(alone)
+
+
+def cases_of_a_job_that_goes_on(system: bytes) -> Iterator[Case]:
+    """A horizon at which the first job has not ended, and still has time."""
+    asked, counts = ['--horizon=1', '--show=findings'], clean(unjudged=1, threads=1, deadlines=1)
+    line = b'1 0 unjudged A deadline 5 activated 0\n'
+    yield Case('a job that goes on', asked, system, exactly(line + counts), NOTHING, 6)
+    yield Case('a job that goes on, which counts', [*asked, '--strict'], system, exactly(line + counts), NOTHING, 5)
+    yield Case('a job that goes on as CSV', [*asked, '--format=csv'], system, begins(b'moment,', b'\n1,0,unjudged,A,,,,,5,0,,,,,,\n'), NOTHING, 6)
+    values = b'{"moment":1,"core":0,"kind":"unjudged","thread":"A","deadline":5,"activated":0}\n'
+    yield Case('a job that goes on as JSON', [*asked, '--format=json'], system, begins(values, b'"unjudged":1,"hints":0,"threads":1,"deadlines":1,"judged":0}\n'), NOTHING, 6)
+    # nine ticks of work need five budgets; at 5 the first of them is exhausted and the deadline is there
+    late = system.replace(b'compute 2', b'compute 9')
+    line = b'5 0 overdue A deadline 5 activated 0 queued 0 ready 0 running 2 throttled 3 blocked 0 woken 0\n'
+    judged = clean(threads=1, deadlines=1, judged=1).replace(b'overdue 0', b'overdue 1')
+    yield Case('a job that can only be late', ['--horizon=5', '--show=findings'], late, exactly(line + judged), NOTHING, 5)
+
+
+def shares(*parts: tuple[int, int]) -> bytes:
+    """A system of one core, with a thread for each of these budgets and periods that computes once, for a tick, and has a long deadline."""
+    context = ', '.join(f'{{ name = "c{place}", core = 0, budget = {budget}, period = {period} }}' for place, (budget, period) in enumerate(parts))
+    end = 'priority = 5, rounds = 1, deadline = 99, script = ["compute 1"]'
+    thread = ', '.join(f'{{ name = "T{place}", context = "c{place}", {end} }}' for place in range(len(parts)))
+    return f'version = 1\ncores = 1\ndelay = 1\ncontext = [{context}]\nthread = [{thread}]\n'.encode()
+
+
+def cases_of_exact_sums() -> Iterator[Case]:
+    """Cores whose budgets over periods sum to just 1, to hardly more, and to hardly less."""
+    p, q = 2**40 - 1, 2**40 - 3
+    # a / p + b / q is 1 + 1 / (p * q)
+    a = pow(q, -1, p)
+    b = (p * q + 1 - a * q) // p
+    sums = {
+        'just 1': (((1, 3), (1, 3), (1, 3)), False), 'just 1 by long periods': (((a, p), (p - a, p)), False),
+        'hardly more than 1': (((1, 3), (1, 3), (333_334, 1_000_000)), True), 'hardly less than 1': (((1, 3), (1, 3), (333_333, 1_000_000)), False),
+        '2^-80 more than 1': (((a, p), (b, q)), True), 'less than 1': (((a, p), (b - 1, q)), False), 'all of many': (((1, 64),) * 64, False),
+        '1 and 2^-40': (((1, 64),) * 64 + ((1, 2**40),), True),
+    }
+    for name, (parts, is_more) in sums.items():
+        hint = b'hint core 0 grants 1000001 of 1000000\n' * is_more
+        counts = clean(hints=int(is_more), threads=len(parts), deadlines=len(parts), judged=len(parts))
+        yield Case(f'a sum of {name}', ['--horizon=80', '--show=findings'], shares(*parts), exactly(hint + counts), NOTHING, 0)
 
 
 def cases_of_findings() -> Iterator[Case]:
-    """Systems with findings, with hints alone, and with none."""
+    """A system with findings, in several ways."""
     shown = example()
     system = shown.system
     for words, written in shown.runs:
@@ -110,15 +191,6 @@ def cases_of_findings() -> Iterator[Case]:
     allowed = b''.join(line for line in written.splitlines(keepends=True) if b' lost tick ' not in line)
     allowed = allowed.replace(b'lost 2', b'lost 0').replace(b'allowed 0', b'allowed 2')
     yield Case('allowed', [*words, '--allow-lost', 'tick', '--allow-lost', 'fire'], system, exactly(allowed), NOTHING, 5)
-    findings = '--show=findings'
-    yield Case('hints', [findings], EMPTY, exactly(hinted(1)), NOTHING, 0)
-    yield Case('hints that count', [findings, '--strict'], EMPTY, exactly(hinted(1)), NOTHING, 5)
-    yield Case('hints and figures', ['--horizon=5'], EMPTY, exactly(hinted(1).replace(b'\n', b'\ncontext a unused 2\n', 1)), NOTHING, 0)
-    yield Case('jobs of no thread', ['--show=jobs', '--strict'], EMPTY, exactly((CLEAN % 1).encode()), NOTHING, 5)
-    yield Case('no row of CSV', ['--show=jobs', '--format=csv'], EMPTY, begins(b'moment,core,kind,thread,number,'), NOTHING, 0)
-    hint = b'{"kind":"hint","hint":"unbound","context":"a"}\n{"kind":"counts",'
-    yield Case('hints as JSON', [findings, '--format=json'], EMPTY, begins(hint, b'"hints":1}\n'), NOTHING, 0)
-    yield Case('nothing', ['--strict'], EMPTY.partition(b'context')[0], exactly(hinted(0)), NOTHING, 0)
 
 
 def cases_of_files(folder: pathlib.Path) -> Iterator[Case]:
@@ -260,16 +332,16 @@ def try_progress(program: pathlib.Path, folder: pathlib.Path, count: Count) -> N
     file.write_text(performance.crowd(1, 8))
     command = Command(program, file, ('--show', 'findings'))
     with open(out, 'wb') as target:
-        count.expect('a short run shows something', command.on_terminal(1000, target) == (0, ''))
+        count.expect('a short run shows something', command.on_terminal(1000, target) == (6, ''))
     long = command.long_run(out)
-    wanted = (CLEAN % 0).encode()
-    good = long.status == 0 and command.is_progress(long) and out.read_bytes() == wanted
+    wanted = b'hint no thread has a deadline\n' + clean(hints=1, threads=8)
+    good = long.status == 6 and command.is_progress(long) and out.read_bytes() == wanted
     count.expect(f'progress up to {long.horizon}: {long.shown[:60]!r}..{long.shown[-60:]!r}', good)
     long = command.long_run(pathlib.Path('/dev/full'))
     good = long.status == 3 and command.is_progress(long, 'mcscheck: write failed\r\n')
     count.expect(f'progress up to {long.horizon} of a run that cannot write: {long.shown[-80:]!r}', good)
     try_progress_among_findings(program, folder, long.horizon, count)
-    count.expect('a pipe sees progress', common.run(command.line(2 * long.horizon), seconds=PATIENCE) == Ran(0, wanted, b''))
+    count.expect('a pipe sees progress', common.run(command.line(2 * long.horizon), seconds=PATIENCE) == Ran(6, wanted, b''))
 
 
 def main() -> None:
@@ -277,7 +349,7 @@ def main() -> None:
     program, count = common.beside(simulator, NAME), Count()
     with tempfile.TemporaryDirectory() as name:
         folder = pathlib.Path(name)
-        for case in (*cases_of_findings(), *cases_of_files(folder), *cases_of_words(folder), *cases_of_rounds(folder), *cases_of_targets()):
+        for case in (*cases_of_findings(), *cases_of_what_is_judged(), *cases_of_exact_sums(), *cases_of_files(folder), *cases_of_words(folder), *cases_of_rounds(folder), *cases_of_targets()):
             ended = ran(program, case)
             differs = case.differs(ended)
             count.expect(f'{case.name}: {differs} differ: {ended}', not differs)

@@ -60,7 +60,7 @@ SEEN = (
     'status 0', 'status 1', 'status 5', 'status 6', 'a set of several cores', 'a core of a larger set', 'repeats', 'open', 'at rest', 'rounds that go on',
     'miss in each period', 'miss before alone', 'miss so far', 'lost in each period', 'lost before alone', 'lost so far', 'overdue', 'overdue so far',
     'never', 'never so far', 'greatest', 'no greatest', 'throttled never', 'throttled', 'ends no round', 'ends rounds', 'clean', 'a lost signal that is allowed',
-    'an order', 'interrupts without end', 'interrupts that ended',
+    'an order', 'interrupts without end', 'interrupts that ended', 'clean without a deadline',
 )
 
 
@@ -97,12 +97,13 @@ class Trial:
             return []
         wrong = [f'cores {each.group.name}: {broken}' for each in told for broken in each.broken(allowed)]
         self.count.expect(f'{system.kept(wrong)} --forever --horizon={system.horizon}: {wrong}', not wrong)
-        values, statuses = forever.values_of(told, allowed), forever.statuses_of(told, allowed)
-        status = ran.status if ran.status in statuses else min(statuses)
+        tables = tomllib.loads(system.text)
+        values, status = forever.values_of(tables, told, allowed), forever.status_of(tables, told, allowed)
         self.same(system, words, ran, Ran(status, forever.text_of(values).encode(), b''))
         words = [*words, '--format=json']
         self.same(system, words, self.check(system, words), Ran(status, forever.json_of(values).encode(), b''))
         self.tell(told, allowed)
+        self.seen['clean without a deadline'] += status == 6 and all(each.claim.is_clean for each in told)
         return told
 
     def told(self, system: System, claims: Sequence[Claim]) -> Optional[list[Told]]:

@@ -179,6 +179,8 @@ class Told:
                     yield f'{kind} in period {number}: {self.many(kind, number)}, and in the first one {self.many(kind, 0)}'
         if self.claim.is_clean:
             yield from self.not_clean(allowed)
+        elif not list(self.findings(allowed)) and not self.is_allowed(allowed):
+            yield 'nothing is found and no signal is lost, and it does not say that nothing is ever found'
 
     def last_interrupts(self) -> Iterator[tuple[str, int]]:
         """Of the set's sources that end the moments of their last dates."""
@@ -269,19 +271,20 @@ class Told:
         return any(kind == 'lost' and name in allowed for _, kind, name in self.found)
 
 
-def counts_of(told: Sequence[Told], allowed: Sequence[str]) -> Values:
+def counts_of(tables: Tables, told: Sequence[Told], allowed: Sequence[str]) -> Values:
     found = sum(len(list(each.findings(allowed))) for each in told)
-    return {'kind': 'sets', 'sets': len(told), 'repeating': sum(each.claim.start is not None for each in told), 'findings': found}
+    repeating = sum(each.claim.start is not None for each in told)
+    threads = tables.get('thread', [])
+    deadlines = sum(thread.get('deadline', 0) > 0 for thread in threads)
+    return {'kind': 'sets', 'sets': len(told), 'repeating': repeating, 'findings': found, 'threads': len(threads), 'deadlines': deadlines}
 
 
-def statuses_of(told: Sequence[Told], allowed: Sequence[str]) -> set[int]:
-    """5 where something is found, 0 where nothing ever is, and else 6. Where lost signals are allowed, rows do not tell whether the rest is ever found."""
-    if counts_of(told, allowed)['findings']:
-        return {5}
-    others = [each for each in told if not each.claim.is_clean]
-    if all(each.claim.start is not None and each.is_allowed(allowed) for each in others):
-        return {0, 6} if others else {0}
-    return {6}
+def status_of(tables: Tables, told: Sequence[Told], allowed: Sequence[str]) -> int:
+    """5 if something is found; 6 if a set was not found to repeat, or no thread has a deadline that could be missed; else 0."""
+    counts = counts_of(tables, told, allowed)
+    if counts['findings']:
+        return 5
+    return 0 if counts['repeating'] == counts['sets'] and counts['deadlines'] else 6
 
 
 def line_of(values: Values) -> str:
@@ -307,7 +310,7 @@ def line_of(values: Values) -> str:
             return f'thread {thread}: greatest response {dashed(greatest)}{never}{ends}'
         case {'kind': 'clean'}:
             return CLEAN
-    return f'sets {values["sets"]} repeating {values["repeating"]} findings {values["findings"]}'
+    return ' '.join(f'{key} {values[key]}' for key in ('sets', 'repeating', 'findings', 'threads', 'deadlines'))
 
 
 def dashed(number: Optional[int]) -> str:
@@ -330,5 +333,5 @@ def told_of(tables: Tables, text: str, claims: Sequence[Claim], horizon: int) ->
     return [Told(tables, lines, group, claim, horizon) for group, claim in zip(core_sets(tables), claims)]
 
 
-def values_of(told: Sequence[Told], allowed: Sequence[str]) -> list[Values]:
-    return [*(values for each in told for values in each.values(allowed)), counts_of(told, allowed)]
+def values_of(tables: Tables, told: Sequence[Told], allowed: Sequence[str]) -> list[Values]:
+    return [*(values for each in told for values in each.values(allowed)), counts_of(tables, told, allowed)]

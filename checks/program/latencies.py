@@ -32,7 +32,8 @@ FORMS = tuple(itertools.product(('findings', 'table', 'both'), ('text', 'csv', '
 SEEN = (
     'slow', 'unanswered', 'slow of two chains at one time', 'a row and an answer at one time', 'slow at the horizon', 'unanswered behind others',
     'found of chains alone', 'two slow answers of one job', 'a slow answer and another of one job', 'no answer', 'no deadline', 'margin above 0', 'margin 0',
-    'margin below 0', 'a percentile below the greatest', 'a percentile at the end of its bucket', 'status 0', 'status 2', 'status 5',
+    'margin below 0', 'a percentile below the greatest', 'a percentile at the end of its bucket', 'unjudged behind unanswered', 'judged by chains alone',
+    'no deadline of a thread', 'status 0', 'status 2', 'status 5', 'status 6',
 )
 # how the lines of threads and contexts begin
 OF_OTHERS = ('thread ', 'context ', '{"kind":"thread"', '{"kind":"context"')
@@ -59,7 +60,8 @@ chain = [
     { name = "z", source = "s", thread = "Z", deadline = 19 },
 ]
 '''
-# of one time what rows show comes first, and then chains in the order of the file; at 22 an interrupt from 3 is 19 ticks old
+# of one time what rows show comes first, and then chains in the order of the file; at 22 an interrupt from 3 is 19 ticks old. Deadlines are those of Z and C
+# and of all chains but near. Two jobs of C are judged, two answers of each of f, e and g, and the interrupt of z
 TWO_CORES_FOUND = '''12 1 miss C 1 4 deadline 3 activated 8 queued 0 ready 0 running 4 throttled 0 blocked 0 woken 0
 12 1 slow f 9 deadline 7 origin 3
 12 1 slow e 9 deadline 8 origin 3
@@ -69,9 +71,9 @@ TWO_CORES_FOUND = '''12 1 miss C 1 4 deadline 3 activated 8 queued 0 ready 0 run
 22 0 never Z deadline 5
 22 0 unanswered z deadline 19 origin 3
 hint note q is waited on and no script signals it
-missed 2 overdue 0 lost 0 never 1 merged 0 allowed 0 hints 1 slow 4 unanswered 1
+missed 2 overdue 0 lost 0 never 1 merged 0 allowed 0 unjudged 0 hints 1 threads 3 deadlines 6 judged 9 slow 4 unanswered 1
 '''
-# what a job of L is given at 23 came at 12 and at 22, and its next one is given what came at 32 and 42
+# what a job of L is given at 23 came at 12 and at 22, and its next one is given what came at 32 and 42; three answers and an interrupt are judged
 LOOP = '''version = 3
 cores = 1
 delay = 1
@@ -82,7 +84,7 @@ source = [{ name = "s", note = "n", badge = 1, period = 10, start = 2 }]
 chain = [{ name = "c", source = "s", thread = "L", deadline = 20 }]
 '''
 LOOP_TABLE = '''chain c interrupts 6 answers 3 least 20 greatest 31 total 72 p50 21 p90 31 p99 31 deadline 20 margin -11
-missed 0 overdue 0 lost 2 never 0 merged 0 allowed 0 hints 0 slow 1 unanswered 1
+missed 0 overdue 0 lost 2 never 0 merged 0 allowed 0 unjudged 0 hints 0 threads 1 deadlines 1 judged 4 slow 1 unanswered 1
 '''
 LOOP_ROWS = '''moment,core,kind,thread,note,word,number,response,deadline,activated,queued,ready,running,throttled,blocked,woken,chain,latency,deadline,origin
 22,0,lost,,n,1,,,,,,,,,,,,,,
@@ -94,17 +96,18 @@ LOOP_OBJECTS = '''{"moment":22,"core":0,"kind":"lost","note":"n","word":1}
 {"moment":42,"core":0,"kind":"lost","note":"n","word":1}
 {"moment":43,"core":0,"kind":"slow","chain":"c","latency":31,"deadline":20,"origin":12}
 {"moment":52,"core":0,"kind":"unanswered","chain":"c","deadline":20,"origin":32}
-{"kind":"counts","missed":0,"overdue":0,"lost":2,"never":0,"merged":0,"allowed":0,"hints":0,"slow":1,"unanswered":1}
+{"kind":"counts","missed":0,"overdue":0,"lost":2,"never":0,"merged":0,"allowed":0,"unjudged":0,"hints":0,"threads":1,"deadlines":1,"judged":4,"slow":1,"unanswered":1}
 '''
-# the first interrupt comes at 60; at 50 there is none, and at 80 one that is answered 20 later, at its deadline
+# the first interrupt comes at 60; at 50 there is none, so nothing is judged, and at 80 one that is answered 20 later, at its deadline
 LATER = LOOP.replace('period = 10, start = 2', 'period = 100, start = 60')
 LATER_TABLE = '''chain c interrupts 0 answers 0 least - greatest - total 0 p50 - p90 - p99 - deadline 20 margin -
-missed 0 overdue 0 lost 0 never 0 merged 0 allowed 0 hints 0 slow 0 unanswered 0
+missed 0 overdue 0 lost 0 never 0 merged 0 allowed 0 unjudged 0 hints 0 threads 1 deadlines 1 judged 0 slow 0 unanswered 0
 '''
 LATER_OBJECTS = '''{"kind":"chain","chain":"c","interrupts":1,"answers":1,"least":20,"greatest":20,"total":20,"p50":20,"p90":20,"p99":20,"deadline":20,"margin":0}
-{"kind":"counts","missed":0,"overdue":0,"lost":0,"never":0,"merged":0,"allowed":0,"hints":0,"slow":0,"unanswered":0}
+{"kind":"counts","missed":0,"overdue":0,"lost":0,"never":0,"merged":0,"allowed":0,"unjudged":0,"hints":0,"threads":1,"deadlines":1,"judged":1,"slow":0,"unanswered":0}
 '''
-# L takes 150 ticks from 100 on; at 1100 E computes 19 before it, and the wait of E takes a tick. Of 150 and 170 the half is 150, told as the end of 150 to 151
+# L takes 150 ticks from 100 on; at 1100 E computes 19 before it, and the wait of E takes a tick. Of 150 and 170 the half is 150, told as the end of 150 to 151. Nothing has a
+# deadline, which is a hint
 LONG = '''version = 3
 cores = 1
 delay = 1
@@ -121,7 +124,7 @@ source = [
 chain = [{ name = "c", source = "s", thread = "L" }]
 '''
 LONG_TABLE = '''chain c interrupts 2 answers 2 least 150 greatest 170 total 320 p50 151 p90 170 p99 170 deadline - margin -
-missed 0 overdue 0 lost 0 never 0 merged 0 allowed 0 hints 0 slow 0 unanswered 0
+missed 0 overdue 0 lost 0 never 0 merged 0 allowed 0 unjudged 0 hints 1 threads 2 deadlines 0 judged 0 slow 0 unanswered 0
 '''
 
 
@@ -140,9 +143,10 @@ KNOWN = (
     Known(LOOP, 52, ['--show=table'], LOOP_TABLE, 5),
     Known(LOOP, 52, ['--show=findings', '--format=csv'], LOOP_ROWS, 5),
     Known(LOOP, 52, ['--show=findings', '--format=json'], LOOP_OBJECTS, 5),
-    Known(LATER, 50, [], LATER_TABLE, 0),
+    Known(LATER, 50, [], LATER_TABLE, 6),
     Known(LATER, 80, ['--show=table', '--format=json'], LATER_OBJECTS, 0),
-    Known(LONG, 1300, ['--show=table'], LONG_TABLE, 0),
+    Known(LONG, 1300, ['--show=table'], LONG_TABLE, 6),
+    Known(LONG, 1300, ['--show=table', '--strict'], LONG_TABLE, 5),
 )
 
 
@@ -213,6 +217,10 @@ def shown(found: Chained) -> Iterator[str]:
         yield 'unanswered behind others'
     if lines and all(words[2] in reading.OF_CHAINS for words in lines):
         yield 'found of chains alone'
+    if {'unanswered', 'unjudged'} <= {words[2] for words in lines}:
+        yield 'unjudged behind unanswered'
+    if not found.with_deadline() and found.deadlines():
+        yield 'judged by chains alone' if found.judged() else 'no deadline of a thread'
     for chain in found.chains:
         latencies = sorted(one.latency for one in chain.answers)
         yield from shown_by_figures(figures(chain), latencies)

@@ -1,4 +1,5 @@
-/* strain FILE: calls the library with allocations that fail, from 8 threads, and with damaged texts.
+/* strain FILE: calls the library with allocations that fail, from 8 threads, and with damaged texts:
+ * the simulation, each part of a check, the rows and the findings.
  * A line tells what was tried, and one what is wrong.
  * malloc, realloc and free of the library are those below (-Wl,--wrap). */
 #include <mcsim.h>
@@ -11,7 +12,9 @@
 #define HORIZON 200
 #define ROOM (1 << 16)
 #define THREADS 8
+/* damaged texts: for mcs_run, and for each other call */
 #define TEXTS 5000
+#define FEWER 1000
 
 void *__real_malloc(size_t bytes);
 void *__real_realloc(void *at, size_t bytes);
@@ -47,9 +50,41 @@ void __wrap_free(void *at)
     __real_free(at);
 }
 
-static uint8_t text[1 << 16], wanted[ROOM];
+static uint8_t text[1 << 16];
+static _Alignas(uint64_t) uint8_t wanted[ROOM];
 static size_t text_bytes, wanted_bytes;
+static uint32_t wanted_result;
 static atomic_int wrong;
+
+/* the call that is tried: 0 mcs_run, 1 to 4 mcs_check in each part, 5 mcs_rows, 6 mcs_findings */
+static int tried;
+#define TRIED 7
+
+static uint32_t call(const uint8_t *from, size_t bytes, uint8_t *room, size_t *length)
+{
+    uint64_t before = 0;
+    uint32_t result;
+
+    switch (tried) {
+    case 0:
+        return mcs_run(from, bytes, HORIZON, MCS_BOTH, room, ROOM, length);
+    case 5:
+        result = mcs_rows(from, bytes, HORIZON, (mcs_row *)room, ROOM / sizeof(mcs_row), length, &before);
+        *length *= sizeof(mcs_row);
+        return result;
+    case 6:
+        result = mcs_findings(from, bytes, HORIZON, (mcs_finding *)room, ROOM / sizeof(mcs_finding), length);
+        *length *= sizeof(mcs_finding);
+        return result;
+    default:
+        return mcs_check(from, bytes, HORIZON, (uint32_t)tried - 1, MCS_JSON, from, 0, room, ROOM, length);
+    }
+}
+
+static int has_output(uint32_t result)
+{
+    return result == MCS_LINES || result == MCS_FOUND || result == MCS_UNJUDGED || result == MCS_PART;
+}
 
 static void expect(const char *what, long number, int is_good)
 {
@@ -75,19 +110,19 @@ static int is_clear(const uint8_t *room, size_t from)
 
 static long refuse_each(int all)
 {
-    static uint8_t room[ROOM];
+    static _Alignas(uint64_t) uint8_t room[ROOM];
     long first = 0;
 
     for (;; first++) {
         size_t length = 7;
         memset(room, 0, ROOM);
         left = first, refuses_all = all;
-        uint32_t result = mcs_run(text, text_bytes, HORIZON, MCS_BOTH, room, ROOM, &length);
+        uint32_t result = call(text, text_bytes, room, &length);
         int was_refused = left <= 0 && (all ? left == 0 : left == -1);
         left = -1;
         expect("memory is kept after a refusal at", first, kept == 0);
-        if (result == MCS_LINES) {
-            expect("lines after a refusal at", first, is_whole(room, length) && is_clear(room, length));
+        if (has_output(result)) {
+            expect("lines after a refusal at", first, result == wanted_result && is_whole(room, length) && is_clear(room, length));
             if (!was_refused)
                 return first;
         } else {
@@ -98,11 +133,12 @@ static long refuse_each(int all)
 
 static void *call_often(void *number)
 {
-    uint8_t *room = calloc(ROOM, 1);
-    for (int call = 0; call < 50; call++) {
+    uint8_t *room = malloc(ROOM);
+    memset(room, 0, ROOM);
+    for (int time = 0; time < 50; time++) {
         size_t length = 0;
-        uint32_t result = mcs_run(text, text_bytes, HORIZON, MCS_BOTH, room, ROOM, &length);
-        expect("a call of thread", (long)(intptr_t)number, result == MCS_LINES && is_whole(room, length));
+        uint32_t result = call(text, text_bytes, room, &length);
+        expect("a call of thread", (long)(intptr_t)number, result == wanted_result && is_whole(room, length));
     }
     free(room);
     return NULL;
@@ -111,11 +147,12 @@ static void *call_often(void *number)
 /* texts with bytes that were changed, taken away or doubled */
 static long damage(void)
 {
-    static uint8_t own[1 << 17], room[ROOM];
-    long results[5] = {0};
+    static uint8_t own[1 << 17];
+    static _Alignas(uint64_t) uint8_t room[ROOM];
+    long systems = 0, faults = 0, texts = tried == 0 ? TEXTS : FEWER;
 
     srand(1);
-    for (int number = 0; number < TEXTS; number++) {
+    for (int number = 0; number < texts; number++) {
         size_t bytes = text_bytes, length = 0;
         memcpy(own, text, bytes);
         for (int change = rand() % 4; change >= 0 && bytes > 0; change--) {
@@ -138,18 +175,20 @@ static long damage(void)
         /* memory of just the text, so that a read behind it is found */
         uint8_t *just = malloc(bytes + (bytes == 0));
         memcpy(just, own, bytes);
-        uint32_t result = mcs_run(just, bytes, HORIZON, MCS_REPORTS, room, ROOM, &length);
+        uint32_t result = call(just, bytes, room, &length);
         free(just);
-        expect("the result of text", number, result <= MCS_FAULT && length > 0 && length < ROOM);
-        results[result < 5 ? result : 4]++;
+        expect("the result of text", number, (has_output(result) || result == MCS_FAULT || result == MCS_ROOM) && length <= 2 * ROOM);
+        systems += has_output(result);
+        faults += result == MCS_FAULT;
     }
-    expect("texts that are systems", results[0], results[0] > 20);
-    return results[1];
+    expect("texts that are systems", systems, systems > texts / 250);
+    return faults;
 }
 
 int main(int count, char **words)
 {
     pthread_t threads[THREADS];
+    long once = 0, all = 0, faults = 0;
     FILE *file = count == 2 ? fopen(words[1], "rb") : NULL;
 
     if (file == NULL)
@@ -157,13 +196,16 @@ int main(int count, char **words)
     text_bytes = fread(text, 1, sizeof text, file);
     fclose(file);
     kept = 0;
-    expect("the first call", 0, mcs_run(text, text_bytes, HORIZON, MCS_BOTH, wanted, ROOM, &wanted_bytes) == MCS_LINES);
-    expect("memory is kept after the first call", kept, kept == 0);
-    long once = refuse_each(0), all = refuse_each(1), faults = damage();
-    for (intptr_t number = 0; number < THREADS; number++)
-        pthread_create(&threads[number], NULL, call_often, (void *)number);
-    for (int number = 0; number < THREADS; number++)
-        pthread_join(threads[number], NULL);
-    printf("refused %ld and %ld, faults %ld of %d texts, wrong %d\n", once, all, faults, TEXTS, wrong);
+    for (tried = 0; tried < TRIED; tried++) {
+        wanted_result = call(text, text_bytes, wanted, &wanted_bytes);
+        expect("the first call", tried, has_output(wanted_result));
+        expect("memory is kept after the first call", tried, kept == 0);
+        once += refuse_each(0), all += refuse_each(1), faults += damage();
+        for (intptr_t number = 0; number < THREADS; number++)
+            pthread_create(&threads[number], NULL, call_often, (void *)number);
+        for (int number = 0; number < THREADS; number++)
+            pthread_join(threads[number], NULL);
+    }
+    printf("refused %ld and %ld, faults %ld of %d texts, wrong %d\n", once, all, faults, TEXTS + (TRIED - 1) * FEWER, wrong);
     return wrong != 0;
 }

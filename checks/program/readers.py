@@ -97,7 +97,8 @@ class Told:
         self.merged = 0
         self.ticks: dict[str, dict[str, int]] = {}
         for words in map(str.split, text.splitlines()):
-            if words[0].isdigit():
+            # which threads are unjudged the tools do not say
+            if words[0].isdigit() and words[2] != 'unjudged':
                 self.lines[' '.join(words[:COMPARED[words[2]]])] += 1
             elif words[0] == 'chain':
                 self.lines[' '.join(words[:FIGURES])] += 1

@@ -24,13 +24,15 @@ TELLING = ('release', 'run', 'stop', 'wake')
 OF_THREADS = (*TELLING, 'got', 'round', 'enter', 'leave')
 PARTS = ('ready', 'running', 'throttled', 'blocked', 'woken')
 STANDINGS = ('pending', *PARTS, 'done')
-KINDS = ('missed', 'overdue', 'lost', 'never', 'merged', 'allowed', 'hints')
+KINDS = ('missed', 'overdue', 'lost', 'never', 'merged', 'allowed', 'unjudged', 'hints', 'threads', 'deadlines', 'judged')
 # what is counted of chains, in a file that has one
 OF_CHAINS = ('slow', 'unanswered')
 FOUND = (*KINDS[:4], *OF_CHAINS)
+# what is no finding, unless doubts count
+DOUBTFUL = ('unjudged', 'hints')
 # the words of a line before those that have their name before them
 FIRST = {
-    'miss': ('thread', 'number', 'response'), 'overdue': ('thread',), 'lost': ('note', 'word'), 'never': ('thread',), 'job': ('thread', 'number'),
+    'miss': ('thread', 'number', 'response'), 'overdue': ('thread',), 'lost': ('note', 'word'), 'never': ('thread',), 'unjudged': ('thread',), 'job': ('thread', 'number'),
     'slow': ('chain', 'latency'), 'unanswered': ('chain',),
 }
 # the values that are names
@@ -44,6 +46,8 @@ COLUMNS = {
     ),
 }
 HINTS = {'note': 'unsignalled', 'context': 'unbound', 'core': 'overcommitted'}
+# hints of the whole system, and of a core on which nothing runs
+NO_THREAD, NO_DEADLINE, UNUSED = 'hint no thread', 'hint no thread has a deadline', 'hint core %s has no thread'
 
 
 class Row(NamedTuple):
@@ -195,7 +199,7 @@ class Round(NamedTuple):
 
     @property
     def since(self) -> int:
-        """When it was activated, which of a round that has ended is known."""
+        """When it was activated, which of a round that has ended or is open is known."""
         assert self.activated is not None
         return self.activated
 
@@ -221,7 +225,10 @@ class Wanted(NamedTuple):
     counts: dict[str, int]
 
     def status(self, is_strict: bool = False) -> int:
-        return 5 if any(self.counts.get(kind) for kind in FOUND) or is_strict and self.counts['hints'] else 0
+        """5 if something is found, doubts too if they count; else 6 if no deadline was judged, and 0 if one was."""
+        if any(self.counts.get(kind) for kind in (*FOUND, *(DOUBTFUL if is_strict else ()))):
+            return 5
+        return 0 if self.counts['judged'] else 6
 
 
 class Reading:
@@ -316,15 +323,18 @@ class Reading:
                 return 'missed', f'{row.moment} {row.core} miss {thread} {number} {response} {self.late(thread, ended)}'
         return None
 
-    def overdue(self, thread: str) -> Optional[Round]:
-        """The round that can only miss its deadline, if there is one: under way, or yet to begin by a word that is held."""
+    def open_round(self, thread: str) -> Optional[Round]:
+        """The round that is activated and has not ended, if there is one: under way, or yet to begin by a word that is held."""
         waits = self.first_wait(thread)
         pending = self.round_at(self.whole, thread, self.horizon)
         if pending is None and waits and not self.whole.is_done(thread) and self.is_held(thread, waits):
             pending = Round(self.horizon, self.whole.word(waits)[1], [], [])
-        if pending is None or pending.activated is None:
-            return None
-        return pending if 0 < self.deadline(thread) <= self.horizon - pending.activated else None
+        return None if pending is None or pending.activated is None else pending
+
+    def overdue(self, thread: str) -> Optional[Round]:
+        """The round that can only miss its deadline, if there is one."""
+        pending = self.open_round(thread)
+        return pending if pending and 0 < self.deadline(thread) <= self.horizon - pending.since else None
 
     def is_held(self, thread: str, note: str) -> bool:
         """Whether the notification's word leaves the thread something to do."""
@@ -336,18 +346,52 @@ class Reading:
             return self.is_held(thread, waits) or any(map(self.begins, self.whole.of_thread(thread)))
         return bool({'ready', 'running'} & set(self.whole.standings(thread, 0, self.horizon)))
 
+    def head(self, thread: str) -> str:
+        """The horizon and the thread's core, with which a line about it begins."""
+        return f'{self.horizon} {self.contexts[self.threads[thread]["context"]]["core"]}'
+
     def found_at_end(self, thread: str) -> Optional[tuple[str, str]]:
-        head = f'{self.horizon} {self.contexts[self.threads[thread]["context"]]["core"]}'
+        head = self.head(thread)
         if late := self.overdue(thread):
             return 'overdue', f'{head} overdue {thread} {self.late(thread, late)}'
         if self.deadline(thread) and not self.was_activated(thread):
             return 'never', f'{head} never {thread} deadline {self.deadline(thread)}'
         return None
 
+    # ---- what was judged
+
+    def ends(self, thread: str) -> int:
+        """How many rounds of the thread ended."""
+        return sum(row.kind == 'round' for row in self.schedule.of_thread[thread])
+
+    def unjudged(self, thread: str) -> Optional[Round]:
+        """The first round of a thread with a deadline, if it is activated and it is open whether the deadline will be met: it has not ended, and still
+        has time."""
+        if not self.deadline(thread) or self.ends(thread) or self.overdue(thread):
+            return None
+        return self.open_round(thread)
+
+    def unjudged_lines(self) -> Iterator[tuple[str, str]]:
+        """The kind and the line of each thread that is unjudged."""
+        for thread in self.threads:
+            if young := self.unjudged(thread):
+                yield 'unjudged', f'{self.head(thread)} unjudged {thread} deadline {self.deadline(thread)} activated {young.activated}'
+
+    def with_deadline(self) -> list[str]:
+        return [thread for thread in self.threads if self.deadline(thread)]
+
+    def deadlines(self) -> int:
+        """How many deadlines there are."""
+        return len(self.with_deadline())
+
+    def judged(self) -> int:
+        """How often it is known whether a deadline was met: for each round that ended, and for one that is overdue."""
+        return sum(self.ends(thread) + (self.overdue(thread) is not None) for thread in self.with_deadline())
+
     @functools.cached_property
     def all_found(self) -> list[tuple[str, str]]:
-        """The kind and the line of all that is found."""
-        return list(filter(None, [*map(self.found, self.rows), *map(self.found_at_end, self.threads)]))
+        """The kind and the line of all that is found, and then of what is unjudged."""
+        return [*filter(None, [*map(self.found, self.rows), *map(self.found_at_end, self.threads)]), *self.unjudged_lines()]
 
     def jobs(self) -> Iterator[str]:
         """The line of each round that ended."""
@@ -396,6 +440,10 @@ class Reading:
         return [*map(self.figures, self.threads), *map(self.unused, self.contexts)]
 
     def hints(self) -> Iterator[str]:
+        if not self.threads:
+            yield NO_THREAD
+        elif not self.deadlines():
+            yield NO_DEADLINE
         items = [item for thread in self.threads.values() for item in items_of(self.servers, thread['script'])]
         used = {thread['context'] for thread in self.threads.values()}
         signalled = self.signalled | {item[1] for item in items if item[0] == 'signal'}
@@ -403,11 +451,13 @@ class Reading:
             if ['wait', note] in items and note not in signalled:
                 yield f'hint note {note} is waited on and no script signals it'
         yield from (f'hint context {name} has no thread' for name in self.contexts if name not in used)
-        for core in range(self.cores):
-            on_core = [context for name, context in self.contexts.items() if context['core'] == core and name in used]
+        on_cores = {core: [c for name, c in self.contexts.items() if c['core'] == core and name in used] for core in range(self.cores)}
+        yield from (UNUSED % core for core, on_core in on_cores.items() if not on_core)
+        for core, on_core in on_cores.items():
             parts = [Fraction(c['budget'], c['period']) for c in on_core if c['budget'] < c['period']]
             if sum(parts) > 1:
-                yield f'hint core {core} grants {sum(int(part * 1_000_000) for part in parts)} of 1000000'
+                # shares are rounded down, and their sum is to be seen to be above 1
+                yield f'hint core {core} grants {max(sum(int(part * 1_000_000) for part in parts), 1_000_001)} of 1000000'
 
     def wanted(self, allowed: Sequence[str] = (), show: str = 'findings', form: str = 'text') -> Wanted:
         """What is written of all this, where these notifications may lose signals: findings and hints, jobs, or figures, and what is counted."""
@@ -417,7 +467,7 @@ class Reading:
                 kind, line = 'allowed', ''
             counts[kind] += 1
             lines += [line] if line else []
-        counts['hints'] = len(hints)
+        counts.update(hints=len(hints), threads=len(self.threads), deadlines=self.deadlines(), judged=self.judged())
         shown, hinted = (lines, hints) if show in ('findings', 'both') else ([*self.jobs()] if show == 'jobs' else [], [])
         figures = self.table() if show in ('table', 'both') else []
         if form == 'csv':
@@ -459,7 +509,11 @@ def values_of(line: str) -> dict[str, int | str]:
 
 
 def values_of_hint(line: str) -> dict[str, int | str]:
+    if line in (NO_THREAD, NO_DEADLINE):
+        return {'kind': 'hint', 'hint': 'no_thread' if line == NO_THREAD else 'no_deadline'}
     _, what, name, *rest = line.split()
+    if line == UNUSED % name:
+        return {'kind': 'hint', 'hint': 'unused', 'core': int(name)}
     values: dict[str, int | str] = {'core': int(name), 'grants': int(rest[1])} if what == 'core' else {what: name}
     return {'kind': 'hint', 'hint': HINTS[what], **values}
 

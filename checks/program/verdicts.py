@@ -1,11 +1,11 @@
 #!/usr/bin/env python3
 """Checks that mcscheck writes what a second, plain reading of the rows finds, byte for byte, on 1,000 random systems.
 
-Each random system has deadlines, signals that are lost or merged, orders, and contexts without a thread; it is checked as it is, once more with some
+Each random system has deadlines, signals that are lost or merged, orders, and contexts without a thread, and a few have no deadline or no thread; it is checked as it is, once more with some
 of the words --workers, --strict and --allow-lost, and with the rounds that ended or figures in place of findings, and some with a notification that
 it has not; and it is asked why a few of its rounds took so long. A system that mcsim refuses is refused with the same fault. Two laws of schedules are
-tried meanwhile on what is written: a round's parts are the ticks of its response in its `round` row, and the ticks in which the rows say that a
-thread runs are those of the reports. Then come systems of this repository whose findings are known. A kind of finding, of a part or of a status that
+tried meanwhile on what is written: a round's parts are the ticks of its response in its `round` row, the ticks in which the rows say that a
+thread runs are those of the reports, and each thread with a deadline ended a round, or is overdue, never activated or unjudged. Then come systems of this repository whose findings are known. A kind of finding, of a part or of a status that
 was seen nowhere is a failure: a test that sees nothing of it tells nothing."""
 from __future__ import annotations
 
@@ -50,8 +50,9 @@ thread = [
 '''
 # what the random systems have to show; a part is shown where it is not 0
 SEEN = (
-    *reading.KINDS, 'hint note', 'hint context', 'hint core', 'status 0', 'status 1', 'status 2', 'status 5', 'found by hints alone',
-    'lost only where it is allowed', 'the nearest is', 'there is none', 'activated late', 'yet to begin',
+    *reading.KINDS, 'hint note', 'hint context', 'hint core', 'hint core is unused', reading.NO_THREAD, reading.NO_DEADLINE,
+    'status 0', 'status 1', 'status 2', 'status 5', 'status 6', 'found by doubts alone', 'nothing is judged', 'found, and nothing is judged',
+    'unjudged by a word that is held', 'unjudged, and under way', 'lost only where it is allowed', 'the nearest is', 'there is none', 'activated late', 'yet to begin',
     *(f'miss {part}' for part in ('queued', *reading.PARTS[:4])), *(f'overdue {part}' for part in ('queued', *reading.PARTS)),
     *(f'job {part}' for part in ('queued', 'preemptions', *reading.PARTS[:4])), 'jobs that are preempted twice',
     *(f'{show} as {form}' for show in ('findings', 'jobs', 'table') for form in ('csv', 'json')), 'table as text', 'both as text', 'both as json', 'both as csv',
@@ -78,6 +79,14 @@ def renamed(item: str, rng: random.Random) -> str:
     return ' '.join([word, *rest])
 
 
+def judging_nothing(rng: random.Random, tables: Tables) -> None:
+    """Leaves the system no deadline, or no thread."""
+    if rng.random() < 0.3:
+        tables['thread'] = []
+    for thread in tables['thread']:
+        thread['deadline'] = 0
+
+
 def tables_of(rng: random.Random) -> Tables:
     """A random system with all that can be found."""
     tables = tomllib.loads(system_of(rng).text())
@@ -93,6 +102,8 @@ def tables_of(rng: random.Random) -> Tables:
         tables['thread'].pop(rng.randrange(len(tables['thread'])))
     if rng.random() < 0.2:
         tables['order'] = [order_of(rng, rng.choice(tables['context'])) for _ in range(rng.randint(1, 3))]
+    if rng.random() < 0.05:
+        judging_nothing(rng, tables)
     return with_version_3(rng, tables) if rng.random() < NEW else tables
 
 
@@ -163,7 +174,7 @@ class Trial:
         rng.shuffle(words)
         wanted = found.wanted(allowed, 'both')
         self.seen['allowed'] += wanted.counts['allowed']
-        self.seen['found by hints alone'] += wanted.status() != wanted.status(is_strict)
+        self.seen['found by doubts alone'] += wanted.status() != wanted.status(is_strict)
         self.seen['lost only where it is allowed'] += wanted.status() != found.wanted().status()
         self.wants(system, words, answer(wanted, is_strict))
 
@@ -268,6 +279,10 @@ class Trial:
         for thread in found.threads:
             if (late := found.overdue(thread)) and not late.standings:
                 self.seen['yet to begin'] += 1
+            if young := found.unjudged(thread):
+                self.seen['unjudged, and under way' if young.rows else 'unjudged by a word that is held'] += 1
+        if not wanted.counts['judged']:
+            self.seen['found, and nothing is judged' if wanted.status() == 5 else 'nothing is judged'] += 1
         self.seen.update(what for row, before in zip(found.rows[1:], found.rows) for what in told_by(row, before, found))
         self.seen['activated late'] += sum(ended is not None and (ended.activated or 0) > ended.begun for ended in found.ended.values())
 
@@ -275,7 +290,7 @@ class Trial:
         """Counts the lines that have some of each part, and the kinds of hints."""
         for line in wanted.text.splitlines():
             words = line.split()
-            self.seen[' '.join(words[:2])] += words[0] == 'hint'
+            self.seen[kind_of_hint(line)] += words[0] == 'hint'
             if 'activated' in words:
                 pairs = words[words.index('activated'):]
                 self.seen.update(f'{words[2]} {part}' for part, many in zip(pairs[::2], pairs[1::2]) if many != '0')
@@ -294,6 +309,14 @@ class Trial:
         self.count.expect(f'{system.name}: found {found}, status {ran.status}', (found, ran.status) == (kinds, 5 if kinds else 0))
         self.count.expect(f'{system.name}: {lines}', bool(kinds) or not lines)
         self.agrees(system, random.Random(system.name))
+
+
+def kind_of_hint(line: str) -> str:
+    """The kind of a hint: that of a part of the system, or all of it."""
+    words = line.split()
+    if line == reading.UNUSED % words[2]:
+        return 'hint core is unused'
+    return line if words[1] == 'no' else ' '.join(words[:2])
 
 
 def told_by(row: reading.Row, before: reading.Row, found: Reading) -> Iterator[str]:
@@ -324,6 +347,9 @@ def broken(found: Reading, reports: dict[str, dict[str, int]]) -> Iterator[str]:
         ran = found.whole.standings(thread, 0, found.horizon).count('running')
         if ran != report['ran']:
             yield f'{thread} runs for {ran} ticks by the rows, and {report["ran"]} by its report'
+    for thread in found.with_deadline():
+        if not (found.ends(thread) or found.overdue(thread) or found.unjudged(thread) or not found.was_activated(thread)):
+            yield f'{thread} is activated, ended no round, and is neither overdue nor unjudged'
     for row in found.rows:
         if row.kind == 'round':
             ended = found.ended[row.place]

@@ -9,7 +9,7 @@ There are three kinds of systems:
 - Small sets of tasks, of which all combinations are tried. Each has to show the worst case.
 - Systems with passive servers, sporadic and bandwidth contexts, and jitter. The search has to find
   at least what a plain random search of ten times as many runs finds in four of five of them. It
-  does in 9 of 10 systems of other seeds. In the others one or two points in 5,000 show the worst.
+  does in 105 of 115 systems of another seed with 500 runs, and in 109 with 2,000.
 
 The script also writes in how many sets a search finds the worst case that does not begin at the
 critical instant, which is no failure."""
@@ -29,8 +29,9 @@ from checks import common
 from checks.common import TOP, Count
 
 sys.path.insert(0, str(TOP / 'tools'))
-from mcsim_tools import climbing, ranges, tasks, workers, worst
+from mcsim_tools import climbing, guiding, ranges, tasks, workers, worst
 from mcsim_tools.climbing import Climb, Point
+from mcsim_tools.guiding import Guide
 from mcsim_tools.ranges import Space
 from mcsim_tools.tasks import Form
 from mcsim_tools.trying import Responses
@@ -50,6 +51,13 @@ BLIND = 'found from random points alone'
 Done = TypeVar('Done')
 
 
+class Tried(NamedTuple):
+    """The programs: mcscheck, and mcsim."""
+
+    checker: str
+    program: str
+
+
 class Trial(NamedTuple):
     """A space with the thread that is looked at, the last moment, and the worst case if it is known."""
 
@@ -66,9 +74,16 @@ class Found(NamedTuple):
     runs: int
 
 
-def searched(checker: str, trial: Trial, batches: climbing.Batches) -> Found:
+def climb(tried: Tried, trial: Trial, runs: int, seed: int) -> climbing.Batches:
+    """The search of the tool."""
+    question = Responses(tried.checker, trial.thread, trial.horizon)
+    guide = Guide(trial.space, trial.horizon, guiding.runs_of(trial.space, question, tried.program))
+    return worst.climb(trial.space, runs, seed, guide).run()
+
+
+def searched(tried: Tried, trial: Trial, batches: climbing.Batches) -> Found:
     """Runs a search until it finds the bound, if there is one, or to its end."""
-    question = Responses(checker, trial.thread, trial.horizon)
+    question = Responses(tried.checker, trial.thread, trial.horizon)
     best = runs = 0
 
     def values(batch: list[Point]) -> list[climbing.Value]:
@@ -115,24 +130,24 @@ def set_of(rng: random.Random, has_clocks: bool, many: tuple[int, int], periods:
         return Trial(opened(form), form.tasks[place].name, horizon, bounds[place])
 
 
-def try_tasks(checker: str, seed: str, number: int) -> tuple[Found, Found, Optional[int], Optional[int]]:
+def try_tasks(tried: Tried, seed: str, number: int) -> tuple[Found, Found, Optional[int], Optional[int]]:
     """What the search finds, and that which begins at random points; the bound, and that of the tool."""
     rng = random.Random(f'{seed} tasks {number}')
     trial = set_of(rng, number % 2 == 1, (3, 7), (10, 300))
-    found = searched(checker, trial, worst.climb(trial.space, RUNS, number).run())
+    found = searched(tried, trial, climb(tried, trial, RUNS, number))
     drawn = tuple(rng.randrange(size) for size in trial.space.sizes)
-    blind = searched(checker, trial, Climb(trial.space.sizes, [drawn], RUNS, number).run())
+    blind = searched(tried, trial, Climb(trial.space.sizes, [drawn], RUNS, number).run())
     return found, blind, trial.bound, worst.bound_of(trial.space, trial.thread)[0]
 
 
-def try_small(checker: str, seed: str, number: int) -> tuple[int, Optional[int], str]:
+def try_small(tried: Tried, seed: str, number: int) -> tuple[int, Optional[int], str]:
     """The worst of all combinations, and the bound."""
     rng = random.Random(f'{seed} small {number}')
     while True:
         trial = set_of(rng, number % 2 == 1, (2, 3), (4, 30))
         if trial.space.count <= SMALL:
             break
-    found = searched(checker, trial._replace(bound=None), climbing.exhaust(trial.space.all()))
+    found = searched(tried, trial._replace(bound=None), climbing.exhaust(trial.space.all()))
     return found.value, trial.bound, f'{found.runs} runs'
 
 
@@ -161,7 +176,7 @@ def system_with_servers(rng: random.Random) -> dict[str, Any]:
     return tables
 
 
-def try_servers(runs: int, checker: str, seed: str, number: int) -> tuple[Found, Found]:
+def try_servers(runs: int, tried: Tried, seed: str, number: int) -> tuple[Found, Found]:
     """What the search finds, and a plain random search of ten times as many runs."""
     rng = random.Random(f'{seed} servers {number}')
     tables = system_with_servers(rng)
@@ -170,23 +185,23 @@ def try_servers(runs: int, checker: str, seed: str, number: int) -> tuple[Found,
         texts.append('source.t0.at=jitter 9')
     space = Space(tables, [ranges.choice_of(text, tables, 1000) for text in texts])
     trial = Trial(space, 't0', 1000)
-    found = searched(checker, trial, worst.climb(space, runs, number).run())
+    found = searched(tried, trial, climb(tried, trial, runs, number))
     drawn = (tuple(rng.randrange(size) for size in space.sizes) for _ in range(TIMES * runs))
-    return found, searched(checker, trial, climbing.exhaust(drawn))
+    return found, searched(tried, trial, climbing.exhaust(drawn))
 
 
 # ---- all of them
 
 
-def on_all(work: Callable[[str, str, int], Done], checker: str, seed: str, many: int) -> Iterator[Done]:
-    with workers.in_order(lambda number: work(checker, seed, number), range(many), min(workers.processors(), max(1, many))) as results:
+def on_all(work: Callable[[Tried, str, int], Done], tried: Tried, seed: str, many: int) -> Iterator[Done]:
+    with workers.in_order(lambda number: work(tried, seed, number), range(many), min(workers.processors(), max(1, many))) as results:
         yield from results
 
 
-def look_at_tasks(checker: str, seed: str, many: int, count: Count) -> None:
+def look_at_tasks(tried: Tried, seed: str, many: int, count: Count) -> None:
     reached = blind = 0
     runs = []
-    for number, (found, other, bound, told) in enumerate(on_all(try_tasks, checker, seed, many)):
+    for number, (found, other, bound, told) in enumerate(on_all(try_tasks, tried, seed, many)):
         reached += found.value == bound
         blind += other.value == bound
         runs.append(found.runs)
@@ -196,15 +211,15 @@ def look_at_tasks(checker: str, seed: str, many: int, count: Count) -> None:
     count.expect(f'{reached} of {many} is less than {WANTED:.0%}', reached >= WANTED * many)
 
 
-def look_at_small(checker: str, seed: str, many: int, count: Count) -> None:
-    for number, (value, bound, runs) in enumerate(on_all(try_small, checker, seed, many)):
+def look_at_small(tried: Tried, seed: str, many: int, count: Count) -> None:
+    for number, (value, bound, runs) in enumerate(on_all(try_small, tried, seed, many)):
         count.expect(f'small set {number} of seed {seed}: worst {value} of {runs}, bound {bound}', value == bound)
     print(f'small sets: {many}')
 
 
-def look_at_servers(checker: str, seed: str, many: int, runs: int, count: Count) -> None:
+def look_at_servers(tried: Tried, seed: str, many: int, runs: int, count: Count) -> None:
     more = same = 0
-    for number, (found, other) in enumerate(on_all(functools.partial(try_servers, runs), checker, seed, many)):
+    for number, (found, other) in enumerate(on_all(functools.partial(try_servers, runs), tried, seed, many)):
         more += found.value > other.value
         same += found.value == other.value
         if found.value < other.value:
@@ -225,10 +240,11 @@ def main() -> None:
     if checker is None:
         count.skip('mcscheck, which is not there')
         count.end()
+    tried = Tried(str(checker), str(program))
     tenth = max(1, words.sets // 10)
-    look_at_tasks(str(checker), str(words.seed), words.sets, count)
-    look_at_small(str(checker), str(words.seed), tenth if words.small is None else words.small, count)
-    look_at_servers(str(checker), str(words.seed), max(SERVERS, tenth) if words.servers is None else words.servers, words.runs, count)
+    look_at_tasks(tried, str(words.seed), words.sets, count)
+    look_at_small(tried, str(words.seed), tenth if words.small is None else words.small, count)
+    look_at_servers(tried, str(words.seed), max(SERVERS, tenth) if words.servers is None else words.servers, words.runs, count)
     count.end()
 
 

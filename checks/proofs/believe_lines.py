@@ -78,6 +78,8 @@ SAYS = {
         'moved': 'the sets after a row with this effect',
     },
     'mcs_chain/specs/Watch.antt': {
+        'judged_many': 'the judged answers of a chain in all rows so far, at most 2^64 - 1',
+        'judged_sum': 'the judged answers of a chain in all rows so far',
         'Watch': 'what a watch of all chains keeps: how far each thread is, and something of each chain',
         'One': 'what is kept of a chain',
         'due_of_one': 'the slow answers of a chain that are due',
@@ -341,10 +343,11 @@ SAYS = {
         'part_where': 'the exact utilisation of a context, if it has a thread and is sporadic',
     },
     'mcs_hints/specs/Cores.antt': {
+        'unused': 'the hint of a core without a thread',
         'overcommitted': 'the hint of a core that grants more than all of its time',
         'parts_of': "the parts of its time that a core's contexts with threads are granted",
     },
-    'mcs_check/specs/Told.antt': {
+    'mcs_check_lines/specs/Told.antt': {
         'is_overdue': 'whether a finding is that a round is overdue',
         'is_never': 'whether a finding is that a thread was never activated',
         'is_lost': 'whether a finding is a lost signal',
@@ -354,7 +357,7 @@ SAYS = {
         'Text': 'bytes',
         'members_of': 'the members of a JSON object with these fields',
     },
-    'mcs_check/specs/Chains.antt': {
+    'mcs_check_lines/specs/Chains.antt': {
         'chain_name': 'the name of the chain with this number',
         'chain_words': 'the words of a finding of a chain, without its time and core',
         'chain_kind': 'the word for a finding of a chain',
@@ -369,10 +372,10 @@ SAYS = {
     'mcs_check/specs/Check.antt': {
         'counts_of': 'the counts of threads and notifications, and those of chains',
     },
-    'mcs_check/specs/Lines.antt': {
+    'mcs_check_lines/specs/Lines.antt': {
         'chain_count_words': 'the words of the counts of chains, if the file has a chain',
     },
-    'mcs_check/specs/Fields.antt': {
+    'mcs_check_lines/specs/Fields.antt': {
         'checked_fields': 'the fields of the counts, with those of chains',
         'chain_count_fields': 'the fields of the counts of chains, if the file has a chain',
         'Fields': 'values, each with its name before it',
@@ -381,7 +384,7 @@ SAYS = {
         'number_of': 'the number of a round that missed its deadline',
         'deadline_of': 'the deadline that was missed, or that a thread without a job has',
     },
-    'mcs_check/specs/Formats.antt': {
+    'mcs_check_lines/specs/Formats.antt': {
         'head_text': 'the first line of CSV',
         'found_line': 'the line of a finding',
         'job_line': 'the line of a round that ended',
@@ -390,7 +393,7 @@ SAYS = {
     'mcs_check_words/specs/CommandLine.antt': {
         'question_texts': 'the texts of a question: of the thread and of the round',
     },
-    'mcs_check/specs/RowFields.antt': {
+    'mcs_check_lines/specs/RowFields.antt': {
         'charged_of': 'the charge of a thread that stops',
         'until_of': 'the date of a thread that stops and enters the release queue',
         'maker_of': 'the core that made a signal which arrives',
@@ -398,13 +401,15 @@ SAYS = {
         'of_note': 'the value, if the note is a notification and no server',
         'server_of': 'the server of a row, if it has one',
     },
-    'mcs_check/specs/Why.antt': {
+    'mcs_check_lines/specs/Account.antt': {
         'span_fields': 'the fields of a job that `--why` explains',
         'span_text': 'the line of such a job in words',
         'span_line': 'the line of such a job, in words or as a JSON object',
         'told_ran': 'the line of how long a thread ran',
         'ran_line': 'the line of how long a thread ran; none if it did not run',
         'idle_line': 'the line of how long the core was idle',
+    },
+    'mcs_check/specs/Why.antt': {
         'is_there': 'whether the job that is asked about is there',
         'why_text': 'the text about the job that is asked about',
     },
@@ -432,7 +437,7 @@ SAYS = {
         'merged_note': 'the notification of a signal, if it is coalesced',
         'merged_by': 'the notification on which this row, after those before it, coalesces a signal',
     },
-    'mcs_check/specs/Figures.antt': {
+    'mcs_check_lines/specs/Figures.antt': {
         'merged_value': 'the number of coalesced signals, if the script begins with a wait',
         'thread_fields': "the fields of a thread's figures, with its name",
         'thread_text': "the line of a thread's figures in words",
@@ -447,6 +452,7 @@ SAYS = {
         'CallsWait': 'a `call` stop is of a thread at an `Enter` whose server another thread has, which is not ready',
     },
     'mcs_check_forever/specs/Verdict.antt': {
+        'totals_of': 'the numbers of the last line',
         'findings': 'the findings of all sets',
     },
     'mcs_ever_told/specs/Outlook.antt': {
@@ -472,14 +478,31 @@ SAYS = {
     'mcs_ever/specs/Later.antt': {
         'RoundKeepsUp': 'the thread runs further by as many ticks as the clock',
     },
+    'mcs_hints/specs/Whole.antt': {
+        'nothing_to_judge': 'the hint of a file without a thread, or without a deadline',
+    },
+    'mcs_check/specs/Judged.antt': {
+        'scope_of': 'how much a check judges',
+        'unjudged': 'the thread as an unjudged one, if it is',
+        'earlier': 'the earlier of two times, if there are two',
+    },
+    'mcs_check_lines/specs/Deadlines.antt': {
+        'chain_deadlines': 'how many chains have a deadline',
+    },
+    'mcs_check_lines/specs/Unjudged.antt': {
+        'unjudged_line': 'the line of an unjudged thread, in each format',
+        'unjudged_words': 'the words of an unjudged thread, without its time and core',
+        'time_words': 'the deadline and the activation',
+    },
 }
 
 # by file, the definitions whose names say enough: they have no comment on the page
 PLAIN = {
     'mcs_chain/specs/Answers.antt': 'is_interrupt'.split(),
-    'mcs_check/specs/Fields.antt': 'response_of'.split(),
-    'mcs_check/specs/Formats.antt': 'counts_line hint_line'.split(),
-    'mcs_check/specs/Told.antt': 'is_miss'.split(),
+    'mcs_check_lines/specs/Deadlines.antt': 'has_chain_deadline'.split(),
+    'mcs_check_lines/specs/Fields.antt': 'response_of'.split(),
+    'mcs_check_lines/specs/Formats.antt': 'counts_line hint_line'.split(),
+    'mcs_check_lines/specs/Told.antt': 'is_miss'.split(),
     'mcs_check/specs/Why.antt': 'is_csv'.split(),
     'mcs_check_forever/specs/Foretold.antt': 'is_rows'.split(),
     'mcs_control/specs/Context.antt': (
@@ -697,6 +720,7 @@ WORDS = {
         'sum_by': 'the sum of the numbers that this makes of the elements',
     },
     'std.Option': {
+        'option_to_list': 'the value of an option as a list: of one element, or empty',
         'option_map': 'the changed value, or `None`',
     },
     'std.Str': {

@@ -68,7 +68,7 @@ nothing is ever found
 cores 1: repeats from 2 with period 20
 thread Clock: greatest response 1
 nothing is ever found
-sets 2 repeating 2 findings 0
+sets 2 repeating 2 findings 0 threads 2 deadlines 1
 '''
 IN_TIME_AS_JSON = '''{"kind":"repeats","cores":"0 1","from":13,"period":10}
 {"kind":"thread","thread":"Loop","greatest":2,"throttled":"never"}
@@ -76,7 +76,7 @@ IN_TIME_AS_JSON = '''{"kind":"repeats","cores":"0 1","from":13,"period":10}
 {"kind":"repeats","cores":"1","from":2,"period":20}
 {"kind":"thread","thread":"Clock","greatest":1}
 {"kind":"clean","cores":"1"}
-{"kind":"sets","sets":2,"repeating":2,"findings":0}
+{"kind":"sets","sets":2,"repeating":2,"findings":0,"threads":2,"deadlines":1}
 '''
 # at 23 the round that was called at 22 is under way, and can only be late; to 4, to 14, .. are one round and two
 TOO_LATE = '''cores 0 1: repeats from 14 with period 10
@@ -85,7 +85,7 @@ overdue Loop at 23
 thread Loop: greatest response 2, throttled: never
 cores 1: no repetition found up to 95
 thread Clock: greatest response 1 so far
-sets 2 repeating 1 findings 2
+sets 2 repeating 1 findings 2 threads 2 deadlines 1
 '''
 TOO_LATE_AS_JSON = '''{"kind":"repeats","cores":"0 1","from":14,"period":10}
 {"kind":"miss","thread":"Loop","each_period":1,"before":1}
@@ -93,7 +93,7 @@ TOO_LATE_AS_JSON = '''{"kind":"repeats","cores":"0 1","from":14,"period":10}
 {"kind":"thread","thread":"Loop","greatest":2,"throttled":"never"}
 {"kind":"open","cores":"1","horizon":95}
 {"kind":"thread_so_far","thread":"Clock","greatest":1}
-{"kind":"sets","sets":2,"repeating":1,"findings":2}
+{"kind":"sets","sets":2,"repeating":1,"findings":2,"threads":2,"deadlines":1}
 '''
 # nobody takes what T signals each 10, so that all but the first are lost; U waits for what nobody signals, and V ends once
 LOST = '''version = 1
@@ -134,9 +134,12 @@ never U up to 34
 thread T: greatest response 1
 thread U: greatest response -, throttled: never, ends no round from 15 on
 thread V: greatest response 3, throttled: never, ends no round from 15 on
-sets 1 repeating 1 findings 2
+sets 1 repeating 1 findings 2 threads 3 deadlines 1
 '''
 ALLOWED_TEXT = LOST_TEXT.replace('lost n: 2 in each period, 1 before\n', '').replace('findings 2', 'findings 1')
+# the same where V has a deadline, which it meets, in place of U; and what is said of it where signals of n may be lost
+QUIET = LOST.replace('deadline = 3, ', '').replace('rounds = 1,', 'rounds = 1, deadline = 5,')
+QUIET_TEXT = ALLOWED_TEXT.replace('never U up to 34\n', '').replace('findings 1', 'findings 0').replace('sets', 'nothing is ever found\nsets')
 
 
 def rows(first: str, later: str, far: int) -> str:
@@ -167,8 +170,8 @@ def as_json(text: str) -> str:
                 of = 'thread_so_far' if rest == ['so', 'far'] else 'thread'
                 never = {'throttled': 'never'} if 'throttled' in rest else {}
                 found.append({'kind': of, 'thread': name, **number, **never, **({'ends_no_round_from': int(rest[-2])} if 'ends' in rest else {})})
-            case ['sets', sets, 'repeating', repeating, 'findings', findings]:
-                found.append({'kind': 'sets', 'sets': int(sets), 'repeating': int(repeating), 'findings': int(findings)})
+            case ['sets', *_]:
+                found.append({'kind': 'sets', **{key: int(number) for key, number in zip(words[::2], words[1::2])}})
             case ['nothing', *_]:
                 found.append({'kind': 'clean', 'cores': next(each['cores'] for each in reversed(found) if 'cores' in each)})
     return ''.join(json.dumps(each, separators=(',', ':')) + '\n' for each in found)
@@ -214,8 +217,15 @@ class RightPrograms(Programs):
 
     def test_lost_signals_that_are_allowed_are_not_told(self) -> None:
         self.assertEqual(self.failed(LOST, ALLOWED_TEXT, 5, LOST_FIRST, LOST_NEXT, allowed=('n',)), 0)
-        quiet = ALLOWED_TEXT.replace('never U up to 34\n', '').replace('findings 1', 'findings 0')
-        self.assertEqual(self.failed(LOST.replace('deadline = 3, ', ''), quiet, 0, LOST_FIRST, LOST_NEXT, allowed=('n',)), 0)
+        quiet = QUIET_TEXT.replace('nothing is ever found\n', '')
+        self.assertEqual(self.failed(QUIET, quiet, 0, LOST_FIRST, LOST_NEXT, allowed=('n',)), 0)
+
+    def test_nothing_is_judged_without_a_deadline(self) -> None:
+        text = QUIET_TEXT.replace('deadlines 1', 'deadlines 0')
+        for status in (0, 6):
+            failed = self.failed(QUIET.replace('deadline = 5, ', ''), text, status, LOST_FIRST, LOST_NEXT, allowed=('n',))
+            self.assertEqual(failed, 2 * (status != 6))
+        self.assertEqual(self.seen['clean without a deadline'], 1)
 
     def test_nothing_is_found_so_far(self) -> None:
         text = 'cores 0 1: no repetition found up to 95\nthread Loop: greatest response 2 so far\n' + IN_TIME.split('found\n', 1)[1].replace('g 2 f', 'g 1 f')
@@ -242,8 +252,8 @@ class WrongPrograms(Programs):
     def test_a_first_period_in_which_less_is_lost(self) -> None:
         # the signal of 1 is held, and each from 11 on is lost, though the rows are the same
         text, first = LOST.partition('    { name = "U"')[0] + ']', LOST_NEXT.format('', 1)
-        good = 'cores 0: repeats from 2 with period 10\nlost n: 1 in each period, 0 before\nthread T: greatest response 1\nsets 1 repeating 1 findings 1\n'
-        bad = 'cores 0: repeats from 0 with period 10\nthread T: greatest response 1\nsets 1 repeating 1 findings 0\n'
+        good = 'cores 0: repeats from 2 with period 10\nlost n: 1 in each period, 0 before\nthread T: greatest response 1\nsets 1 repeating 1 findings 1 threads 1 deadlines 0\n'
+        bad = 'cores 0: repeats from 0 with period 10\nthread T: greatest response 1\nsets 1 repeating 1 findings 0 threads 1 deadlines 0\n'
         self.assertEqual(self.failed(text, good, 5, first, LOST_NEXT), 0)
         self.assertEqual(self.failed(text, bad, 6, first, LOST_NEXT), 1)
 
@@ -257,7 +267,7 @@ class WrongPrograms(Programs):
             (', ends no round from 15 on', ''), ('ends no round from 15', 'ends no round from 35'),
             ('T: greatest response 1\n', 'T: greatest response 1, ends no round from 15 on\n'), ('up to 95', 'up to 94'),
             ('miss Loop', 'miss Clock'), ('lost n', 'lost m'), ('never U', 'never V'), ('findings 2', 'findings 3'),
-            ('repeating 1', 'repeating 2'), ('sets 2', 'sets 1'),
+            ('repeating 1', 'repeating 2'), ('sets 2', 'sets 1'), ('threads 2', 'threads 1'), ('deadlines 1', 'deadlines 2'),
         ):
             # as text, and as JSON
             self.assertEqual(self.replaced(old, new), 2, new)
@@ -276,10 +286,11 @@ class WrongPrograms(Programs):
     def test_nothing_is_ever_found_where_something_is(self) -> None:
         self.assertEqual(self.failed(LATE, TOO_LATE.replace('never\n', 'never\nnothing is ever found\n'), 5), 1)
         # but where it is allowed
-        text = ALLOWED_TEXT.replace('never U up to 34\n', '').replace('findings 1', 'findings 0').replace('sets', 'nothing is ever found\nsets')
-        system = LOST.replace('deadline = 3, ', '')
-        self.assertEqual(self.failed(system, text, 0, LOST_FIRST, LOST_NEXT, allowed=('n',)), 0)
-        self.assertGreaterEqual(self.failed(system, text, 0, LOST_FIRST, LOST_NEXT), 1)
+        self.assertEqual(self.failed(QUIET, QUIET_TEXT, 0, LOST_FIRST, LOST_NEXT, allowed=('n',)), 0)
+        self.assertGreaterEqual(self.failed(QUIET, QUIET_TEXT, 0, LOST_FIRST, LOST_NEXT), 1)
+
+    def test_nothing_is_found_and_that_is_not_said(self) -> None:
+        self.assertEqual(self.failed(LOOP, IN_TIME.replace('never\nnothing is ever found\n', 'never\n'), 0), 1)
 
     def test_lines_in_another_order(self) -> None:
         loop, clock, last = IN_TIME.split('found\n')
@@ -289,7 +300,7 @@ class WrongPrograms(Programs):
     def test_other_sets(self) -> None:
         self.assertGreaterEqual(self.replaced('cores 0 1', 'cores 0'), 1)
         self.assertGreaterEqual(self.replaced('cores 0 1', 'cores 1 0'), 1)
-        self.assertGreaterEqual(self.failed(LOOP, IN_TIME.partition('cores 1')[0] + 'sets 1 repeating 1 findings 0\n', 0), 1)
+        self.assertGreaterEqual(self.failed(LOOP, IN_TIME.partition('cores 1')[0] + 'sets 1 repeating 1 findings 0 threads 2 deadlines 1\n', 0), 1)
 
     def test_another_status(self) -> None:
         for status in (0, 1, 5, 6):

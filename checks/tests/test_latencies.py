@@ -99,7 +99,7 @@ class Readings(unittest.TestCase):
         self.assertEqual([line.split(',')[0] for line in loop().wanted(show='table', form='csv').text.splitlines()], ['kind', 'thread'])
 
     def test_an_exit_code_for_chains_alone(self) -> None:
-        counts = [{**dict.fromkeys(reading.KINDS, 0), 'slow': slow, 'unanswered': unanswered} for slow, unanswered in ((0, 0), (1, 0), (0, 1))]
+        counts = [{**dict.fromkeys(reading.KINDS, 0), 'judged': 1, 'slow': slow, 'unanswered': unanswered} for slow, unanswered in ((0, 0), (1, 0), (0, 1))]
         statuses = [reading.Wanted('', each).status() for each in counts]
         self.assertEqual(statuses, [0, 5, 5])
 
@@ -107,6 +107,12 @@ class Readings(unittest.TestCase):
         before = Chained(tomllib.loads(LOOP), ROWS.replace('52 0 interrupt s n 1\n52 0 hold n 1\n', ''), 51)
         self.assertNotIn('unanswered c', before.wanted().text)
         self.assertIn('52 0 unanswered c deadline 20 origin 32\n', loop().wanted().text)
+
+    def test_answers_are_judged_if_their_chain_has_a_deadline(self) -> None:
+        for text, many in ((LOOP, 4), (LOOP.replace(', deadline = 20', ''), 0)):
+            found = Chained(tomllib.loads(text), ROWS, 52)
+            self.assertEqual((found.deadlines(), found.judged(), len(list(found.hints()))), (int(many > 0), many, int(many == 0)))
+            self.assertEqual(found.wanted().status(), 5)
 
     def test_a_file_without_chains_has_nothing_of_them(self) -> None:
         tables = tomllib.loads(LOOP)
@@ -158,6 +164,10 @@ class WrongCheckers(unittest.TestCase):
 
     def test_another_percentile(self) -> None:
         self.assertEqual(self.replaced('p50 21', 'p50 20'), 2)
+
+    def test_other_counts_of_what_was_judged(self) -> None:
+        for old, new in (('judged 4', 'judged 3'), ('deadlines 1', 'deadlines 0'), ('unjudged 0', 'unjudged 1'), ('threads 1', 'threads 2')):
+            self.assertEqual(self.replaced(old, new), 3, new)
 
     def test_counts_without_chains(self) -> None:
         self.assertEqual(self.replaced(' slow 1 unanswered 1', ''), 3)

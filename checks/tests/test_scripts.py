@@ -168,29 +168,37 @@ class Rules(unittest.TestCase):
         self.assertFalse(pages.is_shown('..\n', ['a']))
 
     def test_a_block_ends_with_the_status_of_its_verdict(self) -> None:
-        clean, hints, late = (f'missed {late} overdue 0 lost 0 never 0 merged 1 allowed 1 hints {hints}' for late, hints in ((0, 0), (0, 1), (1, 0)))
+        def counts_of(late: int = 0, unjudged: int = 0, hints: int = 0, judged: int = 3) -> str:
+            return f'missed {late} overdue 0 lost 0 never 0 merged 1 allowed 1 unjudged {unjudged} hints {hints} threads 2 deadlines 1 judged {judged}'
+
+        clean, hints, late, young, nothing = counts_of(), counts_of(hints=1), counts_of(late=1), counts_of(unjudged=1), counts_of(judged=0)
         for block, last, status in (
             ('./mcscheck one.toml', clean, 0), ('./mcscheck one.toml', hints, 0), ('./mcscheck one.toml --strict', hints, 5), ('./mcscheck one.toml', late, 5),
+            ('./mcscheck one.toml', young, 0), ('./mcscheck one.toml --strict', young, 5), ('./mcscheck one.toml', nothing, 6),
+            ('./mcscheck one.toml --strict', nothing, 6), ('./mcscheck one.toml', counts_of(late=1, judged=0), 5),
             ('sed s/1/2/ one.toml | ./mcscheck', late, 5), ('./mcscheck one.toml | tail -n 1', late, 0), ('./mcsim one.toml', late, 0),
             ('tools/sweep one.toml --least call=1:2', 'call: under none of 1 to 2 nothing is found', 5),
             ('tools/sweep one.toml --least call=1:2', 'call 1: the least of 1 to 2 under which nothing is found', 0),
         ):
             self.assertEqual(pages.status_of(block, ['first', last]), status, (block, last))
-        self.assertEqual(pages.status_of('./mcscheck one.toml || status=$?\nexit $status', [late, clean]), 5)
+        for lines, status in (([late, clean], 5), ([late, nothing, clean], 6), ([nothing, late], 5), ([clean, 'first'], 0)):
+            self.assertEqual(pages.status_of('./mcscheck one.toml || status=$?\nexit $status', lines), status)
         for counts, status in (('slow 0 unanswered 0', 0), ('slow 1 unanswered 0', 5), ('slow 0 unanswered 1', 5)):
             self.assertEqual(pages.status_of('./mcscheck one.toml', [f'{hints} {counts}']), status, counts)
-        of_chains = '{"kind":"counts","missed":0,"overdue":0,"lost":0,"never":0,"merged":0,"allowed":0,"hints":0,"slow":0,"unanswered":1}'
-        self.assertEqual(pages.status_of('./mcscheck one.toml --format json', [of_chains]), 5)
+        of_chains = '{"kind":"counts","missed":0,"overdue":0,"lost":0,"never":0,"merged":0,"allowed":0,"unjudged":0,"hints":0,"threads":1,"deadlines":1,' \
+            '"judged":1,"slow":0,"unanswered":1}'
+        for line, status in ((of_chains, 5), (of_chains.replace('1}', '0}'), 0), (of_chains.replace('1}', '0}').replace('"judged":1', '"judged":0'), 6)):
+            self.assertEqual(pages.status_of('./mcscheck one.toml --format json', [line]), status)
 
     def test_a_block_ends_with_the_status_of_its_verdict_for_all_time(self) -> None:
-        clean, last = 'nothing is ever found', 'sets {} repeating {} findings {}'
-        for lines, status in (
-            ([clean, last.format(1, 1, 0)], 0), ([clean, last.format(2, 2, 0)], 6), ([last.format(1, 0, 0)], 6), ([clean, last.format(2, 1, 3)], 5),
-            ([clean], 5),
+        last = 'sets {} repeating {} findings {} threads 3 deadlines {}'
+        for line, status in (
+            (last.format(1, 1, 0, 1), 0), (last.format(2, 2, 0, 2), 0), (last.format(2, 1, 0, 1), 6), (last.format(2, 1, 3, 1), 5), (last.format(1, 1, 0, 0), 6),
+            ('nothing is ever found', 5), ('{"kind":"sets","sets":1,"repeating":1,"findings":0,"threads":2,"deadlines":0}', 6),
         ):
-            self.assertEqual(pages.status_of('./mcscheck one.toml --forever', lines), status, lines)
+            self.assertEqual(pages.status_of('./mcscheck one.toml --forever', ['first', line]), status, line)
         for block in ('./mcscheck one.toml --forever | tail -n 1', './mcscheck one.toml --forever || test $? -eq 6'):
-            self.assertEqual(pages.status_of(block, [last.format(1, 0, 0)]), 0)
+            self.assertEqual(pages.status_of(block, [last.format(1, 0, 0, 1)]), 0)
 
     def test_what_a_block_needs_is_named_where_it_is_not_there(self) -> None:
         frames = 'examples/python/responses.py one.toml'
@@ -209,7 +217,8 @@ class Rules(unittest.TestCase):
         self.assertFalse(pages.runs_a_system('./mcscheck FILE --horizon N'))
 
     def test_a_word_that_no_answer_has_is_a_failure(self) -> None:
-        answer = common.Ran(0, b'margin 3\nmissed 0 overdue 0 lost 0 never 0 merged 0 allowed 0 hints 0\n', b'')
+        counts = b'missed 0 overdue 0 lost 0 never 0 merged 0 allowed 0 unjudged 0 hints 0 threads 1 deadlines 1 judged 1\n'
+        answer = common.Ran(0, b'margin 3\n' + counts, b'')
         for named, failed in (('margin', 0), ('unused', 1)):
             count = common.Count()
             with tempfile.TemporaryDirectory() as folder, mock.patch('checks.pages.pages.ran', lambda *_: answer), mock.patch('checks.common.checker_of', lambda program: program):
@@ -302,7 +311,8 @@ class Rules(unittest.TestCase):
         # the second round was activated at 2 and ended at 8; D ran from 0 to 1 and from 2 to 9, and was blocked else
         miss = '8 0 miss D 2 6 deadline 5 activated 2 queued 3 ready 0 running 3 throttled 0 blocked 0 woken 0\n'
         stood = ' '.join(f'ticks_{what} {ticks}' for what, ticks in (('pending', 0), ('ready', 0), ('running', 8), ('throttled', 0), ('blocked', 4), ('woken', 0), ('done', 0)))
-        good = f'{miss}thread D core 0 {stood}\ncontext d unused 1\nmissed 1 overdue 0 lost 0 never 0 merged 0 allowed 0 hints 0\n'
+        good = f'{miss}thread D core 0 {stood}\ncontext d unused 1\nmissed 1 overdue 0 lost 0 never 0 merged 0 allowed 0 ' \
+            'unjudged 0 hints 0 threads 1 deadlines 1 judged 1\n'
         for told, failed in ((good, 0), (good.replace(' 6 deadline', ' 3 deadline'), 1), (good.replace(miss, ''), 1), (good + '5 0 lost n 1\n', 1),
                              (good.replace('merged 0', 'merged 1'), 1), (good.replace('running 8', 'running 7'), 1), (good.replace('ticks_ready 0', 'ticks_ready 1'), 1)):
             trial = readers.Trial(pathlib.Path('mcsim'), pathlib.Path('mcscheck'))

@@ -137,7 +137,7 @@ class Pretty(Typed):
         return self.ran('mcscheck', *words).stdout.rstrip('\n').replace(str(self.top), 'TOP')
 
     def test_the_view_runs_this_launcher_with_the_words_that_the_program_knows(self) -> None:
-        self.assertEqual(self.shown('--format', 'pretty', 'a b', '-n', '1e1'), 'pretty --system=a b --run TOP/mcscheck a b --horizon 10')
+        self.assertEqual(self.shown('--format', 'pretty', 'a b', '-n', '1e1'), 'pretty --run TOP/mcscheck a b --horizon 10')
         asked = ('--format=pretty', '--color', 'never', '--tick-us=5', '--rows', '--why', 'A', '2')
         self.assertEqual(self.shown(*asked), 'pretty --color=never --tick-us=5 --rows --run TOP/mcscheck --why A 2')
 

@@ -69,6 +69,8 @@ PREEMPTS = '''0 0 release A
 7 0 got A x 1
 9 0 round A 2 2
 '''
+# A ended a round and is overdue, and C is judged by nothing
+COUNTS = 'missed 1 overdue 1 lost 1 never 1 merged 1 allowed 0 unjudged 0 hints 2 threads 2 deadlines 2 judged 2\n'
 HINTS = '''hint note x is waited on and no script signals it
 hint context n has no thread
 '''
@@ -107,7 +109,7 @@ BUSY_FOUND = '''6 0 lost n 5
 10 0 lost n 1
 12 0 lost n 1
 13 0 miss D 2 9 deadline 8 activated 4 queued 4 ready 0 running 5 throttled 0 blocked 0 woken 0
-missed 1 overdue 0 lost 3 never 0 merged 1 allowed 0 hints 0
+missed 1 overdue 0 lost 3 never 0 merged 1 allowed 0 unjudged 0 hints 0 threads 1 deadlines 1 judged 2
 '''
 # D is given words that no handler takes at 2, and one that a handler without an item takes at 4
 NOBODY = (
@@ -167,12 +169,12 @@ def read(horizon: int = 9) -> reading.Reading:
 
 class Readings(unittest.TestCase):
     def test_what_is_found(self) -> None:
-        self.assertEqual(read().wanted().text, FOUND + HINTS + 'missed 1 overdue 1 lost 1 never 1 merged 1 allowed 0 hints 2\n')
+        self.assertEqual(read().wanted().text, FOUND + HINTS + COUNTS)
         self.assertEqual(read().wanted().status(), 5)
 
     def test_the_rounds_that_ended(self) -> None:
         wanted = read().wanted(show='jobs')
-        self.assertEqual(wanted.text, JOBS + 'missed 1 overdue 1 lost 1 never 1 merged 1 allowed 0 hints 2\n')
+        self.assertEqual(wanted.text, JOBS + COUNTS)
         self.assertEqual(wanted.status(), 5)
 
     def test_findings_as_json(self) -> None:
@@ -180,7 +182,8 @@ class Readings(unittest.TestCase):
         self.assertEqual(lines[0], '{"moment":5,"core":0,"kind":"lost","note":"x","word":1}')
         self.assertEqual(lines[3], '{"moment":9,"core":1,"kind":"never","thread":"C","deadline":3}')
         self.assertEqual(lines[4:6], ['{"kind":"hint","hint":"unsignalled","note":"x"}', '{"kind":"hint","hint":"unbound","context":"n"}'])
-        self.assertEqual(lines[6], '{"kind":"counts","missed":1,"overdue":1,"lost":1,"never":1,"merged":1,"allowed":0,"hints":2}')
+        self.assertEqual(lines[6], '{"kind":"counts","missed":1,"overdue":1,"lost":1,"never":1,"merged":1,"allowed":0,"unjudged":0,"hints":2,"threads":2,'
+                                   '"deadlines":2,"judged":2}')
 
     def test_jobs_and_findings_as_csv(self) -> None:
         head, *rows = read().wanted(show='jobs', form='csv').text.splitlines()
@@ -198,9 +201,16 @@ class Readings(unittest.TestCase):
         self.assertNotIn('lost x', wanted.text)
         self.assertEqual((wanted.counts['lost'], wanted.counts['allowed']), (0, 1))
 
-    def test_hints_alone_count_where_they_are_to(self) -> None:
-        wanted = reading.Wanted('', {**dict.fromkeys(reading.KINDS, 0), 'hints': 1, 'merged': 2, 'allowed': 3})
-        self.assertEqual((wanted.status(), wanted.status(is_strict=True)), (0, 5))
+    def test_exit_codes(self) -> None:
+        def statuses(**counts: int) -> tuple[int, int]:
+            wanted = reading.Wanted('', {**dict.fromkeys(reading.KINDS, 0), **counts})
+            return wanted.status(), wanted.status(is_strict=True)
+
+        self.assertEqual(statuses(judged=1, merged=2, allowed=3, threads=1, deadlines=1), (0, 0))
+        self.assertEqual((statuses(judged=1, hints=1), statuses(judged=1, unjudged=1)), ((0, 5), (0, 5)))
+        self.assertEqual((statuses(), statuses(threads=3, deadlines=2, merged=1), statuses(unjudged=1)), ((6, 6), (6, 6), (6, 5)))
+        for kind in ('missed', 'overdue', 'lost', 'never', 'slow', 'unanswered'):
+            self.assertEqual((statuses(**{kind: 1}), statuses(judged=1, **{kind: 1})), ((5, 5), (5, 5)), kind)
 
     def test_a_word_is_held_from_the_signal_that_set_it(self) -> None:
         rows = read().rows
@@ -219,6 +229,73 @@ class Readings(unittest.TestCase):
         self.assertIn('called "n": there is none\n', reading.unknown_note('n', []))
 
 
+class Judging(unittest.TestCase):
+    """What was judged of the system above, and of others like it."""
+
+    def lines(self, text: str, rows: str, horizon: int) -> list[str]:
+        return reading.Reading(tomllib.loads(text), rows, horizon).wanted().text.splitlines()
+
+    def up_to(self, moment: int) -> str:
+        return ''.join(line for line in ROWS.splitlines(keepends=True) if int(line.split()[0]) <= moment)
+
+    def test_a_round_that_still_has_time_is_unjudged(self) -> None:
+        # A was woken at 1, and its deadline is 5: at 5 nothing is known, and at 6 it can only be late
+        self.assertEqual(self.lines(TEXT, self.up_to(5), 5), [
+            '5 0 lost x 1', '5 1 never C deadline 3', '5 0 unjudged A deadline 5 activated 1', *HINTS.splitlines(),
+            'missed 0 overdue 0 lost 1 never 1 merged 0 allowed 0 unjudged 1 hints 2 threads 2 deadlines 2 judged 0',
+        ])
+        self.assertEqual(self.lines(TEXT, self.up_to(6), 6)[1:2], ['6 0 overdue A deadline 5 activated 1 queued 0 ready 1 running 2 throttled 2 blocked 0 woken 0'])
+        self.assertTrue(self.lines(TEXT, self.up_to(6), 6)[-1].endswith(' unjudged 0 hints 2 threads 2 deadlines 2 judged 1'))
+
+    def test_an_unjudged_thread_as_json_and_csv(self) -> None:
+        found = reading.Reading(tomllib.loads(TEXT), self.up_to(5), 5)
+        self.assertEqual(found.wanted(form='json').text.splitlines()[2], '{"moment":5,"core":0,"kind":"unjudged","thread":"A","deadline":5,"activated":1}')
+        self.assertEqual(found.wanted(form='csv').text.splitlines()[3], '5,0,unjudged,A,,,,,5,1,,,,,,')
+
+    def test_a_word_that_is_held_leaves_its_thread_unjudged(self) -> None:
+        # the word is there from 0 on, D has not come to its wait, and its deadline is 8
+        system = BUSY.replace('core = 0 }]\nthread', 'core = 0, word = 1 }]\nthread')
+        self.assertEqual(self.lines(system, '', 7), [
+            '7 0 unjudged D deadline 8 activated 0', 'missed 0 overdue 0 lost 0 never 0 merged 0 allowed 0 unjudged 1 hints 0 threads 1 deadlines 1 judged 0',
+        ])
+
+    def test_a_thread_that_ended_a_round_is_judged(self) -> None:
+        # its second round is activated at 3, but the first one was judged at 8
+        self.assertNotIn('unjudged A', '\n'.join(self.lines(TEXT.replace('deadline = 5', 'deadline = 90'), ROWS, 9)))
+
+    def test_rounds_without_a_deadline_are_not_judged(self) -> None:
+        # two rounds of A end
+        for text, many in ((TEXT, 2), (TEXT.replace('deadline = 5, ', ''), 0)):
+            self.assertTrue(self.lines(text, PREEMPTS, 9)[-1].endswith(f' threads 2 deadlines {1 + (many > 0)} judged {many}'))
+        found = reading.Reading(tomllib.loads(TEXT.replace('deadline = 5, ', '').replace('deadline = 3, ', '')), PREEMPTS, 9).wanted()
+        self.assertEqual((found.status(), found.status(is_strict=True)), (6, 5))
+        self.assertIn('hint no thread has a deadline\nhint note x', found.text)
+
+    def test_hints_of_what_judges_nothing(self) -> None:
+        def hints(text: str) -> list[str]:
+            return list(reading.Reading(tomllib.loads(text), '', 0).hints())
+
+        empty = 'version = 1\ncores = 3\ndelay = 1\ncontext = [{ name = "a", core = 1, budget = 2, period = 5 }]\n'
+        cores = [f'hint core {core} has no thread' for core in range(3)]
+        self.assertEqual(hints(empty), ['hint no thread', 'hint context a has no thread', *cores])
+        one = empty + 'thread = [{ name = "A", context = "a", priority = 5, script = ["compute 1"] }]\n'
+        self.assertEqual(hints(one), ['hint no thread has a deadline', cores[0], cores[2]])
+        self.assertEqual(hints(one.replace('priority', 'deadline = 1, priority')), [cores[0], cores[2]])
+        self.assertEqual([reading.values_of_hint(hint) for hint in (*hints(empty)[:1], *hints(one)[:2])], [
+            {'kind': 'hint', 'hint': 'no_thread'}, {'kind': 'hint', 'hint': 'no_deadline'}, {'kind': 'hint', 'hint': 'unused', 'core': 0},
+        ])
+
+    def test_a_core_with_hardly_too_much(self) -> None:
+        # 1/3 + 1/3 + 333,334 in a million is more than 1, by less than a millionth; each rounded down they are 1,000,000, and with one less they are less than 1
+        def hints(budget: int) -> list[str]:
+            parts = [(1, 3), (1, 3), (budget, 1_000_000)]
+            context = [{'name': f'c{place}', 'core': 0, 'budget': part, 'period': period} for place, (part, period) in enumerate(parts)]
+            thread = [{'name': f'T{place}', 'context': f'c{place}', 'priority': 1, 'deadline': 9, 'script': ['compute 1']} for place in range(3)]
+            return list(reading.Reading({'cores': 1, 'context': context, 'thread': thread}, '', 0).hints())
+
+        self.assertEqual((hints(333_333), hints(333_334)), ([], ['hint core 0 grants 1000001 of 1000000']))
+
+
 class NewReadings(unittest.TestCase):
     """Handlers, servers and interrupts."""
 
@@ -235,7 +312,8 @@ class NewReadings(unittest.TestCase):
 
     def test_words_that_no_handler_takes_begin_no_round(self) -> None:
         found = reading.Reading(tomllib.loads(NOBODY), NOBODY_ROWS, 6)
-        self.assertEqual(found.wanted().text, '6 0 never D deadline 8\nmissed 0 overdue 0 lost 0 never 1 merged 0 allowed 0 hints 0\n')
+        self.assertEqual(found.wanted().text, '6 0 never D deadline 8\nmissed 0 overdue 0 lost 0 never 1 merged 0 allowed 0 '
+                         'unjudged 0 hints 0 threads 1 deadlines 1 judged 0\n')
         last = answers.wanted(found, 'D', '1').stdout.decode().splitlines()[-2]
         self.assertEqual(last, 'why D number 1 from 5 to 6 waited 1 activated - begun - ended -')
 
@@ -282,11 +360,14 @@ class NewReadings(unittest.TestCase):
 
 
 class WrongCheckers(unittest.TestCase):
-    def failed(self, wrong: Callable[[Ran], Ran], rows: str = ROWS, reports: str = 'thread A ran 4 late 1\nthread C ran 0 late 0\n') -> int:
-        """How many tries fail with a checker that is wrong in this way, which is given the words of a run."""
-        wanted = reading.Reading(tomllib.loads(TEXT), rows, 9)
+    def failed(
+        self, wrong: Callable[[Ran], Ran], rows: str = ROWS, reports: str = 'thread A ran 4 late 1\nthread C ran 0 late 0\n',
+        text: str = TEXT, reads: type[reading.Reading] = reading.Reading,
+    ) -> int:
+        """How many tries fail with a checker that is wrong in this way, which is given the words of a run, or that reads rows in another way."""
+        wanted = reads(tomllib.loads(text), rows, 9)
 
-        def ran(given: list[common.Word], text: bytes = b'', **_: object) -> Ran:
+        def ran(given: list[common.Word], stdin: bytes = b'', **_: object) -> Ran:
             command = [str(word) for word in given]
             if command[0] == 'mcsim':
                 return Ran(0, (rows + reports).encode(), b'')
@@ -303,7 +384,7 @@ class WrongCheckers(unittest.TestCase):
         trial = verdicts.Trial(pathlib.Path('mcsim'), pathlib.Path('mcscheck'))
         with tempfile.TemporaryDirectory() as folder, mock.patch('checks.common.run', ran), mock.patch('tempfile.tempdir', folder):
             with contextlib.redirect_stdout(io.StringIO()), mock.patch.object(trial, 'unknown'):
-                trial.agrees(verdicts.System('worked', TEXT, 9), random.Random(1))
+                trial.agrees(verdicts.System('worked', text, 9), random.Random(1))
         return trial.count.tally.failed
 
     def test_one_that_is_right_passes(self) -> None:
@@ -321,6 +402,16 @@ class WrongCheckers(unittest.TestCase):
 
     def test_a_job_that_is_not_there(self) -> None:
         self.assertEqual(self.failed(lambda ran: ran._replace(stdout=ran.stdout.replace(JOBS.encode(), b''))), 1)
+
+    def test_rounds_without_a_deadline_that_are_judged(self) -> None:
+        class Wrong(reading.Reading):
+            def judged(self) -> int:
+                return sum(map(self.ends, self.threads))
+
+        text, reports = TEXT.replace('deadline = 5, ', ''), 'thread A ran 5 late 0\nthread C ran 0 late 0\n'
+        self.assertEqual(self.failed(lambda ran: ran, PREEMPTS, reports, text), 0)
+        # five runs have a line of counts, and two ask for a round
+        self.assertEqual(self.failed(lambda ran: ran, PREEMPTS, reports, text, Wrong), 5)
 
     def test_a_report_that_tells_another_time(self) -> None:
         self.assertEqual(self.failed(lambda ran: ran, reports='thread A ran 5 late 1\nthread C ran 0 late 0\n'), 1)
