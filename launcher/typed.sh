@@ -255,6 +255,5 @@ show_usage() {
 
 # Runs the program through this launcher, so that faults look as they do without the view.
 show_pretty() {
-    file=$(file_of "$@")
-    exec "$top/tools/pretty" ${color:+"--color=$color"} ${tick:+"--tick-us=$tick"} ${rows:+"$rows"} ${file:+"--system=$file"} --run "$called" "$@"
+    exec "$top/tools/pretty" ${color:+"--color=$color"} ${tick:+"--tick-us=$tick"} ${rows:+"$rows"} --run "$called" "$@"
 }

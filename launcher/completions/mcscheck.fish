@@ -6,7 +6,7 @@ complete -c mcscheck -s w -l workers -x -d 'how many workers may run cores, 1 to
 complete -c mcscheck -l tick-us -x -d 'the length of a tick in microseconds'
 complete -c mcscheck -l forever -d 'what is found for all time'
 complete -c mcscheck -l allow-lost -x -d 'lost signals of this notification are no finding'
-complete -c mcscheck -l strict -d 'hints count as found'
+complete -c mcscheck -l strict -d 'hints and unjudged threads count as found'
 complete -c mcscheck -s s -l show -x -a 'findings jobs table both' -d 'what is written'
 complete -c mcscheck -l format -x -a 'text csv json pretty' -d 'how it is written'
 complete -c mcscheck -l color -x -a 'auto always never' -d 'colours of pretty'

@@ -6,9 +6,9 @@ _mcsim_tools() {
         mcsim-explain) words='--help --version --program' ;;
         mcsim-live) words='--help --version --horizon --program --from --to --tick-us --budgets --threads --cores --lanes --most --width --theme --port --limit' ;;
         mcsim-microkit) words='--help --version --work --partial --tick-us --output' ;;
-        mcsim-pretty) words='--help --version --color --tick-us --rows --system --run' ;;
+        mcsim-pretty) words='--help --version --color --tick-us --rows --run' ;;
         mcsim-sweep) words='--help --version --set --least --greatest --of --horizon --jobs --emit --run --again --collect --program --checker --output' ;;
-        mcsim-tasks) words='--help --version --priorities --clocks --random --utilisation --seed --periods --list --analyse --horizon --program --output' ;;
+        mcsim-tasks) words='--help --version --priorities --clocks --random --utilisation --seed --periods --list --analyse --handlers --format --horizon --program --output' ;;
         mcsim-trace) words='--help --version --horizon --program --rows --tick-ns --budgets --output' ;;
         mcsim-view) words='--help --version --horizon --program --rows --from --to --tick-us --budgets --threads --cores --lanes --most --width --theme --trace --time --core --thread --event --events --name --idle --unit --offset --tolerance --output' ;;
         mcsim-waves) words='--help --version --horizon --program --rows --tick-ns --output --save' ;;
@@ -18,6 +18,7 @@ _mcsim_tools() {
         mcsim-live:--theme) values='auto light dark' ;;
         mcsim-pretty:--color) values='auto always never' ;;
         mcsim-tasks:--priorities) values='given rate deadline' ;;
+        mcsim-tasks:--format) values='csv text json' ;;
         mcsim-view:--theme) values='auto light dark' ;;
     esac
     if [[ -n $values ]]; then
