@@ -4,7 +4,6 @@ mod Placed
 mod Standing
 mod InPlace
 mod Rows
-mod Giving
 mod Finders
 mod Seekers
 mod Tellers

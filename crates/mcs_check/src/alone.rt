@@ -21,8 +21,7 @@ use mcs_team::SimFault;
 use std::alloc::Global;
 
 /// Checks a system on this thread alone, and returns the text that `check` writes of it, and the
-/// counts. Needs no handle. It keeps all rows, unless only findings are shown and there is no
-/// chain.
+/// counts. Needs no handle.
 ///
 /// Errors: `Mixed` and `Unknown` as `check` has them; `Sim` if an allocation failed.
 pub fn check_alone(
@@ -53,7 +52,7 @@ pub fn check_alone(
 }
 
 /// Explains a round of a system on this thread alone, and returns the text that `explain` writes of
-/// it. Needs no handle. It keeps all rows.
+/// it. Needs no handle.
 ///
 /// Errors: `Mixed`, `NoThread` and `NoRound` as `explain` has them; `Sim` if an allocation failed.
 pub fn explain_alone(

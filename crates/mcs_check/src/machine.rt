@@ -1,14 +1,14 @@
 //! The machine that runs use: a team of threads, or the caller's thread alone.
-ghost use Rattle.std.specs.Prelude.{◌≡◌, ◌≤◌, ◌^◌, ⊤, IfErr, OnErr, OnOk};
+ghost use Rattle.std.specs.Prelude.{◌≡◌, ◌≤◌, ◌^◌, ⊤, IfErr, OnOk};
 ghost use Rattle.std.specs.Arc.{arc_value};
 ghost use Rattle.std.specs.Thread.{IsSync};
 ghost use Rattle.mcs_core.specs.Clock.{schedule};
 ghost use Rattle.mcs_team.specs.Flow.{IsFlowFault};
-ghost use Rattle.mcs_ticks.specs.Given.{Given, GivenUntil};
+ghost use Rattle.mcs_ticks.specs.Given.{Given};
 
 use mcs_system::System;
-use mcs_team::{FlowFault, Open, schedule_to, simulate_alone};
-use mcs_ticks::{Refused, Row, Sink, Tick};
+use mcs_team::{FlowFault, Open, schedule_alone, schedule_to};
+use mcs_ticks::{Sink, Tick};
 use std::alloc::Global;
 use std::sync::{Arc, Wait};
 use std::thread::Threads;
@@ -56,7 +56,7 @@ impl<H: Threads + Wait + Sync> Runner for Team<'_, H> {
     }
 }
 
-/// This thread alone. It keeps all rows until the last one is made.
+/// This thread alone.
 #[derive(Clone, Copy, Debug, Drop)]
 pub(crate) struct Alone;
 
@@ -70,25 +70,8 @@ impl Runner for Alone {
         horizon: Tick,
         sink: &mut S,
     ) -> Result<(), FlowFault> {
-        let Ok(whole) = simulate_alone(alloc, system, horizon) else {
-            return Err(FlowFault::NoMemory);
-        };
-        if give(whole.rows.as_slice(), sink).is_err() {
-            return Err(FlowFault::Sink);
-        }
-        Ok(())
+        schedule_alone(alloc, system, horizon, sink)
     }
-}
-
-/// Gives these rows to a sink, up to the first that it refuses.
-fn give<S: Sink>(rows: &[Row], sink: &mut S) -> Result<(), Refused>
-    ensures given { OnOk result (Given S.takes sink.old rows.now sink.new) }
-    ensures refused { OnErr result (GivenUntil S.takes sink.old rows.now sink.new) }
-{
-    for row in rows {
-        sink.row(row)?;
-    }
-    Ok(())
 }
 
 /// A runner and the allocator.

@@ -18,5 +18,5 @@ pub use mcs_ticks::{FlowFault, Refused, Sink};
 pub use outflow::{Relay, RowRelay};
 pub use reporting::report;
 pub use run::{Gate, Open, Plan, SimFault};
-pub use to_sink::{schedule_by_core, schedule_to, simulate_to};
+pub use to_sink::{schedule_alone, schedule_by_core, schedule_to, simulate_to};
 pub use whole::{Whole, probe, simulate, simulate_alone};

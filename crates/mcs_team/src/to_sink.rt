@@ -14,7 +14,7 @@ use crate::outflow::RowRelay;
 use crate::rest::simulate_again;
 use crate::run::{Plan, Stop};
 use crate::stream::flow_beside;
-use crate::{FlowFault, Gate, Refused, Relay, Sink};
+use crate::{FlowFault, Gate, Open, Refused, Relay, Sink};
 use mcs_merge::Part;
 use mcs_report::{Reports, Tally, bandwidth_is_bounded, demand_is_bounded, schedules_are_reported};
 use mcs_system::System;
@@ -98,6 +98,28 @@ pub fn schedule_to<R: Threads + Wait + Sync, G: Gate + Sync, S: Sink>(
         horizon,
     };
     schedule_by_core(rt, plan, workers, gate, &relay, sink)
+}
+
+/// Simulates the system up to the horizon, at most 2^40, on this thread alone, and writes the rows
+/// to a sink like `simulate_to`, with the same errors. It needs no handle and counts nothing.
+pub fn schedule_alone<S: Sink>(
+    alloc: Global,
+    system: Arc<System>,
+    horizon: Tick,
+    sink: &mut S,
+) -> Result<(), FlowFault>
+    requires { horizon ≤ 2 ^ 40 }
+    ensures given { OnOk result (Given S.takes sink.old (schedule (arc_value system) horizon) sink.new) }
+    ensures fault { IfErr result (IsFlowFault S.takes (arc_value system) horizon sink.old sink.new) }
+    ensures bandwidth { OnOk result (RunsWithinBandwidth (arc_value system) horizon (schedule (arc_value system) horizon)) }
+    ensures headline { OnOk result
+        (Headline (arc_value system) horizon (schedule (arc_value system) horizon)
+        (reports_of (arc_value system) horizon (schedule (arc_value system) horizon))) }
+{
+    bandwidth_is_bounded();
+    let _parts = system.parts();
+    let relay = RowRelay::new(alloc);
+    flow_here(alloc, system, horizon, &relay, &Open, sink)
 }
 
 /// Passes rows to a sink, and counts those that it takes.
