@@ -60,7 +60,7 @@ SEEN = (
     'status 0', 'status 1', 'status 5', 'status 6', 'a set of several cores', 'a core of a larger set', 'repeats', 'open', 'at rest', 'rounds that go on',
     'miss in each period', 'miss before alone', 'miss so far', 'lost in each period', 'lost before alone', 'lost so far', 'overdue', 'overdue so far',
     'never', 'never so far', 'greatest', 'no greatest', 'throttled never', 'throttled', 'ends no round', 'ends rounds', 'clean', 'a lost signal that is allowed',
-    'an order', 'interrupts without end', 'interrupts that ended', 'clean without a deadline',
+    'an order', 'interrupts without end', 'interrupts that ended', 'a server that is entered', 'clean without a deadline',
 )
 
 

@@ -1,6 +1,6 @@
 -- Rows of a group of cores that recur: the accounts of the group's threads and its words stay
 -- later, and each finding is found later.
-use Rattle.std.proofs.Common.{◌≡◌, ℕ, ◌+◌, ◌<◌, Bool, true, false, cond, List, [], ◌∷◌, ◌++◌, length, map, refl, sym, ap, subst, ◌∙◌, Option, Some, None, option_map, arith}
+use Rattle.std.proofs.Common.{◌≡◌, ℕ, ◌+◌, ◌<◌, ◌⊎◌, inl, inr, Bool, true, false, cond, List, [], ◌∷◌, ◌++◌, length, map, refl, sym, ap, subst, ◌∙◌, Option, Some, None, option_map, arith}
 use Rattle.std.specs.Prelude.{filter, ◌==◌, nat_lt, IfSome, option_to_list}
 use Rattle.std.specs.List.{AllByRecursion}
 use Rattle.std.proofs.lemmas.Bool.Decides.{nat_tests}
@@ -14,14 +14,14 @@ use Rattle.mcs_verdict.specs.declared.finding.Finding.{Finding}
 use Rattle.mcs_verdict.specs.declared.finding.Finding.TheVariants.{Lost}
 use Rattle.mcs_verdict.specs.declared.finding.Found.{Found}
 use Rattle.mcs_verdict.specs.declared.held.Held.{Held}
-use Rattle.mcs_verdict.specs.Calls.{is_set}
+use Rattle.mcs_verdict.specs.Calls.{calls, is_set}
 use Rattle.mcs_verdict.specs.Words.{no_word, held_with, taken, held_of, firsts_of, leaves}
 use Rattle.mcs_verdict.specs.declared.job.Job.{Job}
 use Rattle.mcs_verdict.specs.Jobs.{job, job_of, jobs_in}
 use Rattle.mcs_verdict.specs.Misses.{missed}
 use Rattle.mcs_verdict.specs.Findings.{finding, UpTo, past_of, found_at, found_in}
-use Rattle.mcs_verdict.specs.Account.{set_for, is_about, seen_own}
-use Rattle.mcs_verdict.specs.Later.{IsLaterAccount}
+use Rattle.mcs_verdict.specs.Account.{set_for, is_about, given_by, seen_own}
+use Rattle.mcs_verdict.specs.Later.{later_moment, IsLaterAccount}
 use Rattle.mcs_verdict.proofs.Accounts.{same, own}
 use Rattle.mcs_verdict.proofs.Watches.{since-up_to}
 use Rattle.mcs_verdict.proofs.Kept.{account_at, job-kept}
@@ -48,6 +48,12 @@ pub held-known : (system : System) (n : ℕ) (past : List Row) → n < length sy
 held-known system n past l =
     let e = length-firsts 0 system.threads system.notes in
     ap (λ b. cond b (held_in system n past) no_word) (less n (length (firsts_of system)) (omega (arith, l, e)))
+
+-- a word that is taken in a round begins none
+unset : (m set set' : ℕ) (called : Bool) (waits : Option ℕ) (begun : ℕ) (account : Account) → given_by m set called waits (Some begun) account ≡ given_by m set' called waits (Some begun) account
+unset m set set' true (Some note) begun account = refl
+unset m set set' true None begun account = refl
+unset m set set' false waits begun account = refl
 
 -- the bits that call a thread are kept; the word must have one of them
 bits-same : (system : System) (n : ℕ) (past past' : List Row) → (held_in system n past').bits ≡ (held_in system n past).bits
@@ -212,23 +218,37 @@ module _ (system : System) (group : ℕ → Bool) (shifts : Shifts) where
           ap (λ b. cond b (job ∷ filter is_own_job (jobs_in system (at t c what ∷ past) (stamped c t whats))) (filter is_own_job (jobs_in system (at t c what ∷ past) (stamped c t whats)))) (ap group f ∙ own)
           ∙ ap (λ others. job ∷ others) i
 
+  -- a round of the thread is under way
+  abbrev IsUnderWay : ℕ → List Row → Type 0
+  IsUnderWay x past = (begun : ℕ) × ((account_at system x past).begun ≡ Some begun)
+
   module _ (Later Set : ℕ → Type 0) where
     abbrev Like : ℕ → List Row → List Row → Type 0
     Like t past past' = Alike Later Set t past past'
 
-    -- a thread that ends a round is later, and a word that is taken was set later
-    abbrev pub Counts : What → Type 0
-    Counts (row.Round x number response) = Later x
-    Counts (row.Got x note word) = Set note
-    Counts (row.Release x) = Unit {0}
-    Counts (row.Run x) = Unit {0}
-    Counts (row.Stop x cause k until) = Unit {0}
-    Counts (row.Signal x note badge) = Unit {0}
-    Counts (row.Arrive note badge maker) = Unit {0}
-    Counts (row.Wake x note word) = Unit {0}
-    Counts (row.Hold note word) = Unit {0}
-    Counts (row.Order context) = Unit {0}
-    Counts (row.Interrupt source at_note badge) = Unit {0}
+    -- a thread that ends a round is later; a word that is taken was set later, or begins no round
+    abbrev pub Counts : List Row → What → Type 0
+    Counts past (row.Round x number response) = Later x
+    Counts past (row.Got x note word) = Set note ⊎ IsUnderWay x past
+    Counts past (row.Release x) = Unit {0}
+    Counts past (row.Run x) = Unit {0}
+    Counts past (row.Stop x cause k until) = Unit {0}
+    Counts past (row.Signal x note badge) = Unit {0}
+    Counts past (row.Arrive note badge maker) = Unit {0}
+    Counts past (row.Wake x note word) = Unit {0}
+    Counts past (row.Hold note word) = Unit {0}
+    Counts past (row.Order context) = Unit {0}
+    Counts past (row.Interrupt source at_note badge) = Unit {0}
+
+    -- the rows of a turn, each by those before it
+    abbrev pub AreCounted : ℕ → ℕ → List Row → List What → Type 0
+    AreCounted c t past [] = Unit {0}
+    AreCounted c t past (what ∷ whats) = Counts past what × AreCounted c t (at t c what ∷ past) whats
+
+    -- a word that is taken in a round
+    abbrev TakesWithin : List Row → What → Type 0
+    TakesWithin past (row.Got x note word) = IsUnderWay x past
+    TakesWithin past _ = ⊥
 
     alike-foreign : (c t : ℕ) (whats whats' : List What) (past past' : List Row) → group c ≡ false → AllByRecursion (IsOfOwn system c) whats → AllByRecursion (IsOfOwn system c) whats' →
         Like t past past' → Like t (past_of past (stamped c t whats)) (past_of past' (stamped c (t + d) whats'))
@@ -267,25 +287,50 @@ module _ (system : System) (group : ℕ → Bool) (shifts : Shifts) where
       own-note n e = ap group e ∙ own_core
 
       -- the time at which a taken word was set
-      set-later : (what : What) (past past' : List Row) → IsOfOwn system c what → Counts what → Like t past past' →
-          later_set shift what (set_for (firsts_of system) past what) ≡ set_for (firsts_of system) past' (later_what shift what)
-      set-later (row.Got x n word) past past' o k l =
-          ap (λ (held : Held). held.since + d) (held-known system n past o.1.known)
-          ∙ sym (l.sets n o.1.known (own-note n o.1.home) k)
-          ∙ sym (ap (λ (held : Held). held.since) (held-known system n past' o.1.known))
-      set-later (row.Release x) past past' o k l = refl
-      set-later (row.Run x) past past' o k l = refl
-      set-later (row.Stop x cause j until) past past' o k l = refl
-      set-later (row.Signal x note badge) past past' o k l = refl
-      set-later (row.Arrive note badge maker) past past' o k l = refl
-      set-later (row.Wake x note word) past past' o k l = refl
-      set-later (row.Hold note word) past past' o k l = refl
-      set-later (row.Round x number response) past past' o k l = refl
-      set-later (row.Order context) past past' o k l = refl
-      set-later (row.Interrupt source at_note badge) past past' o k l = refl
+      set-later : (what : What) (past past' : List Row) → IsOfOwn system c what → Counts past what → Like t past past' →
+          (later_set shift what (set_for (firsts_of system) past what) ≡ set_for (firsts_of system) past' (later_what shift what)) ⊎ TakesWithin past what
+      set-later (row.Got x n word) past past' o (inl set) l =
+          inl (ap (λ (held : Held). held.since + d) (held-known system n past o.1.known)
+          ∙ sym (l.sets n o.1.known (own-note n o.1.home) set)
+          ∙ sym (ap (λ (held : Held). held.since) (held-known system n past' o.1.known)))
+      set-later (row.Got x n word) past past' o (inr within) l = inr within
+      set-later (row.Release x) past past' o k l = inl refl
+      set-later (row.Run x) past past' o k l = inl refl
+      set-later (row.Stop x cause j until) past past' o k l = inl refl
+      set-later (row.Signal x note badge) past past' o k l = inl refl
+      set-later (row.Arrive note badge maker) past past' o k l = inl refl
+      set-later (row.Wake x note word) past past' o k l = inl refl
+      set-later (row.Hold note word) past past' o k l = inl refl
+      set-later (row.Round x number response) past past' o k l = inl refl
+      set-later (row.Order context) past past' o k l = inl refl
+      set-later (row.Interrupt source at_note badge) past past' o k l = inl refl
+
+      -- while a round is under way a word begins none, whenever it was set
+      seen-within : (what : What) (past : List Row) → TakesWithin past what → (x : ℕ) → is_about x what ≡ true → (after : Account) → IsLaterAccount d (account_at system x past) after →
+          (m set set' : ℕ) → seen_own set m (later_what shift what) after ≡ seen_own set' m (later_what shift what) after
+      seen-within (row.Got y n word) past within x e after h m set set' =
+          ap (λ begun. given_by m set (calls after.bits word) after.waits begun after) begun
+          ∙ unset m set set' (calls after.bits word) after.waits (within.0 + d) after
+          ∙ sym (ap (λ begun. given_by m set' (calls after.bits word) after.waits begun after) begun)
+        where
+          own-begun : (account_at system x past).begun ≡ Some within.0
+          own-begun = let P : ℕ → Type 0 = λ z. (account_at system z past).begun ≡ Some within.0 in subst P (equal y x e) within.1
+
+          begun : after.begun ≡ Some (within.0 + d)
+          begun = ap (λ (account : Account). account.begun) h ∙ ap (later_moment d) own-begun
+      seen-within (row.Release y) past within x e after h m set set' = absurd within
+      seen-within (row.Run y) past within x e after h m set set' = absurd within
+      seen-within (row.Stop y cause j until) past within x e after h m set set' = absurd within
+      seen-within (row.Signal y note badge) past within x e after h m set set' = absurd within
+      seen-within (row.Arrive note badge maker) past within x e after h m set set' = absurd within
+      seen-within (row.Wake y note word) past within x e after h m set set' = absurd within
+      seen-within (row.Hold note word) past within x e after h m set set' = absurd within
+      seen-within (row.Round y number response) past within x e after h m set set' = absurd within
+      seen-within (row.Order context) past within x e after h m set set' = absurd within
+      seen-within (row.Interrupt source at_note badge) past within x e after h m set set' = absurd within
 
       -- the account of a thread
-      account-row : (what : What) (past past' : List Row) → IsOfOwn system c what → Counts what → Like t past past' →
+      account-row : (what : What) (past past' : List Row) → IsOfOwn system c what → Counts past what → Like t past past' →
           (x : ℕ) → x < length system.threads → group (home x) ≡ true → Later x →
           IsLaterAccount d (account_at system x (at t c what ∷ past)) (account_at system x (at (t + d) c (later_what shift what) ∷ past'))
       account-row what past past' o k l x known h later = by (is_about x what) refl
@@ -303,10 +348,32 @@ module _ (system : System) (group : ℕ → Bool) (shifts : Shifts) where
               (sym (same notes (thread_part system x) x past' (t + d) c (later_what shift what) (about-later x what ∙ e)))
               (l.threads x known h later)
           by true e =
-              moved (seen_own (set_for notes past what) t what (account_at system x past)) (seen_own (later_set shift what (set_for notes past what)) (t + d) (later_what shift what) (account_at system x past')) _ _
-              (own notes (thread_part system x) x past t c (set_for notes past what) what e refl (since-up_to x t past l.before))
-              (own notes (thread_part system x) x past' (t + d) c (later_set shift what (set_for notes past what)) (later_what shift what) (about-later x what ∙ e) (set-later what past past' o k l) (since-up_to x (t + d) past' l.after))
-              (account-seen shift (set_for notes past what) t what (account_at system x past) (account_at system x past') (l.threads x known h later))
+              moved (seen_own set t what before) (seen_own set' (t + d) (later_what shift what) after) _ _
+              (own notes (thread_part system x) x past t c set what e refl (since-up_to x t past l.before))
+              (own notes (thread_part system x) x past' (t + d) c set' (later_what shift what) (about-later x what ∙ e) refl (since-up_to x (t + d) past' l.after))
+              (whenever (set-later what past past' o k l))
+            where
+              before : Account
+              before = account_at system x past
+
+              after : Account
+              after = account_at system x past'
+
+              set : ℕ
+              set = set_for notes past what
+
+              set' : ℕ
+              set' = set_for notes past' (later_what shift what)
+
+              seen : IsLaterAccount d (seen_own set t what before) (seen_own (later_set shift what set) (t + d) (later_what shift what) after)
+              seen = account-seen shift set t what before after (l.threads x known h later)
+
+              whenever : (later_set shift what set ≡ set') ⊎ TakesWithin past what → IsLaterAccount d (seen_own set t what before) (seen_own set' (t + d) (later_what shift what) after)
+              whenever (inl same) =
+                  let P : ℕ → Type 0 = λ s. IsLaterAccount d (seen_own set t what before) (seen_own s (t + d) (later_what shift what) after) in subst P same seen
+              whenever (inr within) =
+                  let P : Account → Type 0 = λ seen. IsLaterAccount d (seen_own set t what before) seen in
+                  subst P (seen-within what past within x e after (l.threads x known h later) (t + d) (later_set shift what set) set') seen
 
       -- the word of a notification
       word-row : (n : ℕ) (what : What) (past past' : List Row) → (held_in system n past').word ≡ (held_in system n past).word →
@@ -360,7 +427,7 @@ module _ (system : System) (group : ℕ → Bool) (shifts : Shifts) where
       set-row n (row.Order context) past past' e f = f
       set-row n (row.Interrupt source at_note badge) past past' e f = f
 
-      alike-row : (what : What) (past past' : List Row) → IsOfOwn system c what → Counts what → Like t past past' → Like t (at t c what ∷ past) (at (t + d) c (later_what shift what) ∷ past')
+      alike-row : (what : What) (past past' : List Row) → IsOfOwn system c what → Counts past what → Like t past past' → Like t (at t c what ∷ past) (at (t + d) c (later_what shift what) ∷ past')
       alike-row what past past' o k l =
           record {
             threads = account-row what past past' o k l;
@@ -378,7 +445,7 @@ module _ (system : System) (group : ℕ → Bool) (shifts : Shifts) where
           ∙ account-jobs shift t x number (account_at system x past) (account_at system x past') (l.threads x o.known (ap group o.home ∙ own_core) k)
           ∙ ap (later_job shift) (job-kept system x past t number l.before)
 
-      job-later : (what : What) (past past' : List Row) → IsOfOwn system c what → Counts what → Like t past past' →
+      job-later : (what : What) (past past' : List Row) → IsOfOwn system c what → Counts past what → Like t past past' →
           job_of system past' (t + d) (later_what shift what) ≡ option_map (later_job shift) (job_of system past t what)
       job-later (row.Round x number response) past past' o k l =
           job-known x (more_rounds (shift.rounds x) number) (t + d) past' o.known ∙ ap Some (round-later x number past past' o k l)
@@ -395,7 +462,7 @@ module _ (system : System) (group : ℕ → Bool) (shifts : Shifts) where
       job-later (row.Interrupt source at_note badge) past past' o k l = refl
 
       -- the finding of the row
-      finding-later : (what : What) (past past' : List Row) → IsOfOwn system c what → Counts what → Like t past past' →
+      finding-later : (what : What) (past past' : List Row) → IsOfOwn system c what → Counts past what → Like t past past' →
           finding system past' (t + d) (later_what shift what) ≡ option_map (later_finding shift) (finding system past t what)
       finding-later (row.Round x number response) past past' o k l =
           ap (missed (thread_part system x).deadline) (round-later x number past past' o k l)
@@ -420,13 +487,13 @@ module _ (system : System) (group : ℕ → Bool) (shifts : Shifts) where
       finding-later (row.Interrupt source at_note badge) past past' o k l = refl
 
       -- the rows of a turn of a core of the group
-      alike-own : (whats : List What) (past past' : List Row) → AllByRecursion (IsOfOwn system c) whats → AllByRecursion Counts whats → Like t past past' →
+      alike-own : (whats : List What) (past past' : List Row) → AllByRecursion (IsOfOwn system c) whats → AreCounted c t past whats → Like t past past' →
           Like t (past_of past (stamped c t whats)) (past_of past' (stamped c (t + d) (map (later_what shift) whats)))
       alike-own [] past past' o k l = l
       alike-own (what ∷ whats) past past' o k l =
           alike-own whats (at t c what ∷ past) (at (t + d) c (later_what shift what) ∷ past') o.1 k.1 (alike-row what past past' o.0 k.0 l)
 
-      found-later : (whats : List What) (past past' : List Row) → AllByRecursion (IsOfOwn system c) whats → AllByRecursion Counts whats → Like t past past' →
+      found-later : (whats : List What) (past past' : List Row) → AllByRecursion (IsOfOwn system c) whats → AreCounted c t past whats → Like t past past' →
           found_in system past' (stamped c (t + d) (map (later_what shift) whats)) ≡ map (later_found shifts) (found_in system past (stamped c t whats))
       found-later [] past past' o k l = refl
       found-later (what ∷ whats) past past' o k l =
@@ -445,7 +512,7 @@ module _ (system : System) (group : ℕ → Bool) (shifts : Shifts) where
           by None e = e
           by (Some found) e = ap (λ more. record { moment = t + d; core = c; finding = later_finding shift found } ∷ more) e
 
-      jobs-later : (whats : List What) (past past' : List Row) → AllByRecursion (IsOfOwn system c) whats → AllByRecursion Counts whats → Like t past past' →
+      jobs-later : (whats : List What) (past past' : List Row) → AllByRecursion (IsOfOwn system c) whats → AreCounted c t past whats → Like t past past' →
           jobs_in system past' (stamped c (t + d) (map (later_what shift) whats)) ≡ map (later_job_of system shifts) (jobs_in system past (stamped c t whats))
       jobs-later [] past past' o k l = refl
       jobs-later (what ∷ whats) past past' o k l =
@@ -467,7 +534,7 @@ module _ (system : System) (group : ℕ → Bool) (shifts : Shifts) where
 
     -- a turn, of whichever core
     pub alike-turn : (c t : ℕ) (whats whats' : List What) (past past' : List Row) → AllByRecursion (IsOfOwn system c) whats → AllByRecursion (IsOfOwn system c) whats' →
-        (group c ≡ true → AllByRecursion Counts whats) → (group c ≡ true → whats' ≡ map (later_what (shift_of shifts c)) whats) → Like t past past' →
+        (group c ≡ true → AreCounted c t past whats) → (group c ≡ true → whats' ≡ map (later_what (shift_of shifts c)) whats) → Like t past past' →
         Like t (past_of past (stamped c t whats)) (past_of past' (stamped c (t + d) whats'))
     alike-turn c t whats whats' past past' o o' k e l = by (group c) refl
       where
@@ -478,7 +545,7 @@ module _ (system : System) (group : ℕ → Bool) (shifts : Shifts) where
         by false away = alike-foreign c t whats whats' past past' away o o' l
 
     pub found-turn : (c t : ℕ) (whats whats' : List What) (past past' : List Row) → AllByRecursion (IsOfOwn system c) whats → AllByRecursion (IsOfOwn system c) whats' →
-        (group c ≡ true → AllByRecursion Counts whats) → (group c ≡ true → whats' ≡ map (later_what (shift_of shifts c)) whats) → Like t past past' →
+        (group c ≡ true → AreCounted c t past whats) → (group c ≡ true → whats' ≡ map (later_what (shift_of shifts c)) whats) → Like t past past' →
         filter of_group (found_in system past' (stamped c (t + d) whats')) ≡ map (later_found shifts) (filter of_group (found_in system past (stamped c t whats)))
     found-turn c t whats whats' past past' o o' k e l = by (group c) refl
       where
@@ -492,7 +559,7 @@ module _ (system : System) (group : ℕ → Bool) (shifts : Shifts) where
         by false away = found-foreign c (t + d) whats' past' away ∙ ap (map (later_found shifts)) (sym (found-foreign c t whats past away))
 
     pub jobs-turn : (c t : ℕ) (whats whats' : List What) (past past' : List Row) → AllByRecursion (IsOfOwn system c) whats → AllByRecursion (IsOfOwn system c) whats' →
-        (group c ≡ true → AllByRecursion Counts whats) → (group c ≡ true → whats' ≡ map (later_what (shift_of shifts c)) whats) → Like t past past' →
+        (group c ≡ true → AreCounted c t past whats) → (group c ≡ true → whats' ≡ map (later_what (shift_of shifts c)) whats) → Like t past past' →
         filter is_own_job (jobs_in system past' (stamped c (t + d) whats')) ≡ map (later_job_of system shifts) (filter is_own_job (jobs_in system past (stamped c t whats)))
     jobs-turn c t whats whats' past past' o o' k e l = by (group c) refl
       where

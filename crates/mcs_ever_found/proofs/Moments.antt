@@ -1,6 +1,6 @@
 -- The watch of a group that recurs: before each moment from then on the accounts of its threads and
 -- its words are those a period earlier, but later.
-use Rattle.std.proofs.Common.{◌≡◌, ℕ, zero, suc, ◌+◌, ◌-◌, ◌<◌, ◌≤◌, ◌⊎◌, inl, inr, Bool, true, false, ◌&&◌, List, [], ◌∷◌, ◌++◌, length, get_or, map, refl, sym, ap, subst, ◌∙◌, append_assoc, arith}
+use Rattle.std.proofs.Common.{◌≡◌, ℕ, zero, suc, ◌+◌, ◌-◌, ◌<◌, ◌≤◌, ◌⊎◌, inl, inr, Bool, true, false, ◌&&◌, List, [], ◌∷◌, ◌++◌, length, get_or, map, refl, sym, ap, subst, ◌∙◌, append_assoc, slice_get, Option, Some, None, arith}
 use Rattle.std.specs.Prelude.{filter, flat_map, ◌==◌, nat_le, option_to_list}
 use Rattle.std.specs.List.{range_with_len, AllByRecursion}
 use Rattle.std.proofs.lemmas.Bool.Decides.{nat_tests}
@@ -9,8 +9,10 @@ use Rattle.std.proofs.lemmas.List.Elements.{filter-append}
 use Rattle.mcs_ticks.specs.declared.row.Row.{Row}
 use Rattle.mcs_ticks.specs.declared.row.What.{What}
 use Rattle.mcs_ticks.specs.declared.row.What.TheVariants as row
-use Rattle.mcs_system.specs.System.{System, thread_part, core_of}
+use Rattle.mcs_system.specs.System.{System, thread_part, core_of, is_server}
 use Rattle.mcs_system.specs.WellFormed.{IsWellFormed}
+use Rattle.mcs_script.specs.declared.item.Item.TheVariants.{Wait}
+use Rattle.mcs_core.specs.Turn.{stamped}
 use Rattle.mcs_core.specs.Clock.{clock, turn_of, rows_of}
 use Rattle.mcs_core.proofs.Clock.{rows-clock}
 use Rattle.mcs_laws.proofs.Histories.{takes-time}
@@ -20,13 +22,19 @@ use Rattle.mcs_verdict.specs.declared.finding.Found.{Found}
 use Rattle.mcs_verdict.specs.Words.{no_word, firsts_of}
 use Rattle.mcs_verdict.specs.declared.job.Job.{Job}
 use Rattle.mcs_verdict.specs.Jobs.{job_of, jobs_in}
+use Rattle.mcs_verdict.specs.Rounds.{begun_of}
 use Rattle.mcs_verdict.specs.Findings.{UpTo, past_of, found_at, found_in, finding}
 use Rattle.mcs_verdict.specs.Watch.{accounts_of, words_of}
 use Rattle.mcs_verdict.specs.Later.{IsLaterAccount}
 use Rattle.mcs_verdict.proofs.Kept.{account_at}
 use Rattle.mcs_verdict.proofs.Watches.{account_kept}
 use Rattle.mcs_verdict.proofs.Words.{length-words, word_kept}
-use Rattle.mcs_verdict_laws.proofs.Fits.{held_in}
+use Rattle.mcs_verdict_laws.proofs.Entering.{self}
+use Rattle.mcs_verdict_laws.proofs.Finishing.{item_home}
+use Rattle.mcs_verdict_laws.proofs.Fits.{held_in, Fits, AreFit, fit-later}
+use Rattle.mcs_verdict_laws.proofs.Fitting.{fitting}
+use Rattle.mcs_verdict_laws.proofs.Steps.{contrary}
+use Rattle.mcs_verdict_laws.proofs.WordsTold.{waits-item}
 use Rattle.mcs_verdict_laws.proofs.Due.{length-firsts}
 use Rattle.mcs_verdict_laws.proofs.Order.{in_order}
 use Rattle.mcs_ever.specs.Later.{later_what}
@@ -42,7 +50,7 @@ use Rattle.mcs_verdict_laws.proofs.Standings.{past-append}
 use Rattle.mcs_ever_found.specs.Later.{later_found}
 use Rattle.mcs_ever_found.specs.Recurs.{takes_word, TakesNoWord, past_before, ThreadIsLater, WordIsSame, WordIsLater, FindingsRecur}
 use Rattle.mcs_ever_found.specs.laws.Repeats.{rows_at, later_job_of}
-use Rattle.mcs_ever_found.proofs.Alike.{Alike, Counts, alike-turn, found-turn, jobs-turn}
+use Rattle.mcs_ever_found.proofs.Alike.{Alike, at, Counts, AreCounted, alike-turn, found-turn, jobs-turn}
 
 -- some rows and then others
 pub found_in-append : (system : System) (past xs ys : List Row) → found_in system past (xs ++ ys) ≡ found_in system past xs ++ found_in system (past_of past xs) ys
@@ -56,6 +64,11 @@ jobs_in-append system past [] ys = refl
 jobs_in-append system past (x ∷ xs) ys =
     ap (λ jobs. option_to_list (job_of system past x.moment x.what) ++ jobs) (jobs_in-append system (x ∷ past) xs ys)
     ∙ sym (append_assoc (option_to_list (job_of system past x.moment x.what)) (jobs_in system (x ∷ past) xs) (jobs_in system (past_of (x ∷ past) xs) ys))
+
+-- the first ones of them
+fit-first : (system : System) (x : ℕ) (past rows more : List Row) → AreFit system x past (rows ++ more) → AreFit system x past rows
+fit-first system x past [] more all = tt
+fit-first system x past (r ∷ rows) more all = (all.0, fit-first system x (r ∷ past) rows more all.1)
 
 module _ (system : System) (well : IsWellFormed system) where
   -- the rows before a moment
@@ -99,8 +112,19 @@ module _ (system : System) (group : ℕ → Bool) (shifts : Shifts) (from : ℕ)
   abbrev Like : ℕ → List Row → List Row → Type 0
   Like t rows rows' = Alike system group shifts Later Set t rows rows'
 
+  -- a thread that ends a round is later; a word that is taken was set later, or is a server's
   abbrev Count : What → Type 0
-  Count what = Counts system group shifts Later Set what
+  Count (row.Round x number response) = Later x
+  Count (row.Got x note word) = Set note ⊎ (is_server system note ≡ true)
+  Count (row.Release x) = Unit {0}
+  Count (row.Run x) = Unit {0}
+  Count (row.Stop x cause k until) = Unit {0}
+  Count (row.Signal x note badge) = Unit {0}
+  Count (row.Arrive note badge maker) = Unit {0}
+  Count (row.Wake x note word) = Unit {0}
+  Count (row.Hold note word) = Unit {0}
+  Count (row.Order context) = Unit {0}
+  Count (row.Interrupt source at_note badge) = Unit {0}
 
   pub later-thread : (x : ℕ) → x < length system.threads → ThreadIsLater system d from x → Later x
   later-thread x known h =
@@ -122,7 +146,6 @@ module _ (system : System) (group : ℕ → Bool) (shifts : Shifts) (from : ℕ)
       sym (ap (λ (held : Held). held.word) (word-kept system well (from + d) n no_word known)) ∙ h no_word
       ∙ ap (λ (held : Held). held.word) (word-kept system well from n no_word known)
 
-  -- a thread that ends a round is later, and a word that is taken was set later
   count-row : (c t : ℕ) (what : What) → group c ≡ true → from ≤ t → IsOfOwn system c what →
       ((x : ℕ) → EndsNoRound system x from (from + d) → (nat_le from t && ends_round x what) ≡ false) →
       ((n : ℕ) → TakesNoWord system n from (from + d) → (nat_le from t && takes_word n what) ≡ false) → Count what
@@ -139,9 +162,10 @@ module _ (system : System) (group : ℕ → Bool) (shifts : Shifts) (from : ℕ)
       never : (a b x : ℕ) → a ≤ b → (nat_le a b && (x == x)) ≡ false → ⊥
       never a b x l e = grind (arith, nat_tests)
 
-      by : WordIsLater system d from n ⊎ TakesNoWord system n from (from + d) → Set n
-      by (inl later) = later-word n o.1.known later
-      by (inr none) = absurd (never from t n l (takes n none))
+      by : WordIsLater system d from n ⊎ (TakesNoWord system n from (from + d) ⊎ (is_server system n ≡ true)) → Set n ⊎ (is_server system n ≡ true)
+      by (inl later) = inl (later-word n o.1.known later)
+      by (inr (inl none)) = absurd (never from t n l (takes n none))
+      by (inr (inr served)) = inr served
   count-row c t (row.Release x) own l o ends takes = tt
   count-row c t (row.Run x) own l o ends takes = tt
   count-row c t (row.Stop x cause k until) own l o ends takes = tt
@@ -183,33 +207,75 @@ module _ (system : System) (group : ℕ → Bool) (shifts : Shifts) (from : ℕ)
   count-all : (t c : ℕ) → from ≤ t → c < system.cores → group c ≡ true → AllByRecursion Count (whats t c)
   count-all t c l known own = forever system group shifts from well recur.recurs (λ c what. Count what) count-later from (omega arith) count-first t c l known own
 
+  -- a server is entered in a round: a thread whose round is yet to begin takes no word but the one
+  -- for which its script waits first
+  under-way : (x n word t : ℕ) (rows : List Row) → is_server system n ≡ true → Fits system x rows t (row.Got x n word) → (begun : ℕ) × ((account_at system x rows).begun ≡ Some begun)
+  under-way x n word t rows served fits = by (begun_of system x rows) refl
+    where
+      by : (begun : Option ℕ) → begun_of system x rows ≡ begun → (b : ℕ) × ((account_at system x rows).begun ≡ Some b)
+      by (Some b) e = (b, e)
+      by None e =
+          let waits = (fits (self x) e).0 in
+          let is = item_home system well x 0 (Wait n) (waits-item (slice_get (thread_part system x).script 0) n waits) in
+          absurd (contrary (is_server system n) is.2 served)
+
+  counted-row : (t : ℕ) (what : What) (rows : List Row) → ((x : ℕ) → Fits system x rows t what) → Count what → Counts system group shifts Later Set rows what
+  counted-row t (row.Round x number response) rows fits k = k
+  counted-row t (row.Got x n word) rows fits (inl set) = inl set
+  counted-row t (row.Got x n word) rows fits (inr served) = inr (under-way x n word t rows served (fits x))
+  counted-row t (row.Release x) rows fits k = tt
+  counted-row t (row.Run x) rows fits k = tt
+  counted-row t (row.Stop x cause j until) rows fits k = tt
+  counted-row t (row.Signal x note badge) rows fits k = tt
+  counted-row t (row.Arrive note badge maker) rows fits k = tt
+  counted-row t (row.Wake x note word) rows fits k = tt
+  counted-row t (row.Hold note word) rows fits k = tt
+  counted-row t (row.Order context) rows fits k = tt
+  counted-row t (row.Interrupt source at_note badge) rows fits k = tt
+
+  counted : (c t : ℕ) (whats : List What) (rows : List Row) → ((x : ℕ) → AreFit system x rows (stamped c t whats)) → AllByRecursion Count whats → AreCounted system group shifts Later Set c t rows whats
+  counted c t [] rows fits k = tt
+  counted c t (what ∷ whats) rows fits k = (counted-row t what rows (λ x. (fits x).0) k.0, counted c t whats (at t c what ∷ rows) (λ x. (fits x).1) k.1)
+
+  -- the rows of a moment, by those before it
+  fit-moment : (t x : ℕ) → AreFit system x (past_before system t) (rows_at system t)
+  fit-moment t x =
+      let P : List Row → Type 0 = λ rows. AreFit system x [] rows in
+      fit-later system x [] (clock system t).rows (rows_at system t) (subst P (rows-clock system (takes-time system well) t) (fitting system well x t))
+
   -- the turn of core c
-  alike-core : (c t : ℕ) (rows rows' : List Row) → from ≤ t → c < system.cores → Like t rows rows' → Like t (past_of rows (rows_of system c t)) (past_of rows' (rows_of system c (t + d)))
-  alike-core c t rows rows' l known h =
+  alike-core : (c t : ℕ) (rows rows' : List Row) → from ≤ t → c < system.cores → ((x : ℕ) → AreFit system x rows (rows_of system c t)) → Like t rows rows' → Like t (past_of rows (rows_of system c t)) (past_of rows' (rows_of system c (t + d)))
+  alike-core c t rows rows' l known fits h =
       alike-turn system group shifts Later Set c t (whats t c) (whats (t + d) c) rows rows' (rows-of-own system well c t known) (rows-of-own system well c (t + d) known)
-      (λ own. count-all t c l known own) (λ own. rows-again system group shifts from well recur.recurs t c l known own) h
+      (λ own. counted c t (whats t c) rows fits (count-all t c l known own)) (λ own. rows-again system group shifts from well recur.recurs t c l known own) h
 
   -- all turns of a moment, from core a on
-  alike-cores : (n a t : ℕ) (rows rows' : List Row) → from ≤ t → a + n ≤ system.cores → Like t rows rows' →
+  alike-cores : (n a t : ℕ) (rows rows' : List Row) → from ≤ t → a + n ≤ system.cores →
+      ((x : ℕ) → AreFit system x rows (flat_map (λ c. rows_of system c t) (range_with_len a n))) → Like t rows rows' →
       Like t (past_of rows (flat_map (λ c. rows_of system c t) (range_with_len a n))) (past_of rows' (flat_map (λ c. rows_of system c (t + d)) (range_with_len a n)))
-  alike-cores zero a t rows rows' l few h = h
-  alike-cores (suc n) a t rows rows' l few h =
+  alike-cores zero a t rows rows' l few fits h = h
+  alike-cores (suc n) a t rows rows' l few fits h =
       rw (
         past-append rows (rows_of system a t) (flat_map (λ c. rows_of system c t) (range_with_len (a + 1) n)),
         past-append rows' (rows_of system a (t + d)) (flat_map (λ c. rows_of system c (t + d)) (range_with_len (a + 1) n)),
-      ) (alike-cores n (a + 1) t (past_of rows (rows_of system a t)) (past_of rows' (rows_of system a (t + d))) l (omega (arith, few)) (alike-core a t rows rows' l (omega (arith, few)) h))
+      )
+      (alike-cores n (a + 1) t (past_of rows (rows_of system a t)) (past_of rows' (rows_of system a (t + d))) l (omega (arith, few))
+      (λ x. fit-later system x rows (rows_of system a t) (flat_map (λ c. rows_of system c t) (range_with_len (a + 1) n)) (fits x))
+      (alike-core a t rows rows' l (omega (arith, few)) (λ x. fit-first system x rows (rows_of system a t) (flat_map (λ c. rows_of system c t) (range_with_len (a + 1) n)) (fits x)) h))
 
   -- the findings of rows, by those before them
   module _ {A : Type 0} (tells : List Row → List Row → List A) (later : A → A) (nothing : (rows : List Row) → tells rows [] ≡ [])
       (append : (rows xs ys : List Row) → tells rows (xs ++ ys) ≡ tells rows xs ++ tells (past_of rows xs) ys)
-      (turn : (c t : ℕ) (rows rows' : List Row) → from ≤ t → c < system.cores → Like t rows rows' → tells rows' (rows_of system c (t + shifts.by)) ≡ map later (tells rows (rows_of system c t))) where
-    told-cores : (n a t : ℕ) (rows rows' : List Row) → from ≤ t → a + n ≤ system.cores → Like t rows rows' →
+      (turn : (c t : ℕ) (rows rows' : List Row) → from ≤ t → c < system.cores → ((x : ℕ) → AreFit system x rows (rows_of system c t)) → Like t rows rows' → tells rows' (rows_of system c (t + shifts.by)) ≡ map later (tells rows (rows_of system c t))) where
+    told-cores : (n a t : ℕ) (rows rows' : List Row) → from ≤ t → a + n ≤ system.cores →
+        ((x : ℕ) → AreFit system x rows (flat_map (λ c. rows_of system c t) (range_with_len a n))) → Like t rows rows' →
         tells rows' (flat_map (λ c. rows_of system c (t + d)) (range_with_len a n)) ≡ map later (tells rows (flat_map (λ c. rows_of system c t) (range_with_len a n)))
-    told-cores zero a t rows rows' l few h = nothing rows' ∙ ap (map later) (sym (nothing rows))
-    told-cores (suc n) a t rows rows' l few h =
+    told-cores zero a t rows rows' l few fits h = nothing rows' ∙ ap (map later) (sym (nothing rows))
+    told-cores (suc n) a t rows rows' l few fits h =
         let known : a < system.cores = omega (arith, few) in
         append rows' now' others'
-        ∙ both _ _ _ _ (turn a t rows rows' l known h) (told-cores n (a + 1) t (past_of rows now) (past_of rows' now') l (omega (arith, few)) (alike-core a t rows rows' l known h))
+        ∙ both _ _ _ _ (turn a t rows rows' l known fit-now h)
+        (told-cores n (a + 1) t (past_of rows now) (past_of rows' now') l (omega (arith, few)) (λ x. fit-later system x rows now others (fits x)) (alike-core a t rows rows' l known fit-now h))
         ∙ sym (map-append later (tells rows now) (tells (past_of rows now) others))
         ∙ ap (map later) (sym (append rows now others))
       where
@@ -224,6 +290,9 @@ module _ (system : System) (group : ℕ → Bool) (shifts : Shifts) (from : ℕ)
 
         others' : List Row
         others' = flat_map (λ c. rows_of system c (t + d)) (range_with_len (a + 1) n)
+
+        fit-now : (x : ℕ) → AreFit system x rows now
+        fit-now x = fit-first system x rows now others (fits x)
 
         both : (xs ys us vs : List A) → xs ≡ ys → us ≡ vs → xs ++ us ≡ ys ++ vs
         both xs ys us vs e f = cc
@@ -243,7 +312,7 @@ module _ (system : System) (group : ℕ → Bool) (shifts : Shifts) (from : ℕ)
 
   next : (t : ℕ) → from ≤ t → LikeAt t → LikeAt (suc t)
   next t l h =
-      let now = alike-cores system.cores 0 t (past t) (past (t + d)) l (omega arith) h in
+      let now = alike-cores system.cores 0 t (past t) (past (t + d)) l (omega arith) (fit-moment t) h in
       let later : Like (suc t) (past_of (past t) (rows_at system t)) (past_of (past (t + d)) (rows_at system (t + d))) =
       record {
         threads = now.threads;
@@ -273,17 +342,17 @@ module _ (system : System) (group : ℕ → Bool) (shifts : Shifts) (from : ℕ)
   abbrev is_own_job : Job → Bool
   is_own_job job = group (home job.thread)
 
-  found-core : (c t : ℕ) (rows rows' : List Row) → from ≤ t → c < system.cores → Like t rows rows' →
+  found-core : (c t : ℕ) (rows rows' : List Row) → from ≤ t → c < system.cores → ((x : ℕ) → AreFit system x rows (rows_of system c t)) → Like t rows rows' →
       filter of_group (found_in system rows' (rows_of system c (t + d))) ≡ map (later_found shifts) (filter of_group (found_in system rows (rows_of system c t)))
-  found-core c t rows rows' l known h =
+  found-core c t rows rows' l known fits h =
       found-turn system group shifts Later Set c t (whats t c) (whats (t + d) c) rows rows' (rows-of-own system well c t known) (rows-of-own system well c (t + d) known)
-      (λ own. count-all t c l known own) (λ own. rows-again system group shifts from well recur.recurs t c l known own) h
+      (λ own. counted c t (whats t c) rows fits (count-all t c l known own)) (λ own. rows-again system group shifts from well recur.recurs t c l known own) h
 
-  jobs-core : (c t : ℕ) (rows rows' : List Row) → from ≤ t → c < system.cores → Like t rows rows' →
+  jobs-core : (c t : ℕ) (rows rows' : List Row) → from ≤ t → c < system.cores → ((x : ℕ) → AreFit system x rows (rows_of system c t)) → Like t rows rows' →
       filter is_own_job (jobs_in system rows' (rows_of system c (t + d))) ≡ map (later_job_of system shifts) (filter is_own_job (jobs_in system rows (rows_of system c t)))
-  jobs-core c t rows rows' l known h =
+  jobs-core c t rows rows' l known fits h =
       jobs-turn system group shifts Later Set c t (whats t c) (whats (t + d) c) rows rows' (rows-of-own system well c t known) (rows-of-own system well c (t + d) known)
-      (λ own. count-all t c l known own) (λ own. rows-again system group shifts from well recur.recurs t c l known own) h
+      (λ own. counted c t (whats t c) rows fits (count-all t c l known own)) (λ own. rows-again system group shifts from well recur.recurs t c l known own) h
 
   pub found-later : (t : ℕ) → from ≤ t →
       filter of_group (found_in system (past_before system (t + shifts.by)) (rows_at system (t + shifts.by)))
@@ -291,7 +360,7 @@ module _ (system : System) (group : ℕ → Bool) (shifts : Shifts) (from : ℕ)
   found-later t l =
       told-cores (λ past rows. filter of_group (found_in system past rows)) (later_found shifts) (λ past. refl)
       (λ past xs ys. ap (filter of_group) (found_in-append system past xs ys) ∙ filter-append of_group (found_in system past xs) (found_in system (past_of past xs) ys))
-      found-core system.cores 0 t (past t) (past (t + d)) l (omega arith) (alike t l)
+      found-core system.cores 0 t (past t) (past (t + d)) l (omega arith) (fit-moment t) (alike t l)
 
   pub jobs-later : (t : ℕ) → from ≤ t →
       filter is_own_job (jobs_in system (past_before system (t + shifts.by)) (rows_at system (t + shifts.by)))
@@ -299,4 +368,4 @@ module _ (system : System) (group : ℕ → Bool) (shifts : Shifts) (from : ℕ)
   jobs-later t l =
       told-cores (λ past rows. filter is_own_job (jobs_in system past rows)) (later_job_of system shifts) (λ past. refl)
       (λ past xs ys. ap (filter is_own_job) (jobs_in-append system past xs ys) ∙ filter-append is_own_job (jobs_in system past xs) (jobs_in system (past_of past xs) ys))
-      jobs-core system.cores 0 t (past t) (past (t + d)) l (omega arith) (alike t l)
+      jobs-core system.cores 0 t (past t) (past (t + d)) l (omega arith) (fit-moment t) (alike t l)

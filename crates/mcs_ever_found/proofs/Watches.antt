@@ -2,7 +2,7 @@
 use Rattle.std.proofs.Common.{◌≡◌, ℕ, ◌+◌, ◌<◌, ◌⊎◌, inl, inr, Bool, true, false, List, length, get_or, sym, ap, subst, ◌∙◌}
 use Rattle.std.specs.List.{list_any}
 use Rattle.mcs_ticks.specs.declared.row.What.{What}
-use Rattle.mcs_system.specs.System.{System, thread_part, note_part, core_of}
+use Rattle.mcs_system.specs.System.{System, thread_part, note_part, core_of, is_server}
 use Rattle.mcs_system.specs.WellFormed.{IsWellFormed}
 use Rattle.mcs_verdict.specs.Account.{is_about}
 use Rattle.mcs_verdict.specs.Later.{later_account, without_total, IsLaterThread, IsSameWord, IsLaterWord}
@@ -69,10 +69,11 @@ module _ (system : System) (group : ℕ → Bool) (shifts : Shifts) (from : ℕ)
       thread x known own (inl is) = inl (thread-later system shifts.by from before after doings kept x is)
       thread x known own (inr none) = inr (ends-none system group shifts from well recurs kept.between kept.on x own (ended-none system shifts.by from before after doings kept x known none))
 
-      taken : (n : ℕ) → n < length system.notes → group (note_part system n).core ≡ true → IsLaterWord shifts.by before after n ⊎ (get_or doings.taken n false ≡ false) →
-          WordIsLater system shifts.by from n ⊎ TakesNoWord system n from (from + shifts.by)
+      taken : (n : ℕ) → n < length system.notes → group (note_part system n).core ≡ true → IsLaterWord shifts.by before after n ⊎ ((get_or doings.taken n false ≡ false) ⊎ (is_server system n ≡ true)) →
+          WordIsLater system shifts.by from n ⊎ (TakesNoWord system n from (from + shifts.by) ⊎ (is_server system n ≡ true))
       taken n known own (inl is) = inl (word-later system shifts.by from before after doings kept n is)
-      taken n known own (inr none) = inr (takes-none system group shifts from well recurs kept.between kept.on n own (taken-none system shifts.by from before after doings kept n known none))
+      taken n known own (inr (inr served)) = inr (inr served)
+      taken n known own (inr (inl none)) = inr (inl (takes-none system group shifts from well recurs kept.between kept.on n own (taken-none system shifts.by from before after doings kept n known none)))
 
   pub findings-recur : (by : ℕ) → shifts.by ≡ by → AreKept system by from before after doings → ThreadsRecur system group by before after doings (length system.threads) →
       WordsRecur system group by before after doings (length system.notes) → FindingsRecur system group shifts from

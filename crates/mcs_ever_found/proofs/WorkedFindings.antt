@@ -265,7 +265,7 @@ signals-recur =
           subst P (only x known) (kept-7 d ∙ ap (later_account 4) (sym (kept-3 d))));
       words = λ n known own d. let P : ℕ → Type 0 = λ n. (get_or (watch_before signals 7).words n d).word ≡ (get_or (watch_before signals 3).words n d).word in
           subst P (only n known) (ap (λ (held : Held). held.word) (word-7 d) ∙ sym (ap (λ (held : Held). held.word) (word-3 d)));
-      taken = λ n known own. inr (let P : ℕ → Type 0 = λ n. TakesNoWord signals n 3 7 in subst P (only n known) nobody-takes);
+      taken = λ n known own. inr (inl (let P : ℕ → Type 0 = λ n. TakesNoWord signals n 3 7 in subst P (only n known) nobody-takes));
     }
   where
     endless : (x : ℕ) → (period.rounds 0 x ≡ 0) ⊎ ((thread_part signals x).rounds ≡ 0)

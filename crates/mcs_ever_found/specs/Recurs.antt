@@ -5,7 +5,7 @@ use Rattle.std.specs.List.{AllByRecursion}
 use Rattle.mcs_ticks.specs.declared.row.Row.{Row}
 use Rattle.mcs_ticks.specs.declared.row.What.{What}
 use Rattle.mcs_ticks.specs.declared.row.What.TheVariants as row
-use Rattle.mcs_system.specs.System.{System, thread_part, note_part, core_of}
+use Rattle.mcs_system.specs.System.{System, thread_part, note_part, core_of, is_server}
 use Rattle.mcs_core.specs.Clock.{clock, schedule}
 use Rattle.mcs_verdict.specs.declared.account.Account.{Account}
 use Rattle.mcs_verdict.specs.declared.held.Held.{Held}
@@ -92,7 +92,7 @@ module _ (system : System) (by from : ℕ) where
       ((thread_part system thread).deadline ≡ 0) ⊎ ((ThreadIsLater thread × FirstWordRecurs thread) ⊎ ThreadIsIdle thread)
 
 -- the group recurs; each of its threads that ends a round is later; each of its words is the same,
--- and each word that is taken was set later
+-- and each word that is taken was set later, but for servers, whose words begin no round
 pub record FindingsRecur (system : System) (group : ℕ → Bool) (shifts : Shifts) (from : ℕ) : Type 0 where
   pub recurs : Recurs system group shifts from
   pub threads : (thread : ℕ) → thread < length system.threads → group (core_of system (thread_part system thread)) ≡ true →
@@ -100,4 +100,4 @@ pub record FindingsRecur (system : System) (group : ℕ → Bool) (shifts : Shif
   pub words : (note : ℕ) → note < length system.notes → group (note_part system note).core ≡ true →
       WordIsSame system shifts.by from note
   pub taken : (note : ℕ) → note < length system.notes → group (note_part system note).core ≡ true →
-      WordIsLater system shifts.by from note ⊎ TakesNoWord system note from (from + shifts.by)
+      WordIsLater system shifts.by from note ⊎ (TakesNoWord system note from (from + shifts.by) ⊎ (is_server system note ≡ true))

@@ -1,7 +1,7 @@
 -- The tests of watches and flags, thread by thread and notification by notification.
 use Rattle.std.specs.Prelude.{◌≡◌, ℕ, ◌<◌, ◌⊎◌, Bool, true, false, length, get_or, Some}
 use Rattle.mcs_system.specs.declared.part.ThreadPart.{ThreadPart}
-use Rattle.mcs_system.specs.System.{System, thread_part, note_part, core_of}
+use Rattle.mcs_system.specs.System.{System, thread_part, note_part, core_of, is_server}
 use Rattle.mcs_verdict.specs.declared.held.Held.{Held}
 use Rattle.mcs_verdict.specs.Later.{IsLaterThread, IsSameWord, IsLaterWord, IsBetweenRounds, IsDoneThread}
 use Rattle.mcs_verdict.specs.Rounds.{first_wait}
@@ -13,10 +13,10 @@ module _ (by : ℕ) (before after : Watch) (doings : Doings) where
   abbrev pub ThreadRecurs : ℕ → Type 0
   ThreadRecurs thread = IsLaterThread by before after thread ⊎ (get_or doings.ended thread false ≡ false)
 
-  -- the word is the same, and it was set later or is not taken
-  pub record WordRecurs (note : ℕ) : Type 0 where
+  -- the word is the same, and it was set later, is not taken, or is a server's
+  pub record WordRecurs (system : System) (note : ℕ) : Type 0 where
     pub same : IsSameWord before after note
-    pub taken : IsLaterWord by before after note ⊎ (get_or doings.taken note false ≡ false)
+    pub taken : IsLaterWord by before after note ⊎ ((get_or doings.taken note false ≡ false) ⊎ (is_server system note ≡ true))
 
 -- the word is empty: it is 0, and no signal is held in it
 pub record IsEmpty (before : Watch) (doings : Doings) (note : ℕ) : Type 0 where
@@ -55,7 +55,7 @@ module _ (system : System) (group : ℕ → Bool) (by : ℕ) (before after : Wat
       (thread : ℕ) → thread < n → group (core_of system (thread_part system thread)) ≡ true → ThreadRecurs by before after doings thread
 
   abbrev pub WordsRecur : ℕ → Type 0
-  WordsRecur n = (note : ℕ) → note < n → group (note_part system note).core ≡ true → WordRecurs by before after doings note
+  WordsRecur n = (note : ℕ) → note < n → group (note_part system note).core ≡ true → WordRecurs by before after doings system note
 
   -- all threads and notifications of the group
   pub record AllRecur : Type 0 where

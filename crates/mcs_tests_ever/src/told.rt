@@ -14,6 +14,18 @@ thread = [
 ]
 "#;
 
+/// A timer wakes the loop once in each period of 10, and the loop calls a server in each round.
+const CALLS: &str = r#"
+version = 3
+cores = 1
+delay = 1
+context = [{ name = "a", core = 0, budget = 8, period = 10 }]
+note = [{ name = "tick", core = 0 }]
+server = [{ name = "S", core = 0, priority = 10, script = ["compute 1"] }]
+source = [{ name = "timer", note = "tick", badge = 1, period = 10 }]
+thread = [{ name = "Loop", context = "a", priority = 9, deadline = 8, script = ["wait tick", "call S 1", "compute 1"] }]
+"#;
+
 /// The loop is activated at each release, computes for two ticks, and yields in a third one: each
 /// round takes 3 ticks. Its state at 20, before its release, is that at 10, but 10 ticks later.
 #[test]
@@ -70,5 +82,17 @@ fn a_starved_thread_is_found(rt: HostRuntime) -> Result<(), Fail> {
     assert_eq!(rt; all.len(), 1);
     assert!(rt; period(&all[0]) != 0);
     assert!(rt; all[0].findings == 1);
+    Ok(())
+}
+
+/// The core recurs with its source, so in a multiple of 10. A round takes at most 5 ticks: one each
+/// to take the word, to enter the server, in it, to leave it, and behind it.
+#[test]
+fn a_loop_that_calls_a_server_is_told_for_ever(rt: HostRuntime) -> Result<(), Fail> {
+    let all = told(rt.alloc(), CALLS, 1000)?;
+    assert_eq!(rt; all.len(), 1);
+    assert!(rt; period(&all[0]) != 0);
+    assert!(rt; period(&all[0]) % 10 == 0);
+    assert!(rt; all[0].findings == 0);
     Ok(())
 }

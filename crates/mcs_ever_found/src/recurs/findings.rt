@@ -1,4 +1,4 @@
-ghost use Rattle.std.specs.Prelude.{◌≡◌, ℕ, length, IsTrue, ◌↔◌};
+ghost use Rattle.std.specs.Prelude.{◌≡◌, ◌<◌, ℕ, length, IsTrue, ◌↔◌};
 ghost use Rattle.mcs_ever.specs.Closed.{has};
 ghost use Rattle.mcs_ever.specs.Recurs.{Shifts, Recurs};
 ghost use Rattle.mcs_ever_found.specs.Recurs.{FindingsRecur};
@@ -19,12 +19,22 @@ fn thread_recurs(by: u64, before: &Watch, after: &Watch, doings: &Doings, thread
     after.thread_is_later(before, thread, by) || !doings.ends_round(thread)
 }
 
-/// Whether the word is the same, and was set later or is not taken.
-fn word_recurs(by: u64, before: &Watch, after: &Watch, doings: &Doings, note: NoteId) -> bool
-    ensures { IsTrue result ↔ WordRecurs by before.now after.now doings.now note }
+/// Whether the word is the same, and was set later, is not taken, or is a server's.
+fn word_recurs(
+    system: &System,
+    by: u64,
+    before: &Watch,
+    after: &Watch,
+    doings: &Doings,
+    note: NoteId,
+) -> bool
+    requires { note < length system.now.notes }
+    ensures { IsTrue result ↔ WordRecurs by before.now after.now doings.now system.now note }
 {
     after.word_is_same(before, note)
-        && (after.word_is_later(before, note, by) || !doings.takes_word(note))
+        && (after.word_is_later(before, note, by)
+            || !doings.takes_word(note)
+            || system.parts().is_server(note))
 }
 
 /// Whether this holds for each thread on a core of the group.
@@ -66,7 +76,7 @@ fn words_recur(
         if !has_note(system, group, NoteId(note)) {
             continue;
         }
-        if !word_recurs(by, before, after, doings, NoteId(note)) {
+        if !word_recurs(system, by, before, after, doings, NoteId(note)) {
             return false;
         }
     }
@@ -77,8 +87,8 @@ fn words_recur(
 ///
 /// The watches are those before the first and the second moment; the doings are those of the rows
 /// between. The test passes if each thread of the group has a later account or ended no round. Each
-/// word of the group must also be the same, and have been set later or not be taken. Each deadline
-/// miss and each lost signal then recurs, and no others are found.
+/// word of the group must also be the same, and have been set later, not be taken, or be a server's.
+/// Each deadline miss and each lost signal then recurs, and no others are found.
 pub fn findings_recur(
     system: &System,
     group: &CoreSet,
