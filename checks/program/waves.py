@@ -147,6 +147,9 @@ def main() -> None:
         text = file.read_text()
         if text[:1].isdigit():
             dump, saved = made(file.parent.with_suffix('.toml'), text)
+            if not dump:
+                count.expect(f'{file.relative_to(TOP)}: tools/waves gave nothing', False)
+                continue
             compare(file.relative_to(TOP), rows_of(text), waves_of(dump.decode()), count)
             count.expect(f'{file.relative_to(TOP)}: the view and the dump have other waves', sorted(names_of(saved)) == sorted(waves_of(dump.decode())))
             if packs:

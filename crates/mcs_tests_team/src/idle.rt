@@ -3,7 +3,7 @@ ghost use Rattle.std.specs.Prelude.{◌≡◌, ◌≤◌, ◌^◌};
 
 use super::orders::step;
 use super::systems::{moment, system};
-use mcs_team::{Open, Refused, Sink, probe, schedule_to, simulate_alone};
+use mcs_team::{Open, Refused, Sink, probe, schedule_alone, schedule_to, simulate_alone};
 use mcs_ticks::{CoreId, NoteId, Row, ThreadId, Tick, What, Why};
 use mcs_window::Cores;
 use std::alloc::Global;
@@ -187,6 +187,22 @@ fn a_sink_gets_rows_that_are_far_apart(rt: HostRuntime) -> Result<(), Fail> {
         schedule_to(&rt, alloc, shared, horizon, workers, &Open, &mut kept)?;
         are(&rt, kept.rows.as_slice(), far_apart_rows().as_slice());
     }
+    Ok(())
+}
+
+#[test]
+fn a_sink_gets_the_rows_of_this_thread_alone(rt: HostRuntime) -> Result<(), Fail> {
+    let alloc = rt.alloc();
+    let mut kept = Kept {
+        rows: Vec::new(alloc),
+    };
+    schedule_alone(
+        alloc,
+        system(alloc, FAR_APART)?,
+        moment(2 * START)?,
+        &mut kept,
+    )?;
+    are(&rt, kept.rows.as_slice(), far_apart_rows().as_slice());
     Ok(())
 }
 
