@@ -1,6 +1,6 @@
 //! A line of each kind, in words and as an object.
 use mcs_ever::CoreSet;
-use mcs_ever_told::{Line, LineFormat, Often, put_lines};
+use mcs_ever_told::{Line, LineFormat, Often, Totals, put_lines};
 use mcs_load::load;
 use mcs_system::System;
 use mcs_ticks::{Limits, NoteId, ThreadId, Tick};
@@ -28,7 +28,7 @@ never T up to 25
 thread T: greatest response 4, throttled: never, ends no round from 13 on
 thread T: greatest response 9 so far
 nothing is ever found
-sets 3 repeating 2 findings 0
+sets 3 repeating 2 findings 0 threads 4 deadlines 1
 ";
 
 const AS_OBJECTS: &str = r#"{"kind":"repeats","cores":"0 2","from":13,"period":12}
@@ -40,7 +40,7 @@ const AS_OBJECTS: &str = r#"{"kind":"repeats","cores":"0 2","from":13,"period":1
 {"kind":"thread","thread":"T","greatest":4,"throttled":"never","ends_no_round_from":13}
 {"kind":"thread_so_far","thread":"T","greatest":9}
 {"kind":"clean","cores":"0 2"}
-{"kind":"sets","sets":3,"repeating":2,"findings":0}
+{"kind":"sets","sets":3,"repeating":2,"findings":0,"threads":4,"deadlines":1}
 "#;
 
 /// Cores 0 and 2, and a core that the system does not have.
@@ -93,9 +93,13 @@ fn lines() -> [Line; 10] {
         },
         Line::Clean { cores },
         Line::Sets {
-            sets: 3,
-            repeating: 2,
-            findings: 0,
+            totals: Totals {
+                sets: 3,
+                repeating: 2,
+                findings: 0,
+                threads: 4,
+                deadlines: 1,
+            },
         },
     ]
 }
