@@ -6,6 +6,9 @@ proved, the line before it says why. The gate leaves its programs in crates/mcsi
 then the library for C is built. With --program or --no-proofs, or if the command rt is not on PATH, nothing is proved: the checks take the program that
 is given, or else crates/mcsim/out/mcsim or bin/mcsim, and the mcscheck beside it, or that of crates/mcscheck/out or bin.
 
+Near the end it names the five parts of the gate that took longest, each beside the table of the gate's cost (checks/proofs/gate.csv). A gate that passed
+and costs more than 1.3 times that table, times the median ratio, counts as a failure (checks/proofs/gate_beside.py).
+
 With --all-edits it tries each edit that the prover must refuse, of must-fail and of edits, whose row in checks/proofs/edits.csv is not of these sources,
 and nothing else. --shard K/N tries the K-th of N parts of the crates, so that several machines or runs share the work.
 
@@ -21,6 +24,7 @@ import re
 import shutil
 import subprocess
 import sys
+import tempfile
 import time
 from collections.abc import Sequence
 from typing import Any, NamedTuple
@@ -105,6 +109,7 @@ BY_HAND = (
     ('program', 'forever_model'), ('measure', 'performance'), ('measure', 'costs'), ('measure', 'checker_costs'), ('measure', 'forever_table'),
     ('measure', 'beside'), ('measure', 'gains'),
 )
+GATE = HERE / 'proofs' / 'gate.py'
 PAGE = HERE / 'README.md'
 BEGINS, ENDS = '<!-- tables of everything.py -->', '<!-- end of tables -->'
 
@@ -152,6 +157,8 @@ def asked() -> argparse.Namespace:
     words = parser.parse_args()
     if words.shard and not words.all_edits:
         parser.error('--shard is for --all-edits')
+    if words.times and words.times.suffix == '.json':
+        parser.error('the .json is written beside the FILE of --times')
     return words
 
 
@@ -166,11 +173,9 @@ def why_no_proofs(words: argparse.Namespace) -> str | None:
     return None
 
 
-def gate_command(words: argparse.Namespace) -> list[str]:
-    anew = ['--anew'] if words.anew else []
-    if words.times:
-        return [sys.executable, str(HERE / 'proofs' / 'gate.py'), *anew, str(words.times.resolve())]
-    return ['rt', 'ci', *anew]
+def gate_command(words: argparse.Namespace, times: pathlib.Path) -> list[str]:
+    """The gate, by the script that times its tasks; it writes them to TIMES, and to the same name with .json."""
+    return [sys.executable, str(GATE), *(['--anew'] if words.anew else []), str(times)]
 
 
 def judged(told: Tally | None, status: int, what: str) -> tuple[str, Tally]:
@@ -217,13 +222,28 @@ def build_library(began: float) -> Tally:
     return Tally(passed=int(built), failed=int(not built))
 
 
-def prove(words: argparse.Namespace) -> Tally:
+def compare(times: pathlib.Path) -> Tally:
+    """Says what took longest in the gate and what its table says of it. If that cannot be said, nothing fails."""
+    made = times.with_suffix('.json')
+    if not made.is_file():
+        return Tally()
+    how: dict[str, Any] = {'stdin': subprocess.DEVNULL, 'stdout': subprocess.PIPE, 'stderr': subprocess.STDOUT, 'text': True, 'errors': 'replace'}
+    ran = subprocess.run([sys.executable, str(GATE), '--from', str(made), '--compare'], **how)
+    *lines, last = ran.stdout.splitlines() or ['']
+    told = common.tally_of(last)
+    say('\n'.join(['== the cost of the gate', *lines]))
+    if told is None:
+        say(f'{last}\nthe cost of the gate is not compared')
+    return told or Tally()
+
+
+def prove(words: argparse.Namespace, times: pathlib.Path) -> Tally:
     """Runs the gate, unless nothing is to be proved."""
     if why := why_no_proofs(words):
         say(f'nothing was proved: {why}')
         return Tally(skipped=1)
     began = time.time()
-    count = counted(gate_command(words), 'rt ci')
+    count = counted(gate_command(words, times), 'rt ci')
     for name in common.PROGRAMS:
         stamp(common.built_of(name), began)
     return count if count.failed else count.plus(build_library(began))
@@ -273,9 +293,10 @@ def checks_for(words: argparse.Namespace, program: pathlib.Path | None) -> list[
     return [check for check in wanted if program or not check.tries_program]
 
 
-def run_all(words: argparse.Namespace) -> int:
+def run_all(words: argparse.Namespace, times: pathlib.Path) -> int:
+    """Runs the gate, which writes its times to a file, and the checks, and says what the gate cost."""
     say(f'processors: {len(os.sched_getaffinity(0))}')
-    total = prove(words)
+    total = prove(words, times)
     program = program_to_try(words)
     if program is None:
         say('failed: there is no built program to check')
@@ -285,6 +306,8 @@ def run_all(words: argparse.Namespace) -> int:
     total = total.plus(check_all(checks_for(words, program), program))
     if why := why_no_proofs(words):
         say(f'nothing was proved: {why}')
+    else:
+        total = total.plus(compare(times))
     print(total)
     return total.status
 
@@ -308,7 +331,10 @@ def main() -> int:
         print(tables(), end='')
     if words.write:
         PAGE.write_text(with_tables(PAGE.read_text(encoding='utf-8')), encoding='utf-8')
-    return 0 if words.list or words.write else run_all(words)
+    if words.list or words.write:
+        return 0
+    with tempfile.TemporaryDirectory() as folder:
+        return run_all(words, words.times.resolve() if words.times else pathlib.Path(folder, 'times.md'))
 
 
 if __name__ == '__main__':

@@ -3,7 +3,8 @@
 
 That is a layout that is not that of rt fmt, a file that no check reads, a module without a file, an operator under another name. An edit, whether the
 gate tries it or not, cannot be applied where its text does not stand once. And the launcher mcsim is asked for the crates that it proves: they are
-those on which each program stands. Each finding has a line, and each crate counts as one try. It needs the command rt; without it all of it is skipped."""
+those on which each program stands. Each finding has a line, and each crate counts as one try. All this needs the command rt, and is skipped without it.
+Without it too, checks/README.md is held to have the cost of the gate as checks/proofs/gate.csv has it."""
 from __future__ import annotations
 
 import glob
@@ -24,6 +25,7 @@ sys.dont_write_bytecode = True
 sys.path[0] = str(pathlib.Path(__file__).resolve().parents[2])
 from checks import common
 from checks.common import TOP, Count
+from checks.proofs import gate_cost
 
 LAUNCHER = 'mcsim'
 # the folder of the edits that the gate leaves out
@@ -123,6 +125,8 @@ def look_at_launcher(crates: Sequence[Any], count: Count) -> None:
 def main() -> None:
     common.asking(__doc__).parse_args()
     count = Count()
+    wrong = gate_cost.page_differs()
+    count.expect(wrong, not wrong)
     path = shutil.which('rt')
     if path is None:
         count.skip('what the gate looks at first, since the command rt is not on PATH')

@@ -4,10 +4,14 @@
 
 rt has no option that tells times, so it is loaded as a module and three calls are replaced, none of which changes what the gate does: the one that
 runs tasks side by side (there each task gets its clock), the pool in which a task starts commands (its threads count for that task), and the one
-by which Python waits for a process (there the processor's seconds come from)."""
+by which Python waits for a process (there the processor's seconds come from).
+
+If rt cannot be loaded, or lacks one of these calls, a line says so, and `rt ci` runs as it is. What goes wrong with the clocks later is a line too: the
+exit code is always that of the gate."""
 from __future__ import annotations
 
 import collections
+import datetime
 import importlib.machinery
 import importlib.util
 import json
@@ -20,7 +24,7 @@ import time
 import types
 from collections.abc import Callable
 from concurrent.futures import Future, ThreadPoolExecutor
-from typing import Any
+from typing import Any, NoReturn
 
 # (crate, part) of a task, and the number of an edit
 Key = tuple[Any, ...]
@@ -52,14 +56,14 @@ def counted_wait(process: int, flags: int) -> tuple[int, int]:
     return ended, status
 
 
-def clocked(key: Key, call: Callable[[Any, int], Any]) -> Callable[[Any, int], Any]:
+def clocked(key: Key, call: Callable[..., Any]) -> Callable[..., Any]:
     """The call of a task, which tells when it began and when it ended."""
 
-    def run(given: Any, jobs: int) -> Any:
+    def run(*given: Any, **named: Any) -> Any:
         here.task = key
         started = time.monotonic() - began
         try:
-            return call(given, jobs)
+            return call(*given, **named)
         finally:
             clocks[key] = started, time.monotonic() - began
             here.task = None
@@ -79,17 +83,38 @@ class Counted(ThreadPoolExecutor):
         return call(*given, **named)
 
 
-def hook(rt: Any) -> None:
-    """Replaces the three calls."""
-    in_lanes = rt.in_lanes
+def with_clocks(tasks: dict[Key, tuple[Any, ...]]) -> dict[Key, tuple[Any, ...]]:
+    """The tasks of rt, each of which is what it waits for, its lines, its memory and its call."""
+    timed = {key: (*task[:3], clocked(key, task[3]), *task[4:]) for key, task in tasks.items()}
+    tasks_seen.update(tasks)
+    return timed
 
-    def clocked_lanes(tasks: dict[Key, tuple[Any, ...]]) -> Any:
-        tasks_seen.update(tasks)
-        return in_lanes({key: (*task[:3], clocked(key, task[3])) for key, task in tasks.items()})
+
+def hook(rt: Any) -> None:
+    """Replaces the three calls; a call that rt lacks is an AttributeError."""
+    in_lanes, _, _ = rt.in_lanes, rt.rtlib.ThreadPoolExecutor, rt.main
+
+    def clocked_lanes(tasks: dict[Key, tuple[Any, ...]], *given: Any, **named: Any) -> Any:
+        try:
+            timed = with_clocks(tasks)
+        except Exception as why:
+            complain('the tasks have no clocks', why)
+            timed = tasks
+        return in_lanes(timed, *given, **named)
 
     rt.in_lanes = clocked_lanes
     rt.rtlib.ThreadPoolExecutor = Counted
     os.waitpid = counted_wait
+
+
+def complain(what: str, why: BaseException) -> None:
+    print(f'timed_rt.py: {what}: {type(why).__name__}: {why}', flush=True)
+
+
+def kit_of(rt: Any) -> str:
+    """The line by which the kit names itself; nothing if it has none."""
+    file = pathlib.Path(getattr(rt, 'KIT', '/none'), 'KIT-ID')
+    return file.read_text().strip() if file.is_file() else ''
 
 
 def told() -> dict[str, Any]:
@@ -105,15 +130,33 @@ def told() -> dict[str, Any]:
     return {'tasks': tasks, 'runs': seconds[None], 'minutes': (time.monotonic() - began) / 60}
 
 
+def keep(file: str, rt: Any, status: int) -> None:
+    """Writes what was measured, with the date, the kit, the number of processors and the status of the gate."""
+    how = {'date': str(datetime.date.today()), 'kit': kit_of(rt), 'processors': len(os.sched_getaffinity(0)), 'status': status}
+    pathlib.Path(file).write_text(json.dumps({**told(), **how}))
+
+
+def without_clocks(path: str, words: list[str], why: BaseException) -> NoReturn:
+    """Becomes the command rt as it is."""
+    complain('rt runs without clocks', why)
+    os.execv(path, [path, 'ci', *words])
+
+
 def main() -> int:
     file, words = sys.argv[1], sys.argv[2:]
     path = os.path.realpath(shutil.which('rt') or sys.exit('timed_rt.py: the command rt is not on PATH'))
     # rt reads its own words from here, too
     sys.argv = ['rt', 'ci', *words]
-    rt = loaded(path)
-    hook(rt)
+    try:
+        rt = loaded(path)
+        hook(rt)
+    except (Exception, SystemExit) as why:
+        without_clocks(path, words, why)
     status: int = rt.main(['ci', *words])
-    pathlib.Path(file).write_text(json.dumps(told()))
+    try:
+        keep(file, rt, status)
+    except Exception as why:
+        complain('no times are kept', why)
     return status
 
 

@@ -17,11 +17,28 @@ MANY = len(everything.CHECKS)
 OTHERS = 2 * sum(not check.tries_program for check in everything.CHECKS)
 # what ./test, .ci/run and the made-up gate call
 TOOLS = ('sh', 'bash', 'dirname', 'mkdir', 'chmod', 'sleep')
+# the scripts that run the gate
+GATE = ('gate', 'gate_beside', 'gate_cost', 'gate_tasks', 'timed_rt')
 # in place of the script that builds the library
 BUILDS_LIBRARY = """import pathlib
 file = pathlib.Path(__file__).parents[2] / 'crates' / 'mcs_c' / 'out' / 'libmcs_c.a'
 file.parent.mkdir()
 file.write_text('new\\n')
+"""
+# a made-up gate whose tasks can be timed
+TIMED = """#!/usr/bin/env python3
+import concurrent.futures, types
+rtlib = types.SimpleNamespace(ThreadPoolExecutor=concurrent.futures.ThreadPoolExecutor)
+
+def in_lanes(tasks):
+    for waits, lines, needs, call in tasks.values():
+        call({}, 1)
+
+def main(words):
+    in_lanes({('a', 'proof'): ([], 7, 1, lambda given, jobs: True)})
+    print('rt: said')
+    print('5 passed, 0 failed')
+    return 0
 """
 # what the made-up gate builds
 BUILDS = 'mkdir -p crates/mcsim/out; echo "exit 0" >crates/mcsim/out/mcsim; chmod +x crates/mcsim/out/mcsim'
@@ -37,8 +54,9 @@ class Folder:
             (self.top / part).mkdir()
         shutil.copy(TOP / 'test', self.top)
         shutil.copy(TOP / '.ci' / 'run', self.top / '.ci')
-        for script in ('__init__.py', 'common.py', 'everything.py'):
-            shutil.copy(CHECKS / script, self.top / 'checks')
+        (self.top / 'checks' / 'proofs').mkdir()
+        for script in ('__init__.py', 'common.py', 'everything.py', *(f'proofs/{name}.py' for name in GATE)):
+            shutil.copy(CHECKS / script, self.top / 'checks' / script)
         for tool in TOOLS:
             (self.tools / tool).symlink_to(shutil.which(tool) or tool)
         (self.tools / 'python3').symlink_to(sys.executable)
@@ -129,7 +147,8 @@ class WithAGate(InFolder):
         self.folder.script('bin/mcsim', 'exit 0')
         status, lines = self.folder.run('bash', '.ci/run')
         self.assertEqual((status, lines[-1]), (0, f'{5 + 2 * MANY} passed, 0 failed'))
-        self.assertEqual(lines[1:3], ['rt: said', 'rt ci: 5 passed, 0 failed'])
+        self.assertTrue(lines[1].startswith('timed_rt.py: rt runs without clocks: '))
+        self.assertEqual(lines[2:4], ['rt: said', 'rt ci: 5 passed, 0 failed'])
         self.assertFalse([line for line in lines if 'nothing was proved' in line])
         self.assertIn(f'tries --program {(self.folder.top / "crates/mcsim/out/mcsim").resolve()}', lines)
         self.assertEqual(self.counts(lines), lines[-1:])
@@ -166,6 +185,52 @@ class WithAGate(InFolder):
         status, lines = self.folder.run('./test', '--anew', '--times', 'table')
         self.assertEqual((status, lines[-1]), (0, f'{5 + 2 * MANY} passed, 0 failed'))
         self.assertIn(f'timed --anew {(self.folder.top / "table").resolve()}', lines)
+
+    def with_times(self, compares: str, times: str = '{}', *words: str) -> tuple[int, list[str]]:
+        """What ./test says where the gate keeps its times, and this is what compares them."""
+        keeps = f'pathlib.Path(sys.argv[-1]).with_suffix(".json").write_text("{times}")' if times else 'pass'
+        self.folder.check('proofs/gate', f'import pathlib\nif "--compare" in sys.argv:\n    {compares}\nelse:\n    {keeps}\n    print("5 passed, 0 failed")')
+        self.folder.script('crates/mcsim/out/mcsim', 'exit 0')
+        self.folder.gate('exit 1')
+        status, lines = self.folder.run('./test', *words)
+        self.assertEqual(self.counts(lines), lines[-1:])
+        return status, lines
+
+    def test_the_cost_of_the_gate_is_said_near_the_end(self) -> None:
+        status, lines = self.with_times('print("dear", *sys.argv[1:2]); print("1 passed, 0 failed")')
+        self.assertEqual((status, lines[-3:]), (0, ['== the cost of the gate', 'dear --from', f'{6 + 2 * MANY} passed, 0 failed']))
+
+    def test_a_gate_that_is_too_dear_fails_the_whole(self) -> None:
+        status, lines = self.with_times('print("failed: dear"); print("0 passed, 1 failed"); sys.exit(1)')
+        self.assertEqual((status, lines[-2:]), (1, ['failed: dear', f'{5 + 2 * MANY} passed, 1 failed']))
+
+    def test_a_cost_that_cannot_be_compared_fails_nothing(self) -> None:
+        for compares in ('raise ValueError("no table")', 'sys.exit(3)', 'print("0 passed, 0 failed")'):
+            status, lines = self.with_times(compares)
+            self.assertEqual((status, lines[-1]), (0, f'{5 + 2 * MANY} passed, 0 failed'))
+            self.assertEqual('the cost of the gate is not compared' in lines, 'print' not in compares)
+
+    def test_a_gate_without_times_is_not_compared(self) -> None:
+        status, lines = self.with_times('print("9 passed, 9 failed")', '')
+        self.assertEqual((status, lines[-1]), (0, f'{5 + 2 * MANY} passed, 0 failed'))
+        self.assertFalse([line for line in lines if 'cost' in line])
+
+    def test_times_stay_beside_the_report_that_is_asked_for(self) -> None:
+        self.with_times('print("0 passed, 0 failed")', 'kept', '--times', 'table.md')
+        self.assertEqual((self.folder.top / 'table.json').read_text(), 'kept')
+
+    def test_times_as_json_are_refused(self) -> None:
+        self.assertEqual(self.folder.run('./test', '--times', 'table.json')[0], 2)
+
+    def test_a_gate_of_python_is_timed(self) -> None:
+        self.folder.gate('')
+        (self.folder.tools / 'rt').write_text(TIMED)
+        self.folder.script('crates/mcsim/out/mcsim', 'exit 0')
+        status, lines = self.folder.run('./test', '--times', 'table.md')
+        self.assertEqual((status, lines[-1]), (0, f'{5 + 2 * MANY} passed, 0 failed'))
+        self.assertEqual(lines[1:3], ['rt: said', 'rt ci: 5 passed, 0 failed'])
+        self.assertEqual(lines[-3:-1], ['== the cost of the gate', 'the gate has no table of its cost: checks/proofs/gate.py --anew --write makes it'])
+        self.assertIn('| `a` | - |', (self.folder.top / 'table.md').read_text())
 
     def test_a_source_that_is_edited_meanwhile_is_newer_than_the_program(self) -> None:
         self.folder.gate(f'sleep 0.1; echo x >source; {BUILDS}; echo 5 passed, 0 failed')
