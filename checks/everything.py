@@ -90,6 +90,7 @@ CHECKS = (
     Check('proofs', 'theorems', tries_program=False),
     Check('proofs', 'believe', tries_program=False),
     Check('proofs', 'comments', tries_program=False),
+    Check('proofs', 'unused', 3, tries_program=False),
     Check('program', 'faults'),
     Check('program', 'checker', 5),
     Check('program', 'progress', 15),
