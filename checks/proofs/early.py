@@ -3,7 +3,8 @@
 
 That is a layout that is not that of rt fmt, a file that no check reads, a module without a file, an operator under another name. An edit, whether the
 gate tries it or not, cannot be applied where its text does not stand once. And the launcher mcsim is asked for the crates that it proves: they are
-those on which each program stands. Each finding has a line, and each crate counts as one try. All this needs the command rt, and is skipped without it.
+those on which each program stands. A library's may_wait in crates.txt is how many of its functions have the bound Wait: rt verdict holds it to the last
+line of a proof, and rt ci does not look at it. Each finding has a line, and each crate counts as one try. All this needs the command rt, and is skipped without it.
 Without it too, checks/README.md is held to have the cost of the gate as checks/proofs/gate.csv has it."""
 from __future__ import annotations
 
@@ -30,6 +31,8 @@ from checks.proofs import gate_cost
 LAUNCHER = 'mcsim'
 # the folder of the edits that the gate leaves out
 LEFT_OUT = 'edits'
+# how the names of crates of tests begin
+TESTS = 'mcs_tests_'
 
 
 def refuse(why: str) -> None:
@@ -48,6 +51,23 @@ def loaded(path: str) -> types.ModuleType:
     rt.Crate.cuts_libraries = True
     rt.Crate.allowed = rt.handles_of(str(TOP))
     return rt
+
+
+def end_of_block(text: str, start: int) -> int:
+    """The place of the brace that closes the one at a place."""
+    depth = 0
+    for found in re.finditer('[{}]', text[start:]):
+        depth += 1 if found[0] == '{' else -1
+        if not depth:
+            return start + found.start()
+    return len(text)
+
+
+def waiting(text: str) -> list[str]:
+    """The functions of a source, without comments, that may wait: they or their impl block name the bound Wait before the first brace."""
+    blocks = [(found.end() - 1, end_of_block(text, found.end() - 1)) for found in re.finditer(r'^(?:impl|trait)\b[^{;]*\bWait\b[^{;]*\{', text, re.M)]
+    heads = re.finditer(r'\bfn\s+(\w+)([^{;]*)', text)
+    return [head[1] for head in heads if re.search(r'\bWait\b', head[2]) or any(start < head.start() < end for start, end in blocks)]
 
 
 def said(look: Callable[[], object]) -> list[str]:
@@ -92,6 +112,15 @@ class Looks:
             if texts is None:
                 yield f'{os.path.basename(edit)}: {why}'
 
+    def waits(self, crate: Any) -> Iterator[str]:
+        """A count in crates.txt that is not that of the sources. Programs have another rule, and the tests of a crate of tests are not counted."""
+        if crate.is_program or crate.name.startswith(TESTS):
+            return
+        found = [name for file, text in sorted(self.kit.blanked(crate.folder).items()) if file.endswith('.rt') for name in waiting(text)]
+        given = int(crate.said.get('may_wait', 0))
+        if given != len(found):
+            yield f'may_wait={given} in crates.txt, and {len(found)} functions have the bound Wait: {" ".join(found) or "none"}'
+
     def modules(self, crate: Any) -> Iterator[str]:
         for file in glob.glob(f'{crate.folder}/**/*.antt', recursive=True):
             # Lib.antt lists what stands beside it, and any other file what stands in the folder of its name
@@ -101,7 +130,7 @@ class Looks:
             yield from (f'{os.path.relpath(file, crate.folder)} names {name}, which has no file' for name in names if not os.path.exists(f'{folder}/{name}.antt'))
 
     def findings(self, crate: Any) -> list[str]:
-        return [found for look in (self.files, self.texts, self.layout, self.modules, self.edits) for found in look(crate)]
+        return [found for look in (self.files, self.texts, self.layout, self.modules, self.edits, self.waits) for found in look(crate)]
 
 
 def launched(program: str) -> list[str] | None:
