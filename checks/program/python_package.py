@@ -1,11 +1,13 @@
 #!/usr/bin/env python3
 """Checks the package for Python: pip builds it, a wheel of it works without a compiler, and its tests pass under mypy --strict users' code.
 
-It is built of a copy, from the source by pip and as a wheel by python3 -m build, and each is put into a virtual environment of its own. The unit tests of
-python/tests run with the wheel, where no command is on PATH. What a user writes (python/tests/typed_use.py) has no finding of mypy --strict.
+It is built of a copy, with the library that was built here if there is one: from the source by pip, and as a wheel by python3 -m build. Each is put into a
+virtual environment of its own. The unit tests of python/tests run with the wheel, where no command is on PATH. What a user writes (python/tests/typed_use.py)
+has no finding of mypy --strict.
 
-It takes the first Python with pip, setuptools and wheel, of the one that runs this and Debian's (python3-setuptools, python3-wheel); without one, or
-without a C compiler, all is skipped. What needs build (python3-build) or mypy is skipped without it."""
+It takes the first Python with pip, setuptools, wheel and build, of the one that runs this and Debian's (python3-setuptools, python3-wheel, python3-build).
+If none has build, it takes the first with the others, and skips the wheel; without one, or without a C compiler, all is skipped. What needs mypy is
+skipped without it."""
 from __future__ import annotations
 
 import os
@@ -21,6 +23,7 @@ from checks import common
 from checks.common import TOP, Count, Ran
 
 PYTHONS = (sys.executable, '/usr/bin/python3')
+NEEDED = ('pip', 'setuptools', 'wheel', 'venv')
 HAS_MODULES = 'import importlib.util, sys; sys.exit(not all(map(importlib.util.find_spec, sys.argv[1:])))'
 SOURCE = TOP / 'python'
 TESTS = SOURCE / 'tests'
@@ -53,6 +56,8 @@ class Trial:
         for name in (*BELOW, 'python'):
             skipped = shutil.ignore_patterns('__pycache__', 'build', 'dist', '*.egg-info')
             shutil.copytree(TOP / name, folder / 'source' / name, ignore=skipped)
+        if common.LIBRARY.is_file():
+            shutil.copy(common.LIBRARY, folder / 'source' / 'bin')
 
     def run(self, *command: str | pathlib.Path, path: str | None = None) -> Ran:
         env = {**os.environ, 'PYTHONDONTWRITEBYTECODE': '1', **({} if path is None else {'PATH': path})}
@@ -136,7 +141,7 @@ class Trial:
 
 def main() -> None:
     common.asking(__doc__).parse_args()
-    python = next((python for python in PYTHONS if has(python, 'pip', 'setuptools', 'wheel', 'venv')), None)
+    python = next((python for modules in (('build',), ()) for python in PYTHONS if has(python, *NEEDED, *modules)), None)
     has_compiler = any(map(shutil.which, ('cc', 'gcc', 'clang')))
     if python is None or not has_compiler:
         count = Count()

@@ -198,7 +198,7 @@ class Figures:
 FINDINGS: Mapping[str, type[Union[Miss, Overdue, Lost, Never]]] = {'miss': Miss, 'overdue': Overdue, 'lost': Lost, 'never': Never}
 # the names of the values that each class has
 NAMES: Mapping[type[Any], frozenset[str]] = {
-    kind: frozenset(field.name for field in dataclasses.fields(kind)) for kind in (Miss, Overdue, Lost, Never, Hint, Counts, Job, Figures)
+    kind: frozenset(field.name for field in dataclasses.fields(kind)) for kind in (Miss, Overdue, Lost, Never, Unjudged, Hint, Counts, Job, Figures)
 }
 
 
