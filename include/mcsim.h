@@ -123,8 +123,7 @@ uint32_t mcs_version(void);
  *   MCS_NO_MEMORY       0                            unchanged
  *
  * Bytes behind the output are unchanged. The duties are those of mcs_run, for allowed as for text.
- * The call keeps all rows until the last is made, unless part is MCS_FINDINGS and the text has no
- * chain. */
+ * The call keeps no rows. */
 uint32_t mcs_check(const uint8_t *text, size_t text_bytes, uint64_t horizon, uint32_t part, uint32_t format, const uint8_t *allowed, size_t allowed_bytes, uint8_t *room, size_t room_bytes, size_t *length);
 
 /* The kinds of rows. */
