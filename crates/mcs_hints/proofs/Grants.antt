@@ -4,7 +4,7 @@ use Rattle.std.specs.List.{filter, sum_by}
 use Rattle.std.proofs.Math.Nat.{zero-add, mul-le-mul_right, div-le_of_le-mul}
 use Rattle.std.proofs.lemmas.Bool.{cases_lt}
 use Rattle.std.proofs.lemmas.Bool.Decides.{nat_tests}
-use Rattle.std.proofs.lemmas.List.{get_or_past, get_or_read}
+use Rattle.std.proofs.lemmas.List.{get_or_past}
 use Rattle.std.proofs.lemmas.List.Elements.{filter-append}
 use Rattle.std.proofs.lemmas.List.Sums.{sum_by-append, sum_by-le, length-filter, count_by-le-length}
 use Rattle.std.proofs.lemmas.List.FromFn.{length-range_with_len}
@@ -19,7 +19,7 @@ use Rattle.mcs_system.specs.System.{System, context_part, no_context}
 use Rattle.mcs_system.specs.WellFormed.{IsWellFormed}
 use Rattle.mcs_hints.specs.Numbers.{numbers}
 use Rattle.mcs_hints.specs.Contexts.{is_bound, share_by, share_where, share_of}
-use Rattle.mcs_hints.proofs.Numbers.{numbers_more}
+use Rattle.mcs_hints.proofs.Numbers.{numbers_more, read_known}
 
 -- what SchedControl accepts is in range
 pub accepted-config : (least : ℕ) (config : Config) → IsOk (checked least config) → IsConfig config
@@ -32,7 +32,7 @@ accepted-config least config h = by (checked least config) refl h
 -- what is read of the contexts
 pub part_known : (system : System) (contexts : List ContextPart) (n : ℕ) (part : ContextPart) → contexts ≡ system.contexts → n < length contexts
     → part ≡ get_or contexts n part → part ≡ context_part system n
-part_known system contexts n part same h is = get_or_read contexts n part h is no_context ∙ ap (λ xs. get_or xs n no_context) same
+part_known system contexts n part same h is = read_known contexts system.contexts n part no_context same h is
 
 pub config_known : (system : System) (n : ℕ) (part : ContextPart) → IsWellFormed system → n < length system.contexts → part ≡ context_part system n
     → IsConfig part.config

@@ -1,6 +1,7 @@
 pub mod Numbers
 pub mod Marks
 pub mod Bounds
+pub mod Taken
 pub mod Grants
 mod Digits
 pub mod Worked

@@ -4,7 +4,7 @@ use Rattle.std.specs.List.{filter_map}
 use Rattle.std.specs.Option.{option_to_list}
 use Rattle.std.proofs.Math.Nat.{zero-add}
 use Rattle.std.proofs.lemmas.Bool.{cases_eq}
-use Rattle.std.proofs.lemmas.List.{length-set, length-replicate, get_or-set_same, get_or-set_other, get_or-replicate, map-id}
+use Rattle.std.proofs.lemmas.List.{get_or_read, length-set, length-replicate, get_or-set_same, get_or-set_other, get_or-replicate, map-id}
 use Rattle.std.proofs.lemmas.List.Elements.{filter_map-append}
 use Rattle.std.proofs.lemmas.List.FromFn.{length-map-range_with_len, get_or-map-range_with_len, map-range_with_len_more, fill_by_all}
 use Rattle.mcs_hints.specs.Numbers.{numbers}
@@ -59,3 +59,7 @@ kept_more h n told old before after kept is e =
     is ∙ ap (λ xs. xs ++ option_to_list told) kept ∙ append_assoc old (filter_map h (numbers n)) (option_to_list told)
     ∙ ap (λ xs. old ++ (filter_map h (numbers n) ++ xs)) (ap option_to_list e ∙ sym (as_list h n (h n) refl))
     ∙ ap (λ xs. old ++ xs) (sym (filter_map-append h (numbers n) (n ∷ [])) ∙ ap (filter_map h) (sym (numbers_more n)))
+
+-- what is read of a list
+pub read_known : {X : Type 0} (read all : List X) (n : ℕ) (x d : X) → read ≡ all → n < length read → x ≡ get_or read n x → x ≡ get_or all n d
+read_known read all n x d same h is = get_or_read read n x h is d ∙ ap (λ xs. get_or xs n d) same

@@ -1,12 +1,12 @@
 -- Hints that were worked by hand.
 use Rattle.std.specs.Prelude.{◌≡◌, ℕ, Bool, true, false, List, [], ◌∷◌, filter, refl}
 use Rattle.mcs_script.specs.declared.item.Item.{Item}
-use Rattle.mcs_script.specs.declared.item.Item.TheVariants.{Compute, Signal, Wait, On}
+use Rattle.mcs_script.specs.declared.item.Item.TheVariants.{Compute, Signal, Wait, On, Enter, Leave}
 use Rattle.mcs_control.specs.declared.config.Mode.TheVariants as mode
 use Rattle.mcs_system.specs.declared.part.ContextPart.{ContextPart}
 use Rattle.mcs_system.specs.declared.part.ThreadPart.{ThreadPart}
 use Rattle.mcs_system.specs.System.{System}
-use Rattle.mcs_hints.specs.declared.hint.Hint.TheVariants.{NoThread, NoDeadline, Unsignalled, Unbound, Unused, Overcommitted}
+use Rattle.mcs_hints.specs.declared.hint.Hint.TheVariants.{NoThread, NoDeadline, Unsignalled, Unawaited, Unhandled, Unheard, Inverted, Unbound, Unused, Overcommitted}
 use Rattle.mcs_hints.specs.declared.hint.Hint.{Hint}
 use Rattle.mcs_hints.specs.Hints.{hints_of as all_hints_of}
 use Rattle.mcs_hints.specs.Cores.{granted}
@@ -113,8 +113,61 @@ with_source parts = record parts { sources = record { name = []; note = 1; badge
 interrupted : hints_of (with_source (system one (thread 0 (Wait 1 ∷ On 1 ∷ Compute 1 ∷ []) ∷ []))) ≡ []
 interrupted = refl
 
-other_is_interrupted : hints_of (with_source (system one (thread 0 (Wait 0 ∷ Compute 1 ∷ []) ∷ []))) ≡ Unsignalled 0 ∷ []
+other_is_interrupted : hints_of (with_source (system one (thread 0 (Wait 0 ∷ Compute 1 ∷ []) ∷ []))) ≡ Unsignalled 0 ∷ Unawaited 0 1 ∷ []
 other_is_interrupted = refl
+
+-- no handler takes the source's badge 1
+unhandled : hints_of (with_source (system one (thread 0 (Wait 1 ∷ On 2 ∷ Compute 1 ∷ []) ∷ []))) ≡ Unhandled 0 1 1 ∷ []
+unhandled = refl
+
+-- the handler of another thread takes it
+handled_by_another : hints_of (with_source (system one (thread 0 (Wait 1 ∷ On 2 ∷ Compute 1 ∷ []) ∷ thread 0 (Wait 1 ∷ On 3 ∷ Compute 1 ∷ []) ∷ []))) ≡ []
+handled_by_another = refl
+
+-- a wait that is not the first item takes each badge, in a handler too
+taken_by_a_later_wait : hints_of (with_source (system one (thread 0 (Wait 1 ∷ On 2 ∷ Wait 1 ∷ Compute 1 ∷ []) ∷ []))) ≡ []
+taken_by_a_later_wait = refl
+
+-- thread 1 signals notification 1, for which thread 0 waits
+abbrev signalled_with : ℕ → List Item → List Hint
+signalled_with badge waits = hints_of (system one (thread 0 waits ∷ thread 0 (Compute 1 ∷ Signal 1 badge ∷ []) ∷ []))
+
+-- no handler takes badge 4, and one takes a part of badge 5
+unheard : signalled_with 4 (Wait 1 ∷ On 1 ∷ Compute 1 ∷ []) ≡ Unheard 1 1 4 ∷ []
+unheard = refl
+
+heard_in_part : signalled_with 5 (Wait 1 ∷ On 1 ∷ Compute 1 ∷ []) ≡ []
+heard_in_part = refl
+
+-- a wait without handlers takes each badge
+heard_without_handlers : signalled_with 4 (Wait 1 ∷ Compute 1 ∷ []) ≡ []
+heard_without_handlers = refl
+
+-- nobody waits, so that nobody takes the badge is no hint
+signalled_to_nobody : signalled_with 4 (Compute 1 ∷ []) ≡ []
+signalled_to_nobody = refl
+
+-- the thread has priority 5
+abbrev one_thread : List Item → List Hint
+one_thread script = hints_of (system one (thread 0 script ∷ []))
+
+called_from_below : one_thread (Enter 1 6 ∷ Compute 1 ∷ Leave 1 5 ∷ []) ≡ []
+called_from_below = refl
+
+called_from_its_priority : one_thread (Enter 1 5 ∷ Compute 1 ∷ Leave 1 5 ∷ []) ≡ Inverted 0 1 5 5 ∷ []
+called_from_its_priority = refl
+
+-- in the server the thread has the server's priority
+called_by_a_server : one_thread (Enter 1 9 ∷ Enter 0 7 ∷ Leave 0 9 ∷ Leave 1 5 ∷ []) ≡ Inverted 0 0 7 9 ∷ []
+called_by_a_server = refl
+
+-- and after it its own again
+called_later : one_thread (Enter 1 9 ∷ Leave 1 5 ∷ Enter 0 6 ∷ Leave 0 5 ∷ []) ≡ []
+called_later = refl
+
+-- only the first of such calls has a hint
+called_twice : one_thread (Enter 1 9 ∷ Leave 1 5 ∷ Enter 0 4 ∷ Leave 0 5 ∷ Enter 1 3 ∷ Leave 1 5 ∷ []) ≡ Inverted 0 0 4 5 ∷ []
+called_twice = refl
 
 -- Three thirds and two parts, neither of them a millionth, exceed the whole time, though the shares
 -- that are rounded down sum to less.

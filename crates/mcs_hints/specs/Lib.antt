@@ -4,5 +4,7 @@ pub mod Contexts
 pub mod Exact
 pub mod Cores
 pub mod Whole
+pub mod Handlers
+pub mod Ceilings
 pub mod Hints
 pub mod stored

@@ -4,9 +4,11 @@
 #![tactic(auto)]
 
 mod all;
+mod ceilings;
 mod contexts;
 mod cores;
 mod exact;
+mod handlers;
 mod hint;
 mod keep;
 mod notes;
