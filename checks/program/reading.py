@@ -14,6 +14,9 @@ from collections.abc import Callable, Iterable, Iterator, Sequence
 from fractions import Fraction
 from typing import Any, NamedTuple, Optional
 
+from checks.program import hint_reading
+from checks.program.hint_reading import Uses
+
 Tables = dict[str, Any]
 # the values of a line by their names, of which some may be missing
 Values = dict[str, Any]
@@ -243,6 +246,7 @@ class Reading:
         self.servers = scripts_of(tables)
         self.notes = [note['name'] for note in tables.get('note', [])]
         self.signalled = {source['note'] for source in tables.get('source', [])}
+        self.uses = Uses(tables)
         self.cores = tables['cores']
         self.ordered = {order['context'] for order in tables.get('order', [])}
         firsts = {note['name']: note.get('word', 0) for note in tables.get('note', [])}
@@ -450,6 +454,7 @@ class Reading:
         for note in self.notes:
             if ['wait', note] in items and note not in signalled:
                 yield f'hint note {note} is waited on and no script signals it'
+        yield from self.uses.hints()
         yield from (f'hint context {name} has no thread' for name in self.contexts if name not in used)
         on_cores = {core: [c for name, c in self.contexts.items() if c['core'] == core and name in used] for core in range(self.cores)}
         yield from (UNUSED % core for core, on_core in on_cores.items() if not on_core)
@@ -511,11 +516,13 @@ def values_of(line: str) -> dict[str, int | str]:
 def values_of_hint(line: str) -> dict[str, int | str]:
     if line in (NO_THREAD, NO_DEADLINE):
         return {'kind': 'hint', 'hint': 'no_thread' if line == NO_THREAD else 'no_deadline'}
+    if values := hint_reading.values_of(line):
+        return values
     _, what, name, *rest = line.split()
     if line == UNUSED % name:
         return {'kind': 'hint', 'hint': 'unused', 'core': int(name)}
-    values: dict[str, int | str] = {'core': int(name), 'grants': int(rest[1])} if what == 'core' else {what: name}
-    return {'kind': 'hint', 'hint': HINTS[what], **values}
+    named: dict[str, int | str] = {'core': int(name), 'grants': int(rest[1])} if what == 'core' else {what: name}
+    return {'kind': 'hint', 'hint': HINTS[what], **named}
 
 
 def csv_text(columns: Sequence[str], rows: Iterable[Sequence[object]]) -> str:

@@ -109,7 +109,8 @@ BUSY_FOUND = '''6 0 lost n 5
 10 0 lost n 1
 12 0 lost n 1
 13 0 miss D 2 9 deadline 8 activated 4 queued 4 ready 0 running 5 throttled 0 blocked 0 woken 0
-missed 1 overdue 0 lost 3 never 0 merged 1 allowed 0 unjudged 0 hints 0 threads 1 deadlines 1 judged 2
+hint source k interrupts on n with badge 4 and no handler takes it
+missed 1 overdue 0 lost 3 never 0 merged 1 allowed 0 unjudged 0 hints 1 threads 1 deadlines 1 judged 2
 '''
 # D is given words that no handler takes at 2, and one that a handler without an item takes at 4
 NOBODY = (
@@ -256,7 +257,8 @@ class Judging(unittest.TestCase):
         # the word is there from 0 on, D has not come to its wait, and its deadline is 8
         system = BUSY.replace('core = 0 }]\nthread', 'core = 0, word = 1 }]\nthread')
         self.assertEqual(self.lines(system, '', 7), [
-            '7 0 unjudged D deadline 8 activated 0', 'missed 0 overdue 0 lost 0 never 0 merged 0 allowed 0 unjudged 1 hints 0 threads 1 deadlines 1 judged 0',
+            '7 0 unjudged D deadline 8 activated 0', 'hint source k interrupts on n with badge 4 and no handler takes it',
+            'missed 0 overdue 0 lost 0 never 0 merged 0 allowed 0 unjudged 1 hints 1 threads 1 deadlines 1 judged 0',
         ])
 
     def test_a_thread_that_ended_a_round_is_judged(self) -> None:
@@ -312,8 +314,8 @@ class NewReadings(unittest.TestCase):
 
     def test_words_that_no_handler_takes_begin_no_round(self) -> None:
         found = reading.Reading(tomllib.loads(NOBODY), NOBODY_ROWS, 6)
-        self.assertEqual(found.wanted().text, '6 0 never D deadline 8\nmissed 0 overdue 0 lost 0 never 1 merged 0 allowed 0 '
-                         'unjudged 0 hints 0 threads 1 deadlines 1 judged 0\n')
+        self.assertEqual(found.wanted().text, '6 0 never D deadline 8\nhint source k interrupts on n with badge 4 and no handler takes it\n'
+                         'missed 0 overdue 0 lost 0 never 1 merged 0 allowed 0 unjudged 0 hints 1 threads 1 deadlines 1 judged 0\n')
         last = answers.wanted(found, 'D', '1').stdout.decode().splitlines()[-2]
         self.assertEqual(last, 'why D number 1 from 5 to 6 waited 1 activated - begun - ended -')
 
@@ -338,6 +340,50 @@ class NewReadings(unittest.TestCase):
         for rows, wanted in (('', 'woken'), ('30 0 run H\n', 'ready'), ('30 0 release H\n', 'throttled')):
             found = reading.Reading(tomllib.loads(TAKEN), TAKEN_ROWS.replace('21 0 run H\n', rows), 31)
             self.assertEqual(found.whole.standings('H', 20, 23), ['blocked', wanted, wanted])
+
+    def used(self, text: str) -> list[str]:
+        found = [hint for hint in reading.Reading(tomllib.loads(text), '', 0).hints() if hint.split()[1] in ('source', 'thread')]
+        return [hint.removeprefix('hint ') for hint in found]
+
+    def test_hints_of_badges_that_no_script_takes(self) -> None:
+        # D waits for n and has handlers for badges 1 and 6; E waits for m and has no handler; nobody waits for z
+        text = '''version = 3
+cores = 1
+delay = 1
+note = [{ name = "n", core = 0 }, { name = "m", core = 0 }, { name = "z", core = 0 }]
+server = [{ name = "v", core = 0, priority = 40, script = ["signal n 16", "on 2", "wait n"] }]
+thread = [
+    { name = "D", context = "d", priority = 5, script = ["wait n", "on 1", "compute 5", "on 6"] },
+    { name = "E", context = "e", priority = 5, script = ["wait m", "signal z 1", "signal n 9", "signal n 8", "signal n 32"] },
+]
+source = [{ name = "s", note = "n", badge = 4, period = 9 }, { name = "k", note = "n", badge = 24, period = 9 }, { name = "u", note = "z", badge = 1, period = 9 }]
+'''
+        sources = ['source k interrupts on n with badge 24 and no handler takes it', 'source u interrupts on z and no script waits on it']
+        self.assertEqual(self.used(text), [*sources, 'thread E signals n with badge 8 and no handler takes it'])
+        # a server signals for its caller; for badge 2 it waits for n behind a call, and takes each badge
+        self.assertEqual(self.used(text.replace('"signal z 1"', '"call v 1"'))[2:], ['thread E signals n with badge 16 and no handler takes it'])
+        self.assertEqual(self.used(text.replace('"signal z 1"', '"call v 2"')), sources[1:])
+        values = [reading.values_of_hint(f'hint {hint}') for hint in self.used(text)]
+        self.assertEqual(values, [
+            {'kind': 'hint', 'hint': 'unhandled', 'source': 'k', 'note': 'n', 'badge': 24}, {'kind': 'hint', 'hint': 'unawaited', 'source': 'u', 'note': 'z'},
+            {'kind': 'hint', 'hint': 'unheard', 'thread': 'E', 'note': 'n', 'badge': 8},
+        ])
+
+    def test_hints_of_calls_from_above_a_server(self) -> None:
+        # L calls from below, H from the priority of v; w calls v at its own
+        servers = TAKEN.replace('["wait z"]', '["call v 1"]')
+        for priorities, wanted in (
+            ((10, 30, 40), []), ((10, 40, 41), ['thread H calls v of priority 40 at priority 40']),
+            ((41, 9, 50), ['thread L calls v of priority 40 at priority 41']),
+        ):
+            low, high, above = priorities
+            text = servers.replace('priority = 10', f'priority = {low}').replace('priority = 30', f'priority = {high}').replace('name = "w", core = 0, priority = 40', f'name = "w", core = 0, priority = {above}')
+            self.assertEqual(self.used(text), wanted)
+        text = servers.replace('start = 4, rounds = 1, deadline = 9, script = ["call v 1"]', 'script = ["call v 1", "call w 1"]')
+        self.assertEqual(self.used(text), ['thread H calls v of priority 40 at priority 40'])
+        self.assertEqual(reading.values_of_hint(f'hint {self.used(text)[0]}'), {
+            'kind': 'hint', 'hint': 'inverted', 'thread': 'H', 'server': 'v', 'priority': 40, 'caller': 40,
+        })
 
     def test_hints_look_into_servers_that_are_called(self) -> None:
         def hinted(text: str) -> list[str]:

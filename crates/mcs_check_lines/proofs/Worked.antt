@@ -7,7 +7,7 @@ use Rattle.mcs_control.specs.declared.config.Mode.TheVariants as mode
 use Rattle.mcs_system.specs.declared.part.NotePart.{NotePart}
 use Rattle.mcs_system.specs.declared.part.ThreadPart.{ThreadPart}
 use Rattle.mcs_system.specs.System.{System}
-use Rattle.mcs_hints.specs.declared.hint.Hint.TheVariants.{NoThread, NoDeadline, Unsignalled, Unbound, Unused, Overcommitted}
+use Rattle.mcs_hints.specs.declared.hint.Hint.TheVariants.{NoThread, NoDeadline, Unsignalled, Unawaited, Unhandled, Unheard, Inverted, Unbound, Unused, Overcommitted}
 use Rattle.mcs_verdict.specs.declared.finding.Finding.{Finding}
 use Rattle.mcs_verdict.specs.declared.finding.Finding.TheVariants.{Overdue, Lost, Never}
 use Rattle.mcs_verdict.specs.declared.finding.Found.{Found}
@@ -42,7 +42,7 @@ system deadline =
       orders = [];
       links = [];
       servers = 0;
-      sources = [];
+      sources = record { name = codes "nic"; note = 1; badge = 4 } ∷ [];
       beats = [];
       chains = [];
     }
@@ -111,6 +111,42 @@ queued_line = refl
 unsignalled_line : hint_text (system 0) (Unsignalled 0) ≡ codes "hint note tick is waited on and no script signals it\n"
 unfolding system
 unsignalled_line = refl
+
+unawaited_line : hint_text (system 0) (Unawaited 0 1) ≡ codes "hint source nic interrupts on tock and no script waits on it\n"
+unfolding system
+unawaited_line = refl
+
+unhandled_line : hint_text (system 0) (Unhandled 0 1 4) ≡ codes "hint source nic interrupts on tock with badge 4 and no handler takes it\n"
+unfolding system digits
+unhandled_line = refl
+
+unheard_line : hint_text (system 0) (Unheard 0 1 8) ≡ codes "hint thread A signals tock with badge 8 and no handler takes it\n"
+unfolding system digits
+unheard_line = refl
+
+inverted_line : hint_text (system 0) (Inverted 0 1 40 50) ≡ codes "hint thread A calls tock of priority 40 at priority 50\n"
+unfolding system digits
+inverted_line = refl
+
+unawaited_object : hint_line format.Json (system 0) (Unawaited 0 1)
+    ≡ codes "{\"kind\":\"hint\",\"hint\":\"unawaited\",\"source\":\"nic\",\"note\":\"tock\"}\n"
+unfolding system serde_json_on_literals
+unawaited_object = refl
+
+unhandled_object : hint_line format.Json (system 0) (Unhandled 0 1 4)
+    ≡ codes "{\"kind\":\"hint\",\"hint\":\"unhandled\",\"source\":\"nic\",\"note\":\"tock\",\"badge\":4}\n"
+unfolding system digits serde_json_on_literals
+unhandled_object = refl
+
+unheard_object : hint_line format.Json (system 0) (Unheard 0 1 8)
+    ≡ codes "{\"kind\":\"hint\",\"hint\":\"unheard\",\"thread\":\"A\",\"note\":\"tock\",\"badge\":8}\n"
+unfolding system digits serde_json_on_literals
+unheard_object = refl
+
+inverted_object : hint_line format.Json (system 0) (Inverted 0 1 40 50)
+    ≡ codes "{\"kind\":\"hint\",\"hint\":\"inverted\",\"thread\":\"A\",\"server\":\"tock\",\"priority\":40,\"caller\":50}\n"
+unfolding system digits serde_json_on_literals
+inverted_object = refl
 
 unbound_line : hint_text (system 0) (Unbound 0) ≡ codes "hint context a has no thread\n"
 unfolding system

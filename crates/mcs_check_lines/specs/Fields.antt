@@ -2,9 +2,9 @@
 use Rattle.std.specs.Prelude.{ℕ, List, [], ◌∷◌, ◌++◌, codes, Option, Some, None}
 use Rattle.mcs_fields.specs.Fields.{Text, Value, amount, empty, name}
 use Rattle.mcs_system.specs.System.{System, core_of, thread_part}
-use Rattle.mcs_text.specs.Text.{context_name, note_name, thread_name}
+use Rattle.mcs_text.specs.Text.{context_name, note_name, source_name, thread_name}
 use Rattle.mcs_hints.specs.declared.hint.Hint.{Hint}
-use Rattle.mcs_hints.specs.declared.hint.Hint.TheVariants.{NoThread, NoDeadline, Unsignalled, Unbound, Unused, Overcommitted}
+use Rattle.mcs_hints.specs.declared.hint.Hint.TheVariants.{NoThread, NoDeadline, Unsignalled, Unawaited, Unhandled, Unheard, Inverted, Unbound, Unused, Overcommitted}
 use Rattle.mcs_verdict.specs.declared.finding.Finding.{Finding}
 use Rattle.mcs_verdict.specs.declared.finding.Finding.TheVariants.{Miss, Overdue, Lost, Never}
 use Rattle.mcs_verdict.specs.declared.finding.Found.{Found}
@@ -104,12 +104,36 @@ chain_count_fields (Some chains) = (codes "slow", amount chains.slow) ∷ (codes
 abbrev pub checked_fields : Checked → Fields
 checked_fields checked = counts_fields checked.counts checked.scope ++ chain_count_fields checked.chains
 
+-- a source whose badge no handler takes
+abbrev pub unhandled_fields : List ℕ → List ℕ → ℕ → Fields
+unhandled_fields source note badge =
+    (codes "kind", name (codes "hint")) ∷ (codes "hint", name (codes "unhandled")) ∷ (codes "source", name source)
+    ∷ (codes "note", name note) ∷ (codes "badge", amount badge) ∷ []
+
+-- a thread's signal whose badge no handler takes
+abbrev pub unheard_fields : List ℕ → List ℕ → ℕ → Fields
+unheard_fields thread note badge =
+    (codes "kind", name (codes "hint")) ∷ (codes "hint", name (codes "unheard")) ∷ (codes "thread", name thread)
+    ∷ (codes "note", name note) ∷ (codes "badge", amount badge) ∷ []
+
+-- a call of a server at a priority that is not below the server's
+abbrev pub call_fields : List ℕ → List ℕ → ℕ → ℕ → Fields
+call_fields thread server priority caller =
+    (codes "kind", name (codes "hint")) ∷ (codes "hint", name (codes "inverted")) ∷ (codes "thread", name thread)
+    ∷ (codes "server", name server) ∷ (codes "priority", amount priority) ∷ (codes "caller", amount caller) ∷ []
+
 -- a hint
 abbrev pub hint_fields : System → Hint → Fields
 hint_fields system NoThread = (codes "kind", name (codes "hint")) ∷ (codes "hint", name (codes "no_thread")) ∷ []
 hint_fields system NoDeadline = (codes "kind", name (codes "hint")) ∷ (codes "hint", name (codes "no_deadline")) ∷ []
 hint_fields system (Unsignalled note) =
     (codes "kind", name (codes "hint")) ∷ (codes "hint", name (codes "unsignalled")) ∷ (codes "note", name (note_name system note)) ∷ []
+hint_fields system (Unawaited source note) =
+    (codes "kind", name (codes "hint")) ∷ (codes "hint", name (codes "unawaited")) ∷ (codes "source", name (source_name system source))
+    ∷ (codes "note", name (note_name system note)) ∷ []
+hint_fields system (Unhandled source note badge) = unhandled_fields (source_name system source) (note_name system note) badge
+hint_fields system (Unheard thread note badge) = unheard_fields (thread_name system thread) (note_name system note) badge
+hint_fields system (Inverted thread server priority caller) = call_fields (thread_name system thread) (note_name system server) priority caller
 hint_fields system (Unbound context) =
     (codes "kind", name (codes "hint")) ∷ (codes "hint", name (codes "unbound")) ∷ (codes "context", name (context_name system context)) ∷ []
 hint_fields system (Unused core) =

@@ -1,9 +1,9 @@
 -- The lines of findings, jobs, counts and hints, as text.
 use Rattle.std.specs.Prelude.{ℕ, List, [], ◌∷◌, ◌++◌, codes, decimal, Option, Some, None}
 use Rattle.mcs_system.specs.System.{System, core_of, thread_part}
-use Rattle.mcs_text.specs.Text.{context_name, counted, line, note_name, thread_name}
+use Rattle.mcs_text.specs.Text.{context_name, counted, line, note_name, source_name, thread_name}
 use Rattle.mcs_hints.specs.declared.hint.Hint.{Hint}
-use Rattle.mcs_hints.specs.declared.hint.Hint.TheVariants.{NoThread, NoDeadline, Unsignalled, Unbound, Unused, Overcommitted}
+use Rattle.mcs_hints.specs.declared.hint.Hint.TheVariants.{NoThread, NoDeadline, Unsignalled, Unawaited, Unhandled, Unheard, Inverted, Unbound, Unused, Overcommitted}
 use Rattle.mcs_verdict.specs.declared.finding.Finding.{Finding}
 use Rattle.mcs_verdict.specs.declared.finding.Finding.TheVariants.{Miss, Overdue, Lost, Never}
 use Rattle.mcs_verdict.specs.declared.finding.Found.{Found}
@@ -69,11 +69,29 @@ chain_count_words (Some chains) = counted ((codes "slow", chains.slow) ∷ (code
 abbrev pub checked_text : Checked → List ℕ
 checked_text checked = line (codes "missed") (counts_words checked.counts checked.scope ++ chain_count_words checked.chains)
 
+-- what posts a badge to a notification, if no handler takes it
+abbrev pub untaken_words : List ℕ → List ℕ → ℕ → List (List ℕ)
+untaken_words posts note badge =
+    posts ∷ note ∷ counted ((codes "with badge", badge) ∷ []) ++ codes "and no handler takes it" ∷ []
+
+-- a call of a server
+abbrev pub call_words : List ℕ → ℕ → ℕ → List (List ℕ)
+call_words server priority caller =
+    codes "calls" ∷ server ∷ counted ((codes "of priority", priority) ∷ (codes "at priority", caller) ∷ [])
+
 -- the subject of a hint and its reason
 abbrev pub hint_words : System → Hint → List (List ℕ)
 hint_words system NoThread = codes "no thread" ∷ []
 hint_words system NoDeadline = codes "no thread has a deadline" ∷ []
 hint_words system (Unsignalled note) = codes "note" ∷ note_name system note ∷ codes "is waited on and no script signals it" ∷ []
+hint_words system (Unawaited source note) =
+    codes "source" ∷ source_name system source ∷ codes "interrupts on" ∷ note_name system note ∷ codes "and no script waits on it" ∷ []
+hint_words system (Unhandled source note badge) =
+    codes "source" ∷ source_name system source ∷ untaken_words (codes "interrupts on") (note_name system note) badge
+hint_words system (Unheard thread note badge) =
+    codes "thread" ∷ thread_name system thread ∷ untaken_words (codes "signals") (note_name system note) badge
+hint_words system (Inverted thread server priority caller) =
+    codes "thread" ∷ thread_name system thread ∷ call_words (note_name system server) priority caller
 hint_words system (Unbound context) = codes "context" ∷ context_name system context ∷ codes "has no thread" ∷ []
 hint_words system (Unused core) = counted ((codes "core", core) ∷ []) ++ codes "has no thread" ∷ []
 hint_words system (Overcommitted core millionths) =

@@ -3,21 +3,20 @@
 ghost use Rattle.std.specs.Prelude.{◌≡◌, ◌++◌, Some, OnOk, OnErr};
 ghost use Rattle.mcs_fields.specs.Fields.{names_text, object_text};
 ghost use Rattle.mcs_check_words.specs.declared.asked.Show.TheVariants.{Findings};
-ghost use Rattle.mcs_check_lines.specs.Fields.{chain_count_fields, checked_fields, counts_fields, found_fields, hint_fields};
-ghost use Rattle.mcs_check_lines.specs.Formats.{chain_columns, column_names, columns, counts_line, found_line, head_text, hint_line, is_mixed, job_line, no_columns, row_line, written};
+ghost use Rattle.mcs_check_lines.specs.Fields.{chain_count_fields, checked_fields, counts_fields, found_fields};
+ghost use Rattle.mcs_check_lines.specs.Formats.{chain_columns, column_names, columns, counts_line, found_line, head_text, is_mixed, job_line, no_columns, row_line, written};
 ghost use Rattle.mcs_check_lines.specs.Lines.{found_text};
 ghost use Rattle.mcs_check_lines.specs.Shown.{shown_text};
 
 use crate::fields::{checked_fields, counts_fields, found_fields, job_fields, wide_found_fields};
-use crate::line::{put_counts, put_found, put_hint, put_job};
+use crate::line::{put_counts, put_found, put_job};
 use crate::row_fields::row_fields;
 use crate::shown::Shown;
 use crate::{ChainCounts, Checked, Counts, Scope};
 use mcs_check_words::{Format, Show};
 use mcs_fields::{Cell, put_names, put_object, put_row};
-use mcs_hints::Hint;
 use mcs_system::System;
-use mcs_text::{context_name, note_name, put_row as put_row_text};
+use mcs_text::put_row as put_row_text;
 use mcs_ticks::{NoMemory, Row};
 use mcs_verdict::{Found, Job};
 use std::alloc::Global;
@@ -281,67 +280,6 @@ fn put_row_as(
         Format::Text => put_row_text(text, system, row),
         Format::Csv => put_row(text, row_fields(system, row).as_slice()),
         Format::Json => put_object(alloc, text, row_fields(system, row).as_slice()),
-    }
-}
-
-/// Appends the line of a hint; CSV has none.
-pub fn put_hint_as(
-    alloc: Global,
-    text: &mut Vec<u8>,
-    format: Format,
-    system: &System,
-    hint: &Hint,
-) -> Result<(), NoMemory>
-    ensures ok { OnOk result (text.new.items ≡ text.old.items ++ hint_line format system.now hint.now) }
-    ensures err { OnErr result (text.new.items ≡ text.old.items) }
-{
-    match format {
-        Format::Text => put_hint(text, system, hint),
-        Format::Csv => Ok(()),
-        Format::Json => put_hint_object(alloc, text, system, hint),
-    }
-}
-
-fn put_hint_object(
-    alloc: Global,
-    text: &mut Vec<u8>,
-    system: &System,
-    hint: &Hint,
-) -> Result<(), NoMemory>
-    ensures ok { OnOk result (text.new.items ≡ text.old.items ++ object_text (hint_fields system.now hint.now)) }
-    ensures err { OnErr result (text.new.items ≡ text.old.items) }
-{
-    let kind = ("kind", Cell::Name("hint"));
-    match *hint {
-        Hint::NoThread => {
-            let hint = ("hint", Cell::Name("no_thread"));
-            put_object(alloc, text, &[kind, hint])
-        }
-        Hint::NoDeadline => {
-            let hint = ("hint", Cell::Name("no_deadline"));
-            put_object(alloc, text, &[kind, hint])
-        }
-        Hint::Unsignalled { note } => {
-            let hint = ("hint", Cell::Name("unsignalled"));
-            let note = ("note", Cell::Name(note_name(system, note)));
-            put_object(alloc, text, &[kind, hint, note])
-        }
-        Hint::Unbound { context } => {
-            let hint = ("hint", Cell::Name("unbound"));
-            let context = ("context", Cell::Name(context_name(system, context)));
-            put_object(alloc, text, &[kind, hint, context])
-        }
-        Hint::Unused { core } => {
-            let hint = ("hint", Cell::Name("unused"));
-            let core = ("core", Cell::Number(core.0 as u64));
-            put_object(alloc, text, &[kind, hint, core])
-        }
-        Hint::Overcommitted { core, millionths } => {
-            let hint = ("hint", Cell::Name("overcommitted"));
-            let core = ("core", Cell::Number(core.0 as u64));
-            let grants = ("grants", Cell::Number(millionths));
-            put_object(alloc, text, &[kind, hint, core, grants])
-        }
     }
 }
 

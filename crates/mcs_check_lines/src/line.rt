@@ -3,14 +3,13 @@ ghost use Rattle.std.specs.Prelude.{◌≡◌, ◌≤◌, ◌+◌, ◌++◌, ◌
 ghost use Rattle.std.specs.Io.{StartsWith};
 ghost use Rattle.mcs_system.specs.System.{core_of, thread_part};
 ghost use Rattle.mcs_text.specs.Text.{after, counted};
-ghost use Rattle.mcs_check_lines.specs.Lines.{chain_count_words, checked_text, counts_words, found_text, found_words, hint_text, hint_words, job_text, job_times, job_words, late_words, ways};
+ghost use Rattle.mcs_check_lines.specs.Lines.{chain_count_words, checked_text, counts_words, found_text, found_words, job_text, job_times, job_words, late_words, ways};
 
 use crate::{ChainCounts, Checked, Counts, Scope};
 use itoa::Buffer;
-use mcs_hints::Hint;
 use mcs_system::System;
 use mcs_text::{
-    append_counts, append_number, append_word, context_name, note_name, thread_name, write_counted,
+    append_counts, append_number, append_word, note_name, thread_name, write_counted,
     write_decimal, write_number, write_word,
 };
 use mcs_ticks::{ContextId, CoreId, NoMemory, ThreadId, Tick};
@@ -282,54 +281,4 @@ fn append_totals(text: &mut Vec<u8>, counts: &Counts, scope: &Scope) -> Result<(
     ];
     append_number(text, counts.missed)?;
     append_counts(text, &numbers)
-}
-
-/// Appends the line of a hint. If memory runs out the text is unchanged.
-pub fn put_hint(text: &mut Vec<u8>, system: &System, hint: &Hint) -> Result<(), NoMemory>
-    ensures ok { OnOk result (text.new.items ≡ text.old.items ++ hint_text system.now hint.now) }
-    ensures err { OnErr result (text.new.items ≡ text.old.items) }
-{
-    let start = text.len();
-    let result = append_hint(text, system, hint);
-    if result.is_err() {
-        text.truncate(start);
-    }
-    result
-}
-
-fn append_hint(text: &mut Vec<u8>, system: &System, hint: &Hint) -> Result<(), NoMemory>
-    ensures ok { OnOk result (text.new.items ≡ text.old.items ++ hint_text system.now hint.now) }
-    ensures kept { StartsWith text.new.items text.old.items }
-{
-    text.extend_from_slice(b"hint")?;
-    append_reason(text, system, hint)?;
-    text.push(b'\n')?;
-    Ok(())
-}
-
-/// Appends a hint: its subject and its reason.
-fn append_reason(text: &mut Vec<u8>, system: &System, hint: &Hint) -> Result<(), NoMemory>
-    ensures ok { OnOk result (text.new.items ≡ text.old.items ++ after (hint_words system.now hint.now)) }
-    ensures kept { StartsWith text.new.items text.old.items }
-{
-    match *hint {
-        Hint::NoThread => append_word(text, "no thread"),
-        Hint::NoDeadline => append_word(text, "no thread has a deadline"),
-        Hint::Unsignalled { note } => {
-            append_named(text, "note", note_name(system, note))?;
-            append_word(text, "is waited on and no script signals it")
-        }
-        Hint::Unbound { context } => {
-            append_named(text, "context", context_name(system, context))?;
-            append_word(text, "has no thread")
-        }
-        Hint::Unused { core } => {
-            append_counts(text, &[("core", core.0 as u64)])?;
-            append_word(text, "has no thread")
-        }
-        Hint::Overcommitted { core, millionths } => {
-            append_counts(text, &[("core", core.0 as u64), ("grants", millionths)])?;
-            append_word(text, "of 1000000")
-        }
-    }
 }

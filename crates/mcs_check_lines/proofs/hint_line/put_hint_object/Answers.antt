@@ -1,4 +1,4 @@
-use Rattle.mcs_check_lines.proofs.format.put_hint_object.Goals as goal
+use Rattle.mcs_check_lines.proofs.hint_line.put_hint_object.Goals as goal
 
 pub returns-in-NoThread-clause-ok : goal.returns-in-NoThread-clause-ok
 returns-in-NoThread-clause-ok c = rw c.in-NoThread.is c.put_object.ensures.ok
