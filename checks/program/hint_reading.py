@@ -8,6 +8,7 @@ from typing import Any, NamedTuple, Optional
 
 Tables = dict[str, Any]
 EVERY = 2**32 - 1
+KINDS = ('unawaited', 'unhandled', 'unheard', 'inverted')
 
 
 class Call(NamedTuple):

@@ -49,6 +49,7 @@ COLUMNS = {
     ),
 }
 HINTS = {'note': 'unsignalled', 'context': 'unbound', 'core': 'overcommitted'}
+KINDS_OF_HINTS = ('no_thread', 'no_deadline', *HINTS.values(), 'unused', *hint_reading.KINDS)
 # hints of the whole system, and of a core on which nothing runs
 NO_THREAD, NO_DEADLINE, UNUSED = 'hint no thread', 'hint no thread has a deadline', 'hint core %s has no thread'
 

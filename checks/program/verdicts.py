@@ -50,7 +50,7 @@ thread = [
 '''
 # what the random systems have to show; a part is shown where it is not 0
 SEEN = (
-    *reading.KINDS, 'hint note', 'hint context', 'hint core', 'hint core is unused', reading.NO_THREAD, reading.NO_DEADLINE,
+    *reading.KINDS, *(f'hint {kind}' for kind in reading.KINDS_OF_HINTS),
     'status 0', 'status 1', 'status 2', 'status 5', 'status 6', 'found by doubts alone', 'nothing is judged', 'found, and nothing is judged',
     'unjudged by a word that is held', 'unjudged, and under way', 'lost only where it is allowed', 'the nearest is', 'there is none', 'activated late', 'yet to begin',
     *(f'miss {part}' for part in ('queued', *reading.PARTS[:4])), *(f'overdue {part}' for part in ('queued', *reading.PARTS)),
@@ -290,7 +290,8 @@ class Trial:
         """Counts the lines that have some of each part, and the kinds of hints."""
         for line in wanted.text.splitlines():
             words = line.split()
-            self.seen[kind_of_hint(line)] += words[0] == 'hint'
+            if words[0] == 'hint':
+                self.seen[f'hint {reading.values_of_hint(line)["hint"]}'] += 1
             if 'activated' in words:
                 pairs = words[words.index('activated'):]
                 self.seen.update(f'{words[2]} {part}' for part, many in zip(pairs[::2], pairs[1::2]) if many != '0')
@@ -309,14 +310,6 @@ class Trial:
         self.count.expect(f'{system.name}: found {found}, status {ran.status}', (found, ran.status) == (kinds, 5 if kinds else 0))
         self.count.expect(f'{system.name}: {lines}', bool(kinds) or not lines)
         self.agrees(system, random.Random(system.name))
-
-
-def kind_of_hint(line: str) -> str:
-    """The kind of a hint: that of a part of the system, or all of it."""
-    words = line.split()
-    if line == reading.UNUSED % words[2]:
-        return 'hint core is unused'
-    return line if words[1] == 'no' else ' '.join(words[:2])
 
 
 def told_by(row: reading.Row, before: reading.Row, found: Reading) -> Iterator[str]:

@@ -112,6 +112,14 @@ class Checked(unittest.TestCase):
         ])
         self.assertEqual(found.counts.hints, 3)
 
+    def test_hints_of_badges_and_calls(self) -> None:
+        # nobody waits for z; H waits for the tick, has no handler and takes each badge; L calls a server of its own priority
+        system = TICKING.put(mcsim.Note('z', 0)).put(mcsim.Source('late', 'z', 1, 20, start=30)).put(mcsim.Context('l', 0, 1, 20))
+        system = system.put(mcsim.Server('s', 0, 1, ['compute 1'])).put(mcsim.Thread('L', 'l', 1, ['call s 1']))
+        self.assertEqual(list(system.check(14).hints), [
+            mcsim.Hint('unawaited', note='z', source='late'), mcsim.Hint('inverted', thread='L', server='s', priority=1, caller=1),
+        ])
+
     def test_figures(self) -> None:
         # up to 20: 5 ticks from 0 on and 4 from 10 on; the interrupt at 20 wakes it, and no tick follows
         figures, = TICKING.table(20)

@@ -37,7 +37,9 @@ BEGIN_GROUP = ('repeats', 'open')
 MEANINGS = {
     'unsignalled': 'waited on, and never signalled', 'unbound': 'no thread is bound to it',
     'overcommitted': 'its contexts have more than it', 'unused': 'no thread runs on it', 'no_thread': 'the file has none',
-    'no_deadline': 'no deadline can be judged',
+    'no_deadline': 'no deadline can be judged', 'unawaited': 'interrupts, and nobody waits',
+    'unhandled': 'no handler takes its badge', 'unheard': 'no handler takes the badge of its signal',
+    'inverted': 'calls from above the server, or from its priority',
 }
 ROWS = 'rows'
 NARROWEST = 20

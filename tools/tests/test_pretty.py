@@ -235,6 +235,13 @@ class Shown(unittest.TestCase):
         found = shown({'kind': 'hint', 'hint': 'no_deadline'}, {'kind': 'hint', 'hint': 'unused', 'core': 2}, counts(hints=2))
         self.assertEqual(found[1:4], ['hint         core  meaning', 'no_deadline     -  no deadline can be judged', 'unused          2  no thread runs on it'])
 
+    def test_hints_of_badges_and_calls(self) -> None:
+        found = shown({'kind': 'hint', 'hint': 'unhandled', 'source': 'nic', 'note': 'events', 'badge': 4},
+                      {'kind': 'hint', 'hint': 'inverted', 'thread': 'H', 'server': 'v', 'priority': 40, 'caller': 50}, counts(hints=2))
+        self.assertEqual([line.split('  ')[-1] for line in found[1:4]], [
+            'meaning', 'no handler takes its badge', 'calls from above the server, or from its priority',
+        ])
+
     def test_doubts_are_coloured_as_doubts(self) -> None:
         self.assertEqual([concluding.severity(kind) for kind in ('miss', 'hint', 'unjudged', 'counts')], [colours.WRONG, colours.DOUBTFUL, colours.DOUBTFUL, ''])
 

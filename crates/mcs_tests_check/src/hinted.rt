@@ -2,7 +2,7 @@
 
 use mcs_hints::{Hint, hints};
 use mcs_load::load;
-use mcs_ticks::{CoreId, NoteId};
+use mcs_ticks::{CoreId, NoteId, SourceId, ThreadId};
 use std::test::Fail;
 
 /// Three contexts that have all of the core.
@@ -44,6 +44,29 @@ thread = [
 ]
 "#;
 
+/// `D` waits for `n` and has handlers for badges 1 and 6. Nobody waits for `z`. `v` has the priority
+/// of its caller `E`, and signals for it.
+const USES: &str = r#"
+version = 3
+cores = 1
+delay = 1
+context = [
+    { name = "d", core = 0, budget = 1, period = 3 },
+    { name = "e", core = 0, budget = 1, period = 3 },
+]
+note = [{ name = "n", core = 0 }, { name = "z", core = 0 }]
+server = [{ name = "v", core = 0, priority = 5, script = ["signal n 16"] }]
+thread = [
+    { name = "D", context = "d", priority = 9, deadline = 9, script = ["wait n", "on 1", "compute 5", "on 6", "compute 1"] },
+    { name = "E", context = "e", priority = 5, script = ["signal z 1", "signal n 9", "call v 1", "signal n 8"] },
+]
+source = [
+    { name = "s", note = "n", badge = 4, period = 9 },
+    { name = "k", note = "n", badge = 24, period = 9 },
+    { name = "u", note = "z", badge = 1, period = 9 },
+]
+"#;
+
 /// Hints on a file without a deadline, whose notification is waited on and signalled by no script.
 #[test]
 fn hints_of_a_file(rt: HostRuntime) -> Result<(), Fail> {
@@ -73,7 +96,7 @@ fn a_core_that_is_granted_whole(rt: HostRuntime) -> Result<(), Fail> {
     Ok(())
 }
 
-/// A core of which a little more than all is granted gets the exact sum.
+/// A core that is granted slightly more than its time gets a sum above it.
 #[test]
 fn a_core_that_is_granted_a_little_more_than_all(rt: HostRuntime) -> Result<(), Fail> {
     let system = load(rt.alloc(), ABOVE.as_bytes())?;
@@ -89,5 +112,37 @@ fn a_core_that_is_granted_a_little_more_than_all(rt: HostRuntime) -> Result<(), 
         ]
         .as_slice()
     );
+    Ok(())
+}
+
+/// Sources whose interrupts have no effect, a signal of a server without effect, and a call from the
+/// server's own priority.
+#[test]
+fn badges_that_no_handler_takes(rt: HostRuntime) -> Result<(), Fail> {
+    let system = load(rt.alloc(), USES.as_bytes())?;
+    let found = hints(rt.alloc(), &system)?;
+    let wanted = [
+        Hint::Unhandled {
+            source: SourceId(1),
+            note: NoteId(0),
+            badge: 24,
+        },
+        Hint::Unawaited {
+            source: SourceId(2),
+            note: NoteId(1),
+        },
+        Hint::Unheard {
+            thread: ThreadId(1),
+            note: NoteId(0),
+            badge: 16,
+        },
+        Hint::Inverted {
+            thread: ThreadId(1),
+            server: NoteId(2),
+            priority: 5,
+            caller: 5,
+        },
+    ];
+    assert_eq!(rt; found.as_slice(), wanted.as_slice());
     Ok(())
 }

@@ -91,13 +91,21 @@ Finding = Union[Miss, Overdue, Lost, Never, Other]
 @dataclass(frozen=True)
 class Hint:
     """A likely mistake in the file: `no_thread` and `no_deadline` are of all of it, `unsignalled` has a note, `unbound` a context, `unused` a core without a
-    thread, and `overcommitted` a core and what it grants, in millionths."""
+    thread, and `overcommitted` a core and what it grants, in millionths. `unawaited` has a source on whose note nobody waits, `unhandled` a source, its note
+    and its badge that no handler takes, `unheard` a thread that signals such a badge, and `inverted` a thread that calls a server at the priority `caller`,
+    which is not below that of the server."""
 
     hint: str
     note: Optional[str] = None
     context: Optional[str] = None
     core: Optional[int] = None
     grants: Optional[int] = None
+    source: Optional[str] = None
+    thread: Optional[str] = None
+    badge: Optional[int] = None
+    server: Optional[str] = None
+    priority: Optional[int] = None
+    caller: Optional[int] = None
 
 
 @dataclass(frozen=True)
