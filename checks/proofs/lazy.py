@@ -93,7 +93,8 @@ class Kit(NamedTuple):
 def loaded() -> Kit:
     """rt and rt-plant, over the same crates."""
     rt = edits.kit()
-    rt.share_work(False)
+    if edits.keeps(rt):
+        rt.share_work(False)
     path = os.path.join(os.path.dirname(os.path.realpath(shutil.which('rt') or 'rt')), 'rt-plant')
     plant = types.ModuleType('rt_plant')
     plant.__file__ = path
@@ -176,8 +177,10 @@ def has_libraries(kit: Kit, crate: Any, may_prove: bool) -> bool:
     below = crate.below()
     if may_prove:
         return not any(low.build_rlib(['--jobs', '1'], anew=False) for low in below)
-    kept = kit.rt.Kept(below)
-    return all((low.is_built() or kit.rt.take_rlib(low) or True) and take.take(kept, low) for low in below)
+    if edits.keeps(kit.rt):
+        for low in below:
+            low.is_built() or kit.rt.take_rlib(low)
+    return all(map(take.given_by(kit.rt, below, TOP), below))
 
 
 def try_crate(kit: Kit, crate: Any, digest: str, only: Sequence[str], may_prove: bool) -> list[Row] | None:
@@ -185,7 +188,8 @@ def try_crate(kit: Kit, crate: Any, digest: str, only: Sequence[str], may_prove:
     with contextlib.redirect_stdout(sys.stderr):
         if not has_libraries(kit, crate, may_prove):
             return None
-        kit.rt.adopt(crate, is_alone=False)
+        if edits.keeps(kit.rt):
+            kit.rt.adopt(crate, is_alone=False)
     crate.out = io.StringIO()
     source = source_of(kit, crate)
     with tempfile.TemporaryDirectory(prefix='lazy-') as folder:

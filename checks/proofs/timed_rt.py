@@ -142,6 +142,15 @@ def without_clocks(path: str, words: list[str], why: BaseException) -> NoReturn:
     os.execv(path, [path, 'ci', *words])
 
 
+def words_for(rt: Any, words: list[str]) -> list[str]:
+    """The words that `rt ci` takes. A kit that keeps nothing between gates takes none: each of its gates is whole and from nothing."""
+    if hasattr(rt, 'Kept'):
+        return words
+    if crates := [word for word in words if not word.startswith('-')]:
+        sys.exit(f'timed_rt.py: `rt ci` of this kit is of all crates, so it cannot be asked for {" ".join(crates)} alone')
+    return []
+
+
 def main() -> int:
     file, words = sys.argv[1], sys.argv[2:]
     path = os.path.realpath(shutil.which('rt') or sys.exit('timed_rt.py: the command rt is not on PATH'))
@@ -152,7 +161,7 @@ def main() -> int:
         hook(rt)
     except (Exception, SystemExit) as why:
         without_clocks(path, words, why)
-    status: int = rt.main(['ci', *words])
+    status: int = rt.main(['ci', *words_for(rt, words)])
     try:
         keep(file, rt, status)
     except Exception as why:

@@ -457,13 +457,18 @@ class Checked(InFolder):
         status, lines = self.look()
         self.assertEqual((status, lines[-1]), (1, '8 passed, 2 failed, 4 skipped'))
 
-    def test_another_toolchain_fails(self) -> None:
+    def test_another_toolchain_has_to_build_the_same_bytes(self) -> None:
         self.renewed()
         self.rt()
-        self.assertEqual(self.look()[1][-1], '11 passed, 0 failed, 3 skipped')
+        self.built_here()
+        self.assertEqual(self.look()[1][-1], '13 passed, 0 failed, 1 skipped')
         noted = self.top / 'bin' / 'SOURCES'
         noted.write_text(noted.read_text().replace('kit kit 1', 'kit kit 0'))
-        self.assertEqual(self.look()[1][-1], '10 passed, 1 failed, 3 skipped')
+        status, lines = self.look()
+        self.assertEqual((status, lines[-1]), (0, '12 passed, 0 failed, 2 skipped'))
+        self.assertIn('skipped: whether the toolchain is that of bin/, which is kit 0: the one here is kit 1, and what it built is compared', lines)
+        self.write('crates/mcsim/out/mcsim', SAYS.format(name='another'), 0o755)
+        self.assertEqual(self.look()[1][-1], '11 passed, 1 failed, 2 skipped')
 
     def test_an_empty_bin_is_one_clear_line(self) -> None:
         status, lines = self.look()

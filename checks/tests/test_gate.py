@@ -259,6 +259,9 @@ def in_lanes(tasks):
         given[key] = call(given, 1)
     return given
 
+class Kept:
+    pass
+
 def main(words):
     print("words", *words)
     given = in_lanes({("a", "proof"): ([], 7, 1, alone), ("b", "edits", 3): ([("a", "proof")], 9, 1, pooled)})
@@ -292,6 +295,14 @@ class Timed(unittest.TestCase):
         self.assertEqual([second['crate'], second['part'], second['number'], second['waits'], second['lines']], ['b', 'edits', 3, [0], 9])
         self.assertEqual((first['seconds'], second['seconds'], told['runs']), (3.5, 5.5, 7.5))
         self.assertLessEqual(first['ended'], second['began'])
+
+    def test_a_kit_that_keeps_nothing_takes_no_words(self) -> None:
+        (self.folder / 'rt').write_text(RT.replace('class Kept', 'class Other'))
+        script, times = str(CHECKS / 'proofs' / 'timed_rt.py'), str(self.folder / 'times')
+        self.assertEqual(self.ran(script, times, '--anew').stdout, 'words ci\n2 passed, 1 failed\n')
+        refused = self.ran(script, times, '--anew', 'b')
+        self.assertEqual((refused.returncode, refused.stdout), (1, ''))
+        self.assertEqual(refused.stderr, 'timed_rt.py: `rt ci` of this kit is of all crates, so it cannot be asked for b alone\n')
 
     def test_the_count_of_the_gate_is_the_last_line(self) -> None:
         ran = self.ran(str(CHECKS / 'proofs' / 'gate.py'), '--crate', 'b', str(self.folder / 'table'))
