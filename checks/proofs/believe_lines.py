@@ -722,6 +722,7 @@ WORDS = {
     'std.Option': {
         'option_to_list': 'the value of an option as a list: of one element, or empty',
         'option_map': 'the changed value, or `None`',
+        'option_or': 'the first value if there is one, else the second, if there is one',
     },
     'std.Str': {
         'all_ascii_digits': 'whether all bytes are decimal digits',

@@ -52,8 +52,8 @@ unread system source =
     let part = source_part system source in
     unread_by (get_or (taken_of system) part.note 0) source part
 
--- the hint of a thread's item, by the badges that are taken: a script waits on the notification that
--- it signals, and none of those that wait there takes the badge
+-- the hint of a thread's item, by the badges that are taken: scripts wait on the notification that
+-- it signals, and none of them takes the badge
 abbrev pub unheard_at : List ℕ → ℕ → Item → Option Hint
 unheard_at taken thread (Signal note badge) =
     let badges = get_or taken note 0 in

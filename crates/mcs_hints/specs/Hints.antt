@@ -12,8 +12,8 @@ use Rattle.mcs_hints.specs.Whole.{nothing_to_judge}
 use Rattle.mcs_hints.specs.Handlers.{unheard, unread}
 use Rattle.mcs_hints.specs.Ceilings.{inverted}
 
--- that of the whole file, then those of notifications, of sources, of threads, of contexts, of cores
--- without a thread and of overcommitted cores, each by number
+-- that of the whole file, then those of notifications, sources, threads, contexts, cores without a
+-- thread and overcommitted cores, each by number
 abbrev pub hints_of : System → List Hint
 hints_of system =
     option_to_list (nothing_to_judge system.threads system.chains)

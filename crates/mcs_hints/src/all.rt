@@ -15,8 +15,8 @@ use mcs_ticks::NoMemory;
 use std::alloc::Global;
 
 /// Returns the hints of a system, for any horizon: first that of the whole file, then those of
-/// notifications, sources, threads, contexts and cores, each by number. Fails with `NoMemory` if memory runs
-/// out.
+/// notifications, sources, threads, contexts and cores, each by number. Fails with `NoMemory` if
+/// memory runs out.
 ///
 /// Takes time linear in the items of the scripts, and in the threads and contexts for each core,
 /// unless a core's exact utilisation is 1.

@@ -1,4 +1,4 @@
-//! Badges that scripts take from notifications, and sources and signals whose badge no script takes.
+//! Badges that scripts take from notifications; sources and signals whose badge no script takes.
 ghost use Rattle.std.specs.Prelude.{◌≡◌, ℕ, ◌++◌, length, get_or, fold, map, IfOk};
 ghost use Rattle.std.specs.List.{filter_map};
 ghost use Rattle.mcs_script.specs.Script.{IsScript, badges_in};

@@ -16,23 +16,23 @@ pub enum Hint {
         source: SourceId,
         note: NoteId,
     },
-    /// The source interrupts on the notification with this badge, 1 to 2^32 - 1. Scripts wait on it,
-    /// and no handler of them takes the badge.
+    /// The source interrupts on the notification with this badge, 1 to 2^32 - 1. Scripts wait on
+    /// it, and no script takes the badge.
     Unhandled {
         source: SourceId,
         note: NoteId,
         badge: u32,
     },
     /// The thread signals the notification with this badge, 1 to 2^32 - 1. Scripts wait on it, and
-    /// no handler of them takes the badge. Only the first such signal of a thread has a hint.
+    /// no script takes the badge. Only the first such signal of a thread has a hint.
     Unheard {
         thread: ThreadId,
         note: NoteId,
         badge: u32,
     },
-    /// The thread calls the server at a priority that is not below the server's. Only the first such
-    /// call of a thread has a hint. `priority` is the server's, 0 to 255, and `caller` that of the
-    /// thread at the call.
+    /// The thread calls the server at a priority that is not below the server's. Only the first
+    /// such call of a thread has a hint. `priority` is the server's, 0 to 255, and `caller` that of
+    /// the thread at the call.
     Inverted {
         thread: ThreadId,
         server: NoteId,

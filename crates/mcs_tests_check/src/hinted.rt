@@ -44,8 +44,8 @@ thread = [
 ]
 "#;
 
-/// `D` waits for `n` and has handlers for badges 1 and 6. Nobody waits for `z`. `v` has the priority
-/// of its caller `E`, and signals for it.
+/// `D` waits for `n` and has handlers for badges 1 and 6. Nobody waits for `z`. The server `v` has
+/// the priority of its caller `E`.
 const USES: &str = r#"
 version = 3
 cores = 1
@@ -115,8 +115,8 @@ fn a_core_that_is_granted_a_little_more_than_all(rt: HostRuntime) -> Result<(), 
     Ok(())
 }
 
-/// Sources whose interrupts have no effect, a signal of a server without effect, and a call from the
-/// server's own priority.
+/// Sources without effect, a signal in a server without effect, and a call at the server's own
+/// priority.
 #[test]
 fn badges_that_no_handler_takes(rt: HostRuntime) -> Result<(), Fail> {
     let system = load(rt.alloc(), USES.as_bytes())?;
