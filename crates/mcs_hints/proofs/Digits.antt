@@ -1,17 +1,13 @@
 -- A sum of fractions, digit by digit.
 use Rattle.std.proofs.Common.{◌≡◌, ℕ, zero, suc, ◌+◌, ◌-◌, ◌*◌, ◌/◌, ◌%◌, ◌^◌, ◌<◌, ◌≤◌, ◌⊎◌, inl, inr, true, false, List, [], ◌∷◌, length, map, add-one, refl, sym, ap, ◌∙◌, arith}
 use Rattle.std.specs.List.{All, sum_by}
-use Rattle.std.proofs.Math.Nat.{mul-le-mul_left, mul-le-mul_right, div-le_of_le-mul, div-add-mod, pow-suc}
+use Rattle.std.proofs.Math.Nat.{mul-le-mul_left, mul-le-mul_right, div-add-mod, pow-suc}
 use Rattle.std.proofs.lemmas.Bool.{lt-ltb, le-ltb, cases_lt}
 use Rattle.std.proofs.lemmas.List.{length-map}
 use Rattle.std.proofs.lemmas.List.Elements.{All-head, All-tail, All-map, All-weaker}
 use Rattle.std.proofs.lemmas.List.Sums.{sum_by-cons}
 use Rattle.mcs_hints.specs.declared.exact.Fraction.{Fraction}
 use Rattle.mcs_hints.specs.Exact.{IsFraction, product, over_product, is_above_one, wholes_of, rest_of}
-
--- 2^20 of a fraction are at most 2^20 wholes
-pub wholes_le : (f : Fraction) → IsFraction f → wholes_of f ≤ 1048576
-wholes_le f is = div-le_of_le-mul f.denominator (mul-le-mul_right 1048576 is.within)
 
 -- what is left is a fraction too
 rest-is : (f : Fraction) → IsFraction f → IsFraction (rest_of f)

@@ -7,7 +7,7 @@ use Rattle.std.proofs.lemmas.List.{set_past, take_more}
 use Rattle.std.proofs.lemmas.List.Folds.{list_any-append}
 use Rattle.std.proofs.lemmas.Option.{get_or_from_slice_get, slice_get-get_or}
 use Rattle.mcs_script.specs.declared.item.Item.{Item}
-use Rattle.mcs_script.specs.declared.item.Item.TheVariants.{Compute, Signal, Wait, Yield, On, Spin, Enter, Leave}
+use Rattle.mcs_script.specs.declared.item.Item.TheVariants.{Signal, Wait}
 use Rattle.mcs_system.specs.declared.part.SourcePart.{SourcePart}
 use Rattle.mcs_hints.specs.declared.notes.Mark.{Mark}
 use Rattle.mcs_hints.specs.Notes.{waits_on, signals, interrupts}
@@ -80,18 +80,6 @@ pub marks_unsignalled : (note badge notes : ℕ) (items : List Item) (marks : Li
     → marks ≡ marks_of notes (items ++ Signal note badge ∷ [])
 marks_unsignalled note badge notes items marks e h =
     sym (set_past marks note (made true true) h) ∙ marks_signalled note badge notes items marks (made true true) (made true true) e (λ less. absurd (omega arith))
-
--- an item of another kind marks nothing
-pub marks_unsaid : (notes : ℕ) (items : List Item) (item : Item) → ((n : ℕ) → item ≡ Wait n → ⊥) → ((n b : ℕ) → item ≡ Signal n b → ⊥)
-    → marks_of notes items ≡ marks_of notes (items ++ item ∷ [])
-marks_unsaid notes items (Compute ticks) w s = same_numbers (mark_of items) (mark_of (items ++ Compute ticks ∷ [])) notes (made true true) (λ k. unsaid items (Compute ticks) k refl refl)
-marks_unsaid notes items (Wait note) w s = absurd (w note refl)
-marks_unsaid notes items (Signal note badge) w s = absurd (s note badge refl)
-marks_unsaid notes items Yield w s = same_numbers (mark_of items) (mark_of (items ++ Yield ∷ [])) notes (made true true) (λ k. unsaid items Yield k refl refl)
-marks_unsaid notes items (On badges) w s = same_numbers (mark_of items) (mark_of (items ++ On badges ∷ [])) notes (made true true) (λ k. unsaid items (On badges) k refl refl)
-marks_unsaid notes items Spin w s = same_numbers (mark_of items) (mark_of (items ++ Spin ∷ [])) notes (made true true) (λ k. unsaid items Spin k refl refl)
-marks_unsaid notes items (Enter server priority) w s = same_numbers (mark_of items) (mark_of (items ++ Enter server priority ∷ [])) notes (made true true) (λ k. unsaid items (Enter server priority) k refl refl)
-marks_unsaid notes items (Leave server priority) w s = same_numbers (mark_of items) (mark_of (items ++ Leave server priority ∷ [])) notes (made true true) (λ k. unsaid items (Leave server priority) k refl refl)
 
 -- the next item of a script
 pub item_taken : (items script : List Item) (n : ℕ) (item : Item) → n < length script → slice_get script n ≡ Some item
