@@ -106,7 +106,7 @@ CHECKS = (
 )
 # what no gate runs
 BY_HAND = (
-    ('proofs', 'edits'), ('proofs', 'edits_table'), ('proofs', 'take'), ('proofs', 'gate'), ('proofs', 'archive'), ('program', 'refused_tests'), ('program', 'same'), ('program', 'widths'),
+    ('proofs', 'edits'), ('proofs', 'edits_table'), ('proofs', 'take'), ('proofs', 'quick'), ('proofs', 'gate'), ('proofs', 'archive'), ('program', 'refused_tests'), ('program', 'same'), ('program', 'widths'),
     ('program', 'forever_model'), ('measure', 'performance'), ('measure', 'costs'), ('measure', 'checker_costs'), ('measure', 'forever_table'),
     ('measure', 'beside'), ('measure', 'gains'),
 )
