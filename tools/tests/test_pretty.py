@@ -236,11 +236,10 @@ class Shown(unittest.TestCase):
         self.assertEqual(found[1:4], ['hint         core  meaning', 'no_deadline     -  no deadline can be judged', 'unused          2  no thread runs on it'])
 
     def test_hints_of_badges_and_calls(self) -> None:
-        found = shown({'kind': 'hint', 'hint': 'unhandled', 'source': 'nic', 'note': 'events', 'badge': 4},
-                      {'kind': 'hint', 'hint': 'inverted', 'thread': 'H', 'server': 'v', 'priority': 40, 'caller': 50}, counts(hints=2))
-        self.assertEqual([line.split('  ')[-1] for line in found[1:4]], [
-            'meaning', 'no handler takes its badge', 'calls from above the server, or from its priority',
-        ])
+        found = shown({'kind': 'hint', 'hint': 'unhandled', 'source': 'nic', 'note': 'events', 'badge': 4}, counts(hints=1))
+        self.assertEqual(found[1:3], ['hint       source  note    badge  meaning', 'unhandled  nic     events      4  no handler takes its badge'])
+        found = shown({'kind': 'hint', 'hint': 'inverted', 'thread': 'H', 'server': 'v', 'priority': 40, 'caller': 50}, counts(hints=1))
+        self.assertEqual(found[2].split('  ')[-1], 'calls from above the server, or from its priority')
 
     def test_doubts_are_coloured_as_doubts(self) -> None:
         self.assertEqual([concluding.severity(kind) for kind in ('miss', 'hint', 'unjudged', 'counts')], [colours.WRONG, colours.DOUBTFUL, colours.DOUBTFUL, ''])
