@@ -39,7 +39,7 @@ MEANINGS = {
     'overcommitted': 'its contexts have more than it', 'unused': 'no thread runs on it', 'no_thread': 'the file has none',
     'no_deadline': 'no deadline can be judged', 'unawaited': 'interrupts, and nobody waits',
     'unhandled': 'no handler takes its badge', 'unheard': 'no handler takes the badge of its signal',
-    'inverted': 'calls from above the server, or from its priority',
+    'inverted': 'the server is no priority ceiling',
 }
 ROWS = 'rows'
 NARROWEST = 20
