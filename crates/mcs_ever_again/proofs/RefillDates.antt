@@ -1,5 +1,5 @@
 -- Refills that begin later, and their dates.
-use Rattle.std.proofs.Common.{◌≡◌, ℕ, Some, None, ◌+◌, ◌<◌, Bool, true, false, cond, List, [], ◌∷◌, ◌++◌, length, map, get_or, refl, sym, ap, ◌∙◌, arith}
+use Rattle.std.proofs.Common.{◌≡◌, ℕ, None, ◌+◌, ◌<◌, Bool, true, false, cond, List, [], ◌∷◌, ◌++◌, length, map, get_or, refl, sym, ap, ◌∙◌, arith}
 use Rattle.std.specs.Prelude.{◌==◌}
 use Rattle.std.specs.List.{range_with_len}
 use Rattle.std.proofs.lemmas.Bool.Decides.{nat_tests}
@@ -26,11 +26,6 @@ all-later lag before after many at =
     (λ k l.
     let within : k < length before = omega (arith, many, l) in
     at k within ∙ sym (get_or-map (later_refill lag) before k no_refill no_refill within))
-
--- one in each place
-pub later-at : (lag : ℕ) (before after : List Refill) → after ≡ map (later_refill lag) before → (k : ℕ) → k < length before →
-    get_or after k no_refill ≡ later_refill lag (get_or before k no_refill)
-later-at lag before after same k within = ap (λ rs. get_or rs k no_refill) same ∙ get_or-map (later_refill lag) before k no_refill no_refill within
 
 -- a test of moved numbers
 next-later : (a b lag : ℕ) → (a + lag + 1 == b + lag) ≡ (a + 1 == b)
@@ -78,10 +73,6 @@ regular-shown (Dates dates) = ap refills_of (dates_of-refills_of dates)
 regular-shown (Slice left) = refl
 
 -- the budget is the one that its refills show
-pub slice-shown : (left : ℕ) (budget : Budget) → Some left ≡ left_shown budget → Slice left ≡ budget
-slice-shown left (Dates dates) shown = cc
-slice-shown left (Slice left') shown = cc
-
 pub dates-shown : (refills : List Refill) (budget : Budget) → refills ≡ refills_shown budget → None ≡ left_shown budget → Dates (dates_of refills) ≡ budget
 dates-shown refills (Dates dates) shown none = ap (λ refills. Dates (dates_of refills)) shown ∙ ap Dates (dates_of-refills_of dates)
 dates-shown refills (Slice left) shown none = cc

@@ -31,6 +31,20 @@ from-later before t l (mail ∷ mails) = by (arrives_from before mail) (arrives_
     by false true e f i = absurd (never mail.arrives before t l e f)
     by false false e f i = i
 
+-- the signals that arrive at a moment or later, of those that arrive at a later one or later still
+pub from-earlier : (t from : ℕ) → t ≤ from → (mails : List Mail) → filter (arrives_from t) (filter (arrives_from from) mails) ≡ filter (arrives_from from) mails
+from-earlier t from l [] = refl
+from-earlier t from l (mail ∷ mails) = by (arrives_from from mail) (arrives_from t mail) refl refl (from-earlier t from l mails)
+  where
+    never : (arrives t from : ℕ) → t ≤ from → nat_le from arrives ≡ true → nat_le t arrives ≡ false → ⊥
+    never arrives t from l e f = grind (arith, nat_tests)
+
+    by : (a b : Bool) → arrives_from from mail ≡ a → arrives_from t mail ≡ b → filter (arrives_from t) (filter (arrives_from from) mails) ≡ filter (arrives_from from) mails →
+        filter (arrives_from t) (cond a (mail ∷ filter (arrives_from from) mails) (filter (arrives_from from) mails)) ≡ cond a (mail ∷ filter (arrives_from from) mails) (filter (arrives_from from) mails)
+    by true true e f i = rw f (ap (λ ms. mail ∷ ms) i)
+    by true false e f i = absurd (never mail.arrives t from l e f)
+    by false b e f i = i
+
 -- the signal of a row of a run arrives at the row's time or later, and at most at 2^42
 on-time : (system : System) → IsWellFormed system → (c moment t : ℕ) → t ≤ moment → moment ≤ 2 ^ 40 → (what : What) →
     filter can_arrive (cons_option (mail_told system c moment what) []) ≡ filter (arrives_from t) (cons_option (mail_told system c moment what) [])

@@ -7,5 +7,5 @@ mod recurs;
 mod under_way;
 
 pub use image::{CoreImage, Lags};
-pub use recurs::{Shifts, Snapshot, is_own, rows_tell_turns};
-pub use under_way::{UnderWay, are_later, signals_are_told, under_way_is_told};
+pub use recurs::{Present, Shifts, Snapshot, is_own, rows_tell_turns};
+pub use under_way::{UnderWay, signals_are_told, under_way_is_told};

@@ -4,11 +4,13 @@ mod group;
 mod lags;
 mod laws;
 mod marked;
+mod present;
 mod shifts;
 mod snapshot;
 mod sources;
 
 pub use group::is_own;
 pub use laws::rows_tell_turns;
+pub use present::Present;
 pub use shifts::Shifts;
 pub use snapshot::Snapshot;

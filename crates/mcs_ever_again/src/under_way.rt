@@ -3,8 +3,8 @@
 mod later;
 mod laws;
 mod signals;
+mod store;
 mod told;
 
-pub use later::are_later;
 pub use laws::{signals_are_told, under_way_is_told};
 pub use signals::UnderWay;

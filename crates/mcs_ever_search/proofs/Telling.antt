@@ -1,31 +1,13 @@
 -- The recurrences of groups, after one more is set.
-use Rattle.std.proofs.Common.{◌≡◌, ◌≢◌, ℕ, ◌<◌, inl, inr, Bool, false, List, [], length, get_or, set, replicate, Option, Some, None, refl, sym, ap, subst, ◌∙◌, arith}
+use Rattle.std.proofs.Common.{◌≡◌, ◌≢◌, ℕ, ◌<◌, inl, inr, Bool, false, List, [], length, get_or, set, Option, Some, None, refl, sym, ap, subst, ◌∙◌, arith}
 use Rattle.std.specs.Prelude.{IfSome, is_some}
 use Rattle.std.proofs.lemmas.Bool.Decides.{eqb_tells}
-use Rattle.std.proofs.lemmas.List.{get_or-set_same, get_or-set_other, get_or-replicate, length-set, length-replicate}
+use Rattle.std.proofs.lemmas.List.{get_or-set_same, get_or-set_other, length-set}
 use Rattle.mcs_system.specs.System.{System}
 use Rattle.mcs_ever_search.specs.Repeats.{IsToldOf, AreTold}
 use Rattle.mcs_ever_search.specs.declared.repeats.Repeats.{Repeats}
 
-abbrev nothing : Option Repeats
-nothing = None
-
-none-at : (n i : ℕ) → i < n → get_or (replicate n nothing) i nothing ≡ nothing
-none-at n i l = get_or-replicate n i nothing nothing l
-
 module _ (system : System) (horizon : ℕ) (groups : List (List Bool)) where
-  pub told-none : (told : List (Option Repeats)) (n : ℕ) → told ≡ replicate n None → n ≡ length groups → AreTold system horizon groups told
-  told-none told n is many =
-      let P : List (Option Repeats) → Type 0 = λ told. AreTold system horizon groups told in
-      subst P (sym is)
-      (record {
-        many = length-replicate n nothing ∙ many;
-        each = λ i l.
-            let Q : Option Repeats → Type 0 = λ told. IsToldOf system horizon (get_or groups i []) told in
-            let within : i < n = omega (arith, l, many) in
-            subst Q (sym (none-at n i within)) (λ closed. tt);
-      })
-
   pub told-set : (told : List (Option Repeats)) (i : ℕ) (x : Option Repeats) → i < length groups → IsToldOf system horizon (get_or groups i []) x →
       AreTold system horizon groups told → AreTold system horizon groups (set told i x)
   told-set told i x l is are = record {

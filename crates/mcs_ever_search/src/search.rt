@@ -17,7 +17,7 @@ use crate::lockstep::Lockstep;
 use crate::orders::orders_end;
 use crate::rest::are_idle;
 use crate::seen::Seen;
-use crate::snapshot::snapshot;
+use crate::snapshot::present;
 use mcs_ever::CoreSet;
 use mcs_ever_again::{Shifts, rows_tell_turns, under_way_is_told};
 use mcs_ever_found::{Course, Doings};
@@ -121,7 +121,7 @@ impl Search {
         ensures { IsTrue result → IsAtRest self.now.system self.now.clock }
     {
         under_way_is_told();
-        if !self.seen.under_way.as_slice().is_empty() {
+        if !self.seen.under_way.is_empty() {
             return false;
         }
         are_idle(alloc, &self.system, &self.lockstep)
@@ -242,8 +242,8 @@ impl Search {
     ///
     /// If no core outside the group signals one in it, it then recurs, for ever. `None` says
     /// nothing: the group may recur by other moments. Allocates no memory if another thread runs,
-    /// or if a thread is at another item. Fails only if memory runs out, or ran out in a turn
-    /// before.
+    /// a thread is at another item, or the first signal under way is another one. Fails only if
+    /// memory runs out, or ran out in a turn before.
     pub fn recurs(&self, alloc: Global, group: &CoreSet) -> Result<Option<Shifts>, NoMemory>
         ensures going { OnOk result (self.now.failed ≡ false) }
         ensures recurs { IsClosed self.now.system (has group.now) →
@@ -260,6 +260,14 @@ impl Search {
         if !may_stand_again(system, &self.lockstep, earlier.cores(), group) {
             return Ok(None);
         }
+        let by = self.clock.get().saturating_sub(earlier.moment().get());
+        if !self
+            .seen
+            .under_way
+            .may_be_later(system, group, by, earlier.under_way())
+        {
+            return Ok(None);
+        }
         if !self
             .kept
             .gaps
@@ -268,8 +276,8 @@ impl Search {
             return Ok(None);
         }
         under_way_is_told();
-        let present = snapshot(alloc, system, &self.lockstep, &self.seen.under_way)?;
-        let found = Shifts::between(alloc, system, group, earlier, &present, &self.seen.marks)?;
+        let later = present(alloc, system, &self.lockstep, &self.seen.under_way)?;
+        let found = Shifts::between(alloc, system, group, earlier, &later, &self.seen.marks)?;
         Ok(found)
     }
 }

@@ -4,8 +4,7 @@ ghost use Rattle.mcs_laws.specs.Turns.{cores};
 ghost use Rattle.mcs_ever_again.specs.Snapshot.{IsOfClock};
 
 use crate::lockstep::Lockstep;
-use mcs_ever_again::{CoreImage, Snapshot, UnderWay};
-use mcs_mail::Mail;
+use mcs_ever_again::{CoreImage, Present, Snapshot, UnderWay};
 use mcs_system::System;
 use mcs_ticks::{CoreId, NoMemory};
 use std::alloc::Global;
@@ -40,13 +39,24 @@ fn images(alloc: Global, system: &System, lockstep: &Lockstep) -> Result<Vec<Cor
     Ok(images)
 }
 
-fn copied(alloc: Global, mails: &[Mail]) -> Result<Vec<Mail>, NoMemory>
-    ensures { IfOk result (λ copy. copy.items ≡ mails.now) }
+/// Returns the images of all cores, beside the signals under way.
+pub(crate) fn present<'a>(
+    alloc: Global,
+    system: &System,
+    lockstep: &Lockstep,
+    under_way: &'a UnderWay,
+) -> Result<Present<'a>, NoMemory>
+    requires same { lockstep.now.system ≡ system.now }
+    requires going { lockstep.now.failed ≡ false }
+    requires mails { under_way.now ≡ (world system.now lockstep.now.clock).mails }
+    ensures clock { IfOk result (IsOfClock system.now) }
+    ensures moment { IfOk result (λ present. present.moment ≡ lockstep.now.clock) }
 {
-    Ok(mails.iter().copied().collect(alloc)?)
+    let cores = images(alloc, system, lockstep)?;
+    Ok(Present::new(lockstep.clock(), cores, under_way))
 }
 
-/// Returns the images of all cores and the signals under way.
+/// Returns the images of all cores and a copy of the signals under way.
 pub(crate) fn snapshot(
     alloc: Global,
     system: &System,
@@ -60,6 +70,6 @@ pub(crate) fn snapshot(
     ensures moment { IfOk result (λ snapshot. snapshot.moment ≡ lockstep.now.clock) }
 {
     let cores = images(alloc, system, lockstep)?;
-    let mails = copied(alloc, under_way.as_slice())?;
+    let mails = under_way.copied(alloc)?;
     Ok(Snapshot::new(lockstep.clock(), cores, mails))
 }

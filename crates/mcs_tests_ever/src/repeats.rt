@@ -48,6 +48,26 @@ thread = [{ name = "Once", context = "a", priority = 9, rounds = 1, script = ["c
 order = [{ at = 100, core = 0, context = "a", budget = 4, period = 10 }]
 "#;
 
+/// In turn a thread on core 1 signals core 0, over 200 ticks, and core 2, over one. Each signal
+/// takes a tick, and so does each wait and each computation.
+const NEAR_AND_FAR: &str = r#"
+version = 2
+cores = 3
+delay = 1
+context = [
+    { name = "a", core = 0, budget = 10, period = 10 },
+    { name = "b", core = 1, budget = 10, period = 10 },
+    { name = "c", core = 2, budget = 10, period = 10 },
+]
+note = [{ name = "far", core = 0 }, { name = "near", core = 2 }]
+link = [{ maker = 1, home = 0, delay = 200 }]
+thread = [
+    { name = "Far", context = "a", priority = 9, script = ["wait far", "compute 1"] },
+    { name = "Sender", context = "b", priority = 9, script = ["signal far 1", "signal near 1"] },
+    { name = "Near", context = "c", priority = 9, script = ["wait near", "compute 1"] },
+]
+"#;
+
 /// The loop computes for two ticks and yields in a third one. Each of its rounds but the first
 /// begins when the one before it ended: at 0, 3, 13, 23 and so on. It moves to its next item, ends
 /// a round or is released at 0, 2, 3, 10, 12, 13, 20 and so on. The search keeps moment 2, and
@@ -127,5 +147,18 @@ fn two_timers_repeat_with_a_common_multiple(rt: HostRuntime) -> Result<(), Fail>
     let found = repeats_up_to(rt.alloc(), TWO_TIMERS, 1000)?;
     assert_eq!(rt; found.len(), 1);
     assert!(rt; repeats_of(found.as_slice(), 0).1 == 30);
+    Ok(())
+}
+
+/// A hundred signals are under way to core 0, and those to core 2 pass them. Some core is busy at
+/// each tick, so the search keeps the moments 1, 3, 7 and so on. The first signal for core 0 comes
+/// at 201. Kept next is 255, and both budgets are back after 10 ticks.
+#[test]
+fn signals_that_pass_others_are_told_apart(rt: HostRuntime) -> Result<(), Fail> {
+    let found = repeats_up_to(rt.alloc(), NEAR_AND_FAR, 1000)?;
+    assert_eq!(rt; found.len(), 3);
+    assert!(rt; repeats_of(found.as_slice(), 0) == (255, 10));
+    assert!(rt; repeats_of(found.as_slice(), 1).1 == 10);
+    assert!(rt; repeats_of(found.as_slice(), 2).1 == 10);
     Ok(())
 }

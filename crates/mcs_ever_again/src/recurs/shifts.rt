@@ -4,9 +4,9 @@ ghost use Rattle.mcs_ever_again.specs.Period.{AreOfRun, RecursBetween};
 use crate::image::Lags;
 use crate::recurs::lags::group_lags;
 use crate::recurs::marked::marked_keep_up;
+use crate::recurs::present::Present;
 use crate::recurs::snapshot::Snapshot;
 use crate::recurs::sources::sources_are_later;
-use crate::under_way::are_later;
 use mcs_ever::{CoreSet, Marks, marks_tell, rows_are_of_own};
 use mcs_system::System;
 use mcs_ticks::NoMemory;
@@ -44,7 +44,7 @@ impl Shifts {
         system: &System,
         group: &CoreSet,
         before: &Snapshot,
-        after: &Snapshot,
+        after: &Present<'_>,
         marks: &Marks,
     ) -> Result<Option<Self>, NoMemory>
         ensures { AreOfRun system.now group.now before.now after.now marks.now →
@@ -62,13 +62,17 @@ impl Shifts {
         if !sources_are_later(system, group, from, by) {
             return Ok(None);
         }
-        if !are_later(system, group, by, before.mails(), after.mails()) {
-            return Ok(None);
-        }
         let Some(lags) = group_lags(alloc, system, group, by, before.cores(), after.cores())? else {
             return Ok(None);
         };
         if !marked_keep_up(system, group, by, lags.as_slice(), marks) {
+            return Ok(None);
+        }
+        // the signals come last: they may be many
+        if !after
+            .under_way()
+            .is_later(system, group, by, before.under_way())
+        {
             return Ok(None);
         }
         Ok(Some(Shifts { by, lags }))

@@ -1,7 +1,7 @@
 ghost use Rattle.std.specs.Prelude.{◌≡◌};
 
 use crate::image::CoreImage;
-use mcs_mail::Mail;
+use crate::under_way::UnderWay;
 use mcs_ticks::Tick;
 use std::marker::Model;
 
@@ -10,7 +10,7 @@ use std::marker::Model;
 pub struct Snapshot {
     moment: Tick,
     cores: Vec<CoreImage>,
-    mails: Vec<Mail>,
+    under_way: UnderWay,
 }
 
 impl Model for Snapshot {
@@ -18,19 +18,19 @@ impl Model for Snapshot {
 
     ghost Value = { TheSnapshot };
 
-    ghost view = { λ a. record { moment = a.moment; each = a.cores.items; mails = a.mails.items } };
+    ghost view = { λ a. record { moment = a.moment; each = a.cores.items; mails = a.under_way } };
 }
 
 impl Snapshot {
     /// Returns a snapshot of the cores before a moment, by their numbers, and of the signals under
-    /// way, in the order in which they were made.
-    pub fn new(moment: Tick, cores: Vec<CoreImage>, mails: Vec<Mail>) -> Self
-        ensures { result ≡ record { moment = moment; each = cores.items; mails = mails.items } }
+    /// way.
+    pub fn new(moment: Tick, cores: Vec<CoreImage>, under_way: UnderWay) -> Self
+        ensures { result ≡ record { moment = moment; each = cores.items; mails = under_way } }
     {
         Snapshot {
             moment,
             cores,
-            mails,
+            under_way,
         }
     }
 
@@ -48,10 +48,10 @@ impl Snapshot {
         self.cores.as_slice()
     }
 
-    /// The signals under way, in the order in which they were made.
-    pub(crate) fn mails(&self) -> &[Mail]
+    /// The signals under way.
+    pub fn under_way(&self) -> &UnderWay
         ensures { result.now ≡ self.now.mails }
     {
-        self.mails.as_slice()
+        &self.under_way
     }
 }

@@ -1,4 +1,4 @@
-ghost use Rattle.std.specs.Prelude.{◌≡◌, ℕ, ◌^◌, ◌≤◌, [], ◌∷◌, ◌++◌, List, filter, IsTrue, ◌↔◌, OnOk, OnErr};
+ghost use Rattle.std.specs.Prelude.{◌≡◌, ℕ, ◌^◌, ◌≤◌, [], ◌∷◌, ◌++◌, List, filter, IfOk, IsTrue, ◌↔◌, OnOk, OnErr};
 ghost use Rattle.mcs_ticks.specs.declared.row.Row.{Row as TheRow};
 ghost use Rattle.mcs_system.specs.System.{System as TheSystem};
 ghost use Rattle.mcs_system.specs.WellFormed.{IsWellFormed};
@@ -6,19 +6,20 @@ ghost use Rattle.mcs_core.specs.Clock.{clock, world};
 ghost use Rattle.mcs_ever_again.specs.UnderWay.{told_mails, arrives_from, can_arrive, under_way};
 ghost use Rattle.mcs_ever_again.specs.Group.{AreLater};
 
-use crate::under_way::later::are_later;
+use crate::under_way::later::{are_later, may_be_later};
+use crate::under_way::store::Store;
 use crate::under_way::told::mail_of;
-use mcs_mail::Mail;
 use mcs_system::System;
 use mcs_ticks::{Limits, NoMemory, Row, Tick};
 use std::alloc::Global;
 use std::marker::Model;
 
 /// The signals under way between the cores of a system, in the order in which they were made.
-/// Contracts see the list.
+/// Contracts see the list. One that is forgotten may stay stored for a while, so that each signal
+/// takes constant time, however many are under way.
 #[derive(Debug, Drop)]
 pub struct UnderWay {
-    mails: Vec<Mail>,
+    store: Store,
 }
 
 impl Model for UnderWay {
@@ -27,7 +28,9 @@ impl Model for UnderWay {
 
     ghost Value = { List Mail };
 
-    ghost view = { λ a. a.mails.items };
+    ghost use Rattle.mcs_ever_again.specs.stored.Store.{left};
+
+    ghost view = { λ a. left a.store };
 }
 
 impl UnderWay {
@@ -36,7 +39,7 @@ impl UnderWay {
         ensures { result ≡ [] }
     {
         UnderWay {
-            mails: Vec::new(alloc),
+            store: Store::new(alloc),
         }
     }
 
@@ -52,7 +55,7 @@ impl UnderWay {
         // the system is well formed, so no signal of a run is under way for too long
         let _parts = system.parts();
         if let Some(mail) = mail_of(system, row) {
-            self.mails.push(mail)?;
+            self.store.put(mail)?;
         }
         Ok(())
     }
@@ -66,14 +69,23 @@ impl UnderWay {
         ensures clock { (system : TheSystem) (before : ℕ) → IsWellFormed system → before ≤ t →
             self.old ≡ under_way system before (clock system t).rows → self.new ≡ (world system t).mails }
     {
-        self.mails.retain(|mail| mail.arrives >= t);
+        self.store.forget_before(t);
     }
 
-    /// The signals, in the order in which they were made.
-    pub fn as_slice(&self) -> &[Mail]
-        ensures { result.now ≡ self.now }
+    /// Whether no signal is under way.
+    pub fn is_empty(&self) -> bool
+        ensures { IsTrue result ↔ (self.now ≡ []) }
     {
-        self.mails.as_slice()
+        self.store.is_empty()
+    }
+
+    /// Returns a copy of the list. Fails only if memory runs out.
+    pub fn copied(&self, alloc: Global) -> Result<Self, NoMemory>
+        ensures { IfOk result (λ copy. copy ≡ self.now) }
+    {
+        Ok(UnderWay {
+            store: self.store.copied(alloc)?,
+        })
     }
 
     /// Whether the signals for a group of cores are the earlier ones, `by` ticks later: each at its
@@ -84,10 +96,24 @@ impl UnderWay {
         system: &System,
         group: &[bool; Limits::CORES],
         by: u64,
-        before: &[Mail],
+        before: &UnderWay,
     ) -> bool
         ensures { IsTrue result ↔ AreLater system.now group.now by before.now self.now }
     {
-        are_later(system, group, by, before, self.mails.as_slice())
+        are_later(system, group, by, &before.store, &self.store)
+    }
+
+    /// Whether the signals for a group of cores may be the earlier ones, `by` ticks later. If not,
+    /// they are not. A test that takes constant time, however many are under way.
+    pub fn may_be_later(
+        &self,
+        system: &System,
+        group: &[bool; Limits::CORES],
+        by: u64,
+        before: &UnderWay,
+    ) -> bool
+        ensures { AreLater system.now group.now by before.now self.now → IsTrue result }
+    {
+        may_be_later(system, group, by, &before.store, &self.store)
     }
 }

@@ -6,4 +6,4 @@ abbrev pub invariant-loop-mail : goal.invariant-loop-mail
 invariant-loop-mail l = IsSo l.system l.group l.by l.before l.after l.compared l.seen
 
 abbrev pub decreases-loop-mail : goal.decreases-loop-mail
-decreases-loop-mail l = length l.after - l.seen
+decreases-loop-mail l = length l.after.mails.items - l.seen

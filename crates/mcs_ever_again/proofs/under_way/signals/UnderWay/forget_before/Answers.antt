@@ -1,13 +1,12 @@
-use Rattle.std.proofs.Common.{ap, ◌∙◌, rules}
+use Rattle.std.proofs.Common.{ap, ◌∙◌}
 use Rattle.std.specs.Prelude.{filter}
-use Rattle.std.proofs.lemmas.Fn.{filter_same}
 use Rattle.mcs_ever_again.specs.UnderWay.{arrives_from}
 use Rattle.mcs_ever_again.proofs.Seen.{forgotten-told, forgotten-clock}
 use Rattle.mcs_ever_again.proofs.under_way.signals.UnderWay.forget_before.Goals as goal
 
 pub returns-clause-left : goal.returns-clause-left
 returns-clause-left c =
-    filter_same _ (arrives_from c.args.t) _ (λ x b f' k. search rules) _ _ c.retain.ensures.filtered ∙ ap (filter (arrives_from c.args.t)) c.self.view_is
+    c.forget_before.ensures ∙ ap (filter (arrives_from c.args.t)) c.self.view_is
 
 pub returns-clause-told : goal.returns-clause-told
 returns-clause-told c = λ system before past l e. returns-clause-left c ∙ forgotten-told system before c.args.t past c.args.self.now l e
