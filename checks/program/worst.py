@@ -9,7 +9,9 @@ There are three kinds of systems:
 - Small sets of tasks, of which all combinations are tried. Each has to show the worst case.
 - Systems with passive servers, sporadic and bandwidth contexts, and jitter. The search has to find
   at least what a plain random search of ten times as many runs finds in four of five of them. It
-  does in 105 of 115 systems of another seed with 500 runs, and in 109 with 2,000.
+  does in 105 of 115 systems of another seed with 500 runs, and in 109 with 2,000. Chance decides in
+  the others: a second random search of as many runs as the first finds less in more of the systems.
+  So the search has to find less in no more systems than the second random search does.
 
 The script also writes in how many sets a search finds the worst case that does not begin at the
 critical instant, which is no failure."""
@@ -176,8 +178,8 @@ def system_with_servers(rng: random.Random) -> dict[str, Any]:
     return tables
 
 
-def try_servers(runs: int, tried: Tried, seed: str, number: int) -> tuple[Found, Found]:
-    """What the search finds, and a plain random search of ten times as many runs."""
+def try_servers(runs: int, tried: Tried, seed: str, number: int) -> tuple[Found, Found, Found]:
+    """What the search finds, and what two plain random searches of ten times as many runs find."""
     rng = random.Random(f'{seed} servers {number}')
     tables = system_with_servers(rng)
     texts = [*ranges.phases_of(tables), *ranges.times_of(tables, 50)]
@@ -186,8 +188,12 @@ def try_servers(runs: int, tried: Tried, seed: str, number: int) -> tuple[Found,
     space = Space(tables, [ranges.choice_of(text, tables, 1000) for text in texts])
     trial = Trial(space, 't0', 1000)
     found = searched(tried, trial, climb(tried, trial, runs, number))
-    drawn = (tuple(rng.randrange(size) for size in space.sizes) for _ in range(TIMES * runs))
-    return found, searched(tried, trial, climbing.exhaust(drawn))
+
+    def at_random() -> Found:
+        drawn = (tuple(rng.randrange(size) for size in space.sizes) for _ in range(TIMES * runs))
+        return searched(tried, trial, climbing.exhaust(drawn))
+
+    return found, at_random(), at_random()
 
 
 # ---- all of them
@@ -218,14 +224,16 @@ def look_at_small(tried: Tried, seed: str, many: int, count: Count) -> None:
 
 
 def look_at_servers(tried: Tried, seed: str, many: int, runs: int, count: Count) -> None:
-    more = same = 0
-    for number, (found, other) in enumerate(on_all(functools.partial(try_servers, runs), tried, seed, many)):
+    more = same = worse = 0
+    for number, (found, other, second) in enumerate(on_all(functools.partial(try_servers, runs), tried, seed, many)):
         more += found.value > other.value
         same += found.value == other.value
+        worse += second.value < other.value
         if found.value < other.value:
             print(f'servers {number} of seed {seed}: {found.value} in {found.runs} runs, {other.value} by {other.runs} random ones')
-    print(f'servers: {more} of {many} above {TIMES} times as many random runs, {same} the same')
+    print(f'servers: {more} of {many} above {TIMES} times as many random runs, {same} the same; as many random runs again are below in {worse}')
     count.expect(f'servers: {more + same} of {many} is less than {MOSTLY:.0%}', more + same >= MOSTLY * many)
+    count.expect(f'servers: {many - more - same} of {many} below, and as many random runs again in {worse}', many - more - same <= worse)
 
 
 def main() -> None:
