@@ -1,5 +1,5 @@
 #!/usr/bin/env python3
-"""Runs rt with the words given, and sums the sources of each crate once where rt sums them along each path of crates.txt.
+"""Runs rt with the words given, and sums the sources of each crate once; rt itself sums them along each path of crates.txt.
 
     checks/proofs/quick.py check --jobs 2
 
