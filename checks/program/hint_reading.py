@@ -46,9 +46,11 @@ class Uses:
         """The badges that a thread takes from a notification."""
         waits = [place for place, (_, item) in enumerate(self.of_thread(thread)) if item == ['wait', note]]
         handlers = [int(item.split()[1]) for item in thread['script'] if item.split()[0] == 'on']
+        # an item before all handlers is there for each badge
+        has_handlers_alone = len(thread['script']) > 1 and thread['script'][1].split()[0] == 'on'
         badges = 0
         for place in waits:
-            for handler in handlers if place == 0 and handlers else [EVERY]:
+            for handler in handlers if place == 0 and has_handlers_alone else [EVERY]:
                 badges |= handler
         return badges
 

@@ -634,6 +634,7 @@ WORDS = {
         'position': 'the index of the first element for which this is `true`, or `None`',
         'Result': '`Ok x` or `Err e`',
         'set': '`set xs n a`: the list with `a` at index `n`',
+        'slice_get': '`slice_get xs n`: the element with index `n`, or `None` past the end',
         'slice_set': '`slice_set xs n a`: the list with `a` at index `n`',
         'Some': 'this value',
         'string_bytes': 'the bytes of a text',

@@ -363,6 +363,8 @@ source = [{ name = "s", note = "n", badge = 4, period = 9 }, { name = "k", note 
         # a server signals for its caller; for badge 2 it waits for n behind a call, and takes each badge
         self.assertEqual(self.used(text.replace('"signal z 1"', '"call v 1"'))[2:], ['thread E signals n with badge 16 and no handler takes it'])
         self.assertEqual(self.used(text.replace('"signal z 1"', '"call v 2"')), sources[1:])
+        # an item before all handlers is done for each badge
+        self.assertEqual(self.used(text.replace('"wait n", "on 1"', '"wait n", "compute 1", "on 1"')), sources[1:])
         values = [reading.values_of_hint(f'hint {hint}') for hint in self.used(text)]
         self.assertEqual(values, [
             {'kind': 'hint', 'hint': 'unhandled', 'source': 'k', 'note': 'n', 'badge': 24}, {'kind': 'hint', 'hint': 'unawaited', 'source': 'u', 'note': 'z'},

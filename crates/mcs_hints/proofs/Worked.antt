@@ -124,6 +124,10 @@ unhandled = refl
 handled_by_another : hints_of (with_source (system one (thread 0 (Wait 1 ∷ On 2 ∷ Compute 1 ∷ []) ∷ thread 0 (Wait 1 ∷ On 3 ∷ Compute 1 ∷ []) ∷ []))) ≡ []
 handled_by_another = refl
 
+-- each badge leaves an item to do that is before all handlers
+taken_by_a_common_item : hints_of (with_source (system one (thread 0 (Wait 1 ∷ Compute 1 ∷ On 2 ∷ Compute 1 ∷ []) ∷ []))) ≡ []
+taken_by_a_common_item = refl
+
 -- a wait that is not the first item takes each badge, in a handler too
 taken_by_a_later_wait : hints_of (with_source (system one (thread 0 (Wait 1 ∷ On 2 ∷ Wait 1 ∷ Compute 1 ∷ []) ∷ []))) ≡ []
 taken_by_a_later_wait = refl

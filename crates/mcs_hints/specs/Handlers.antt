@@ -1,9 +1,9 @@
 -- Badges that scripts take from notifications, and sources and signals whose badge no script takes.
-use Rattle.std.specs.Prelude.{ℕ, ◌-◌, ◌^◌, ◌==◌, ◌&&◌, not, if◌then◌else◌, bit_and, bit_or, List, [], ◌∷◌, length, map, get_or, take, drop, fold, Option, Some, None}
+use Rattle.std.specs.Prelude.{ℕ, ◌-◌, ◌^◌, ◌==◌, ◌&&◌, ◌||◌, not, if◌then◌else◌, bit_and, bit_or, List, [], ◌∷◌, length, map, get_or, slice_get, take, drop, fold, Option, Some, None}
 use Rattle.std.specs.Option.{option_or}
 use Rattle.mcs_script.specs.declared.item.Item.{Item}
 use Rattle.mcs_script.specs.declared.item.Item.TheVariants.{Signal, Wait}
-use Rattle.mcs_script.specs.Script.{badges_of}
+use Rattle.mcs_script.specs.Script.{badges_of, ends_handler}
 use Rattle.mcs_system.specs.declared.part.SourcePart.{SourcePart}
 use Rattle.mcs_system.specs.declared.part.ThreadPart.{ThreadPart}
 use Rattle.mcs_system.specs.System.{System, source_part, thread_part}
@@ -16,9 +16,10 @@ abbrev pub every_badge : ℕ
 every_badge = 2 ^ 32 - 1
 
 -- the badges that a script's first item takes if it waits: those of its handlers, or all if it has
--- none
+-- none, or if an item that is in no handler follows
 abbrev pub badges_at_first : List Item → ℕ
-badges_at_first script = if badges_of script == 0 then every_badge else badges_of script
+badges_at_first script =
+    if badges_of script == 0 || not (ends_handler (slice_get script 1)) then every_badge else badges_of script
 
 -- the badges taken so far from the notification, with those of an item that takes `badges` if it
 -- waits there

@@ -1,7 +1,7 @@
 //! Badges that scripts take from notifications; sources and signals whose badge no script takes.
-ghost use Rattle.std.specs.Prelude.{◌≡◌, ℕ, ◌++◌, length, get_or, fold, map, IfOk};
+ghost use Rattle.std.specs.Prelude.{◌≡◌, ℕ, ◌++◌, not, length, get_or, slice_get, fold, map, IfOk};
 ghost use Rattle.std.specs.List.{filter_map};
-ghost use Rattle.mcs_script.specs.Script.{IsScript, badges_in};
+ghost use Rattle.mcs_script.specs.Script.{IsScript, badges_in, ends_handler};
 ghost use Rattle.mcs_hints.specs.Numbers.{numbers};
 ghost use Rattle.mcs_hints.specs.Handlers.{badges_at_first, first_unheard, taken_from, taken_of, unheard, unheard_at, unread, unread_by, with_item, with_script};
 
@@ -25,6 +25,16 @@ fn badges_in(item: Item) -> u32
     }
 }
 
+/// Whether an item that is in no handler follows the first one.
+fn has_common_item(items: &[Item]) -> bool
+    ensures { result ≡ not (ends_handler (slice_get items.now 1)) }
+{
+    match items.get(1) {
+        Some(item) => !matches!(item, Item::On(_)),
+        None => false,
+    }
+}
+
 /// Returns the badges that a script's first item takes if it waits.
 fn badges_at_first(items: &[Item]) -> u32
     ensures { result ≡ badges_at_first items.now }
@@ -32,7 +42,11 @@ fn badges_at_first(items: &[Item]) -> u32
     let badges = items
         .iter()
         .fold(0, |badges, item| badges | badges_in(*item));
-    if badges == 0 { EVERY } else { badges }
+    if badges == 0 || has_common_item(items) {
+        EVERY
+    } else {
+        badges
+    }
 }
 
 /// Adds the badges of an item that takes `badges` if it waits.
