@@ -117,10 +117,12 @@ def stream(number: int, mode: str, errors: str = 'strict') -> Any:
 def main() -> None:
     """Imports the modules that are named, each behind the folder in which it is found, and runs scripts from then on."""
     control = socket.socket(fileno=0)
+    paths = list(sys.path)
     for named in sys.argv[1:]:
         folder, _, module = named.rpartition(':')
         sys.path[0] = folder
         importlib.import_module(module)
+        sys.path[:] = paths
     # what was imported stays in memory that all of them share
     gc.freeze()
     if asked := serve(control):
@@ -298,6 +300,15 @@ def tools(*before: str) -> Forks:
     """Forks of a process that has imported the tools, and that is started by a command whose words stand before Python's."""
     names = sorted(path.name for path in TOOLS.iterdir() if (TOOLS / 'mcsim_tools' / f'{path.name}.py').is_file())
     return Forks([f'{TOOLS}:mcsim_tools.{name}' for name in ('frame', *names)], before)
+
+
+@functools.cache
+def checks() -> Forks:
+    """Forks of a process that has imported the checks."""
+    from checks import everything
+
+    scripts = [(check.folder, check.name) for check in everything.CHECKS if check.folder != 'proofs'] + [('program', 'same'), ('proofs', 'gate')]
+    return Forks([f'{TOP}:checks.{folder}.{name}' for folder, name in scripts])
 
 
 if __name__ == '__main__':
