@@ -89,6 +89,8 @@ class InFolder(unittest.TestCase):
         for tool in TOOLS:
             (self.tools / tool).symlink_to(shutil.which(tool) or self.fail(f'there is no {tool}'))
         (self.tools / 'python3').symlink_to(sys.executable)
+        # without packages from elsewhere, which take most of the time of its start
+        (self.tools / 'pyvenv.cfg').write_text(f'home = {pathlib.Path(sys.executable).resolve().parent}\ninclude-system-site-packages = false\n')
         self.put_tool('cc', CC)
         self.write('crates.txt', CRATES)
         self.write('bin/README.md', PAGE)
