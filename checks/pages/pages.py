@@ -302,9 +302,13 @@ def try_jobs(program: pathlib.Path, count: Count) -> None:
 
 
 def main() -> None:
-    program = common.built_program(common.asking_program(__doc__).parse_args().program)
-    count = Count()
-    for page in (*sorted((TOP / 'examples').glob('*.md')), TOP / 'README.md', *GUIDES):
+    pages = (*sorted((TOP / 'examples').glob('*.md')), TOP / 'README.md', *GUIDES)
+    parser = common.asking_program(__doc__)
+    names = [str(page.relative_to(TOP)) for page in pages]
+    parser.add_argument('--page', action='append', choices=names, metavar='PAGE', help='of the pages only this one, as docs/CHECK.md; may be given several times')
+    words = parser.parse_args()
+    program, count = common.built_program(words.program), Count()
+    for page in (page for page, name in zip(pages, names) if not words.page or name in words.page):
         try_files(page, count)
         try_questions(program, page, count)
         try_page(program, page, count)

@@ -86,7 +86,7 @@ class WrongPrograms(unittest.TestCase):
         self.assertGreater(self.tally('manual', 'exit 0').failed, 4)
 
     def test_a_program_that_says_nothing_writes_no_page(self) -> None:
-        self.assertGreater(self.tally('pages', 'exit 0').failed, 4)
+        self.assertGreater(self.tally('pages', 'exit 0', '--page', 'README.md', '--page', 'docs/CHECK.md').failed, 4)
 
     def test_a_program_that_complains_writes_no_page(self) -> None:
         # two commands of the pages run a tool alone; README shows a file; four jobs have a form, and one of them draws what the program says, which is nothing
