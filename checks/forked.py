@@ -2,7 +2,7 @@
 """Starts scripts of this repository for tests, each in a process that is forked of one that has imported their modules.
 
 Such a process has its own descriptors, folder, environment and exit code, as one that a shell starts. Only the start of Python and the imports are
-saved, which are most of the seconds of a short run. The process that forks runs no script itself, so each meets the modules as they are when imported.
+saved, which are most of the seconds of a short run. The process that forks runs no script itself, so each meets modules as they are when imported.
 
     forked.tools().run([sys.executable, 'tools/view', 'one.toml'], capture_output=True)"""
 from __future__ import annotations
@@ -17,6 +17,7 @@ import pathlib
 import pickle
 import random
 import runpy
+import selectors
 import signal
 import socket
 import subprocess
@@ -51,42 +52,45 @@ class Asked(NamedTuple):
 
 
 def serve(control: socket.socket) -> Optional[Asked]:
-    """Forks a process for each message. Returns in each of them what it is to run, and None in this process when nobody asks any more."""
-    while True:
-        message, descriptors, *_ = socket.recv_fds(control, MESSAGE, 4)
-        if not message:
-            break
-        if os.fork() == 0:
-            return begun(Asked(*pickle.loads(message)), descriptors)
-        for descriptor in descriptors:
-            os.close(descriptor)
-        with contextlib.suppress(ChildProcessError):
-            while os.waitpid(-1, os.WNOHANG)[0]:
-                pass
-    with contextlib.suppress(ChildProcessError):
-        while True:
-            os.wait()
+    """Forks a process for each message. Returns in each of them what it is to run, and None here when nobody asks any more and all have ended."""
+    waits = selectors.DefaultSelector()
+    waits.register(control, selectors.EVENT_READ)
+    while waits.get_map():
+        for key, _ in waits.select():
+            if key.fileobj is not control:
+                waits.unregister(key.fileobj)
+                say_end(key.fd, *key.data)
+                continue
+            message, descriptors, *_ = socket.recv_fds(control, MESSAGE, 4)
+            if not message:
+                waits.unregister(control)
+                continue
+            told, *standard = descriptors
+            child = os.fork()
+            if child == 0:
+                waits.close()
+                return become(Asked(*pickle.loads(message)), standard)
+            say(told, child)
+            for descriptor in standard:
+                os.close(descriptor)
+            waits.register(os.pidfd_open(child), selectors.EVENT_READ, (child, told))
     return None
 
 
-def begun(asked: Asked, descriptors: Sequence[int]) -> Asked:
-    """Forks once more, and returns in the new process alone. This one waits for it, and says how it ended."""
-    told, *standard = descriptors
-    child = os.fork()
-    if child == 0:
-        become(asked, standard)
-        return asked
-    for descriptor in (0, 1, 2, *standard):
-        os.close(descriptor)
+def say(told: int, number: int) -> None:
+    """Says a number to whoever asked, unless he has gone."""
     with contextlib.suppress(OSError):
-        os.write(told, f'{child}\n'.encode())
-    status = os.waitstatus_to_exitcode(os.waitpid(child, 0)[1])
-    with contextlib.suppress(OSError):
-        os.write(told, f'{status}\n'.encode())
-    os._exit(0)
+        os.write(told, f'{number}\n'.encode())
 
 
-def become(asked: Asked, standard: Sequence[int]) -> None:
+def say_end(ending: int, child: int, told: int) -> None:
+    """Says how a process ended."""
+    say(told, os.waitstatus_to_exitcode(os.waitpid(child, 0)[1]))
+    os.close(told)
+    os.close(ending)
+
+
+def become(asked: Asked, standard: Sequence[int]) -> Asked:
     """Gives this process what one has that was started by itself."""
     for number, descriptor in enumerate(standard):
         os.dup2(descriptor, number)
@@ -103,6 +107,7 @@ def become(asked: Asked, standard: Sequence[int]) -> None:
     tempfile.tempdir = None
     random.seed()
     sys.stdin, sys.stdout, sys.stderr = stream(0, 'r'), stream(1, 'w'), stream(2, 'w', 'backslashreplace')
+    return asked
 
 
 def stream(number: int, mode: str, errors: str = 'strict') -> Any:
@@ -236,7 +241,7 @@ class Forks:
             if self.control is None:
                 self.control, theirs = socket.socketpair(socket.AF_UNIX, socket.SOCK_SEQPACKET)
                 with theirs:
-                    server = subprocess.Popen(self.command, stdin=theirs)
+                    server = subprocess.Popen(self.command, stdin=theirs.fileno())
                 atexit.register(server.wait)
                 atexit.register(self.control.close)
             return self.control

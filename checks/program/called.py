@@ -15,7 +15,8 @@ from checks.program.library import COMPILER
 from checks.program.library_verdicts import FORMATS, PARTS, ROOM
 
 sys.path.insert(0, str(TOP / 'tools'))
-from mcsim_tools.trying import Responses, Tables
+from mcsim_tools.settings import Tables
+from mcsim_tools.trying import Responses
 
 # bytes for what is written of a run; a longer text is asked for once more
 BYTES = 2**16

@@ -14,7 +14,9 @@ There are three kinds of systems:
   So the search has to find less in no more systems than the second random search does.
 
 A plain random search asks the library for C, in this process; in some runs mcscheck has to say the
-same. Without the library or a compiler it asks mcscheck. The script also writes in how many sets a search finds the worst case that does not begin at the
+same. Without the library or a compiler it asks mcscheck.
+
+The script also writes in how many sets a search finds the worst case that does not begin at the
 critical instant, which is no failure."""
 from __future__ import annotations
 
