@@ -106,17 +106,17 @@ def become(asked: Asked, standard: Sequence[int]) -> Asked:
     sys.path[0] = str(pathlib.Path(sys.argv[0]).resolve().parent)
     tempfile.tempdir = None
     random.seed()
-    sys.stdin, sys.stdout, sys.stderr = stream(0, 'r'), stream(1, 'w'), stream(2, 'w', 'backslashreplace')
+    sys.stdin, sys.stdout, sys.stderr = stream(0, 'r'), stream(1, 'w'), stream(2, 'w', 'backslashreplace', 1)
     return asked
 
 
-def stream(number: int, mode: str, errors: str = 'strict') -> Any:
-    """A standard stream as Python opens it at its start, or None if the descriptor is closed."""
+def stream(number: int, mode: str, errors: str = 'strict', buffering: int = -1) -> Any:
+    """A standard stream as Python opens it at its start, or None if the descriptor is closed. Each line of errors is written at once."""
     try:
         os.fstat(number)
     except OSError:
         return None
-    return open(number, mode, encoding='utf-8', errors=errors, closefd=False)
+    return open(number, mode, buffering, encoding='utf-8', errors=errors, closefd=False)
 
 
 def main() -> None:
@@ -278,14 +278,15 @@ class Forks:
             with contextlib.suppress(BrokenPipeError), open(ends.ours[0], 'wb') as pipe:
                 pipe.write(input.encode() if isinstance(input, str) else input or b'')
 
-        at_work = [threading.Thread(target=take, args=[number]) for number in (1, 2) if number in ends.ours]
-        at_work += [threading.Thread(target=give)] if 0 in ends.ours else []
+        at_work = [threading.Thread(target=take, args=[number], daemon=True) for number in (1, 2) if number in ends.ours]
+        at_work += [threading.Thread(target=give, daemon=True)] if 0 in ends.ours else []
         for thread in at_work:
             thread.start()
         try:
             status = process.wait(timeout)
         except subprocess.TimeoutExpired:
             os.kill(process.pid, signal.SIGKILL)
+            process.wait()
             raise
         for thread in at_work:
             thread.join()
