@@ -92,7 +92,7 @@ CHECKS = (
     Check('proofs', 'comments', tries_program=False),
     Check('proofs', 'unused', 3, tries_program=False),
     Check('program', 'faults'),
-    Check('program', 'checker', 20),
+    Check('program', 'checker', 15),
     Check('program', 'progress', 12),
     Check('pages', 'manual', needs='`mandoc`'),
     Check('pages', 'tool_pages', tries_program=False, needs='`mandoc`'),

@@ -86,8 +86,8 @@ class Command(NamedTuple):
         return status, seen.decode()
 
     def long_run(self, target: pathlib.Path, before: Long | None = None) -> Long:
-        """A run to a horizon so far that it shows how far it is, with this target for what it writes. It begins with the horizon of the one before."""
-        horizon = before.horizon if before else SHORT
+        """A run to a horizon so far that it shows how far it is, with this target for what it writes. It begins near the horizon of the one before."""
+        horizon = max(SHORT, before.horizon // 2) if before else SHORT
         while True:
             with open(target, 'wb') as device:
                 status, shown = self.on_terminal(horizon, device)
