@@ -140,7 +140,8 @@ class BrokenOff(Installation):
         def hear_interrupts() -> None:
             signal.signal(signal.SIGINT, signal.SIG_DFL)
 
-        env = {'PATH': f'{self.room}/commands:{self.tools}', 'HOME': str(self.home)}
+        # a launcher that is killed leaves its folder for temporary files
+        env = {'PATH': f'{self.room}/commands:{self.tools}', 'HOME': str(self.home), 'TMPDIR': str(self.room)}
         command = ['sh', '-c', 'echo $$ >"$1/pid"; shift; exec "$@"', 'sh', str(self.room), str(self.top / 'mcsim'), *words]
         ran = self.run_in(command, env=env, preexec_fn=hear_interrupts)
         return ran.returncode, ran.stdout, ran.stderr
