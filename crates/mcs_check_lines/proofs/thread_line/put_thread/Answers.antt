@@ -1,7 +1,7 @@
 use Rattle.std.proofs.Common.{rules, ◌≡◌, ◌∙◌, ap, drop, map}
 use Rattle.mcs_fields.specs.Fields.{field_of}
 use Rattle.mcs_check_lines.specs.Figures.{figure_fields, thread_fields}
-use Rattle.mcs_check_lines.proofs.figures.put_thread.Goals as goal
+use Rattle.mcs_check_lines.proofs.thread_line.put_thread.Goals as goal
 
 pub returns-clause-ok : goal.returns-clause-ok
 returns-clause-ok c =

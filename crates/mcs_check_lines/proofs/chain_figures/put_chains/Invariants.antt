@@ -1,6 +1,6 @@
 use Rattle.std.proofs.Common.{◌≡◌, ◌++◌, drop}
 use Rattle.mcs_check_lines.specs.Chains.{chain_lines}
-use Rattle.mcs_check_lines.proofs.chain_line.put_chains.Given as goal
+use Rattle.mcs_check_lines.proofs.chain_figures.put_chains.Given as goal
 
 abbrev pub invariant-loop-number : goal.invariant-loop-number
 invariant-loop-number l =

@@ -2,7 +2,7 @@ use Rattle.std.proofs.Common.{rules, ◌≡◌, map}
 use Rattle.mcs_fields.specs.Fields.{field_of}
 use Rattle.mcs_check_lines.specs.Figures.{thread_fields}
 use Rattle.mcs_check_lines.proofs.Values.{values-are}
-use Rattle.mcs_check_lines.proofs.figures.put_thread_as.Goals as goal
+use Rattle.mcs_check_lines.proofs.thread_line.put_narrow.Goals as goal
 
 pub returns-in-Csv-clause-ok : goal.returns-in-Csv-clause-ok
 returns-in-Csv-clause-ok c =
