@@ -118,7 +118,7 @@ impl Set {
         }
     }
 
-    /// Adds an origin behind the others. If memory runs out, the set is unchanged.
+    /// Adds an origin after the others. If memory runs out, the set is unchanged.
     pub(crate) fn push(&mut self, alloc: Global, mark: Mark) -> Result<(), NoMemory>
         ensures ok { OnOk result (self.new ≡ self.old ++ mark ∷ []) }
         ensures err { OnErr result (self.new ≡ self.old) }
@@ -220,7 +220,7 @@ fn two(alloc: Global, first: Mark, second: Mark) -> Result<Vec<Mark>, NoMemory>
     Ok(marks)
 }
 
-/// What a signal of this badge carries of one origin.
+/// Returns what a signal of this badge carries of one origin.
 fn one_given(mark: &Mark, places: u64, badge: u32) -> Set
     ensures { result ≡ given places badge (mark.now ∷ []) }
 {
@@ -231,7 +231,7 @@ fn one_given(mark: &Mark, places: u64, badge: u32) -> Set
     }
 }
 
-/// What a signal of this badge carries of these origins.
+/// Returns what a signal of this badge carries of these origins.
 fn many_given(alloc: Global, marks: &[Mark], places: u64, badge: u32) -> Result<Vec<Mark>, NoMemory>
     ensures { IfOk result (λ all. all.items ≡ given places badge marks.now) }
 {
@@ -243,7 +243,7 @@ fn many_given(alloc: Global, marks: &[Mark], places: u64, badge: u32) -> Result<
     Ok(all)
 }
 
-/// What a thread takes of one origin.
+/// Returns what a thread takes of one origin.
 fn one_taken(mark: &Mark, taking: Taking) -> Set
     ensures { result ≡ taken taking (mark.now ∷ []) }
 {
@@ -254,7 +254,7 @@ fn one_taken(mark: &Mark, taking: Taking) -> Set
     }
 }
 
-/// What a thread takes of these origins.
+/// Returns what a thread takes of these origins.
 fn many_taken(alloc: Global, marks: &[Mark], taking: Taking) -> Result<Vec<Mark>, NoMemory>
     ensures { IfOk result (λ all. all.items ≡ taken taking marks.now) }
 {

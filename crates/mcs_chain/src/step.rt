@@ -183,7 +183,7 @@ fn begins(all: &mut [Gone], thread: ThreadId)
     }
 }
 
-/// Whether a row of this kind moves no origin, and no thread goes on by it.
+/// Whether a row of this kind moves no origin and takes no thread to another step.
 #[inline(always)]
 pub(crate) fn is_quiet(what: &What) -> bool
     ensures { result ≡ is_quiet what.now }

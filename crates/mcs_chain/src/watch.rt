@@ -83,7 +83,7 @@ impl Watch {
         Ok(())
     }
 
-    /// Whether there are slow answers of the latest rows that have one moment. If not, none is due.
+    /// Whether there are slow answers of the latest rows that have one moment.
     #[inline(always)]
     pub fn has_late(&self) -> bool
         ensures { (before : Option ℕ) → result ≡ false → all_due before 0 self.now.each ≡ [] }
@@ -113,8 +113,7 @@ impl Watch {
         judged_of(self.each.as_slice())
     }
 
-    /// The answers of the latest row, which was seen: chain by chain, and of a chain the one for the
-    /// earliest interrupt first.
+    /// The answers of the latest row, chain by chain, those for earlier interrupts first.
     pub fn answers(
         &self,
         alloc: Global,

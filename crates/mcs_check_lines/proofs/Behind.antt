@@ -1,5 +1,5 @@
 -- Lines of a list's elements, one behind another.
-use Rattle.std.proofs.Common.{◌≡◌, ◌∙◌, ◌++◌, ◌∷◌, ◌+◌, ◌<◌, ℕ, List, ap, sym, append_assoc, drop, flat_map, get_or, length}
+use Rattle.std.proofs.Common.{◌≡◌, ◌∙◌, ◌++◌, ◌+◌, ◌<◌, ℕ, List, ap, sym, append_assoc, drop, flat_map, get_or, length}
 use Rattle.std.proofs.lemmas.List.{drop_more}
 
 module _ {X : Type 0} (line : X → List ℕ) (items : List X) where

@@ -1,4 +1,4 @@
-//! The lines of answers, behind the jobs that gave them.
+//! The lines of answers.
 ghost use Rattle.std.specs.Prelude.{◌≡◌, ◌++◌, OnOk, OnErr, map};
 ghost use Rattle.std.specs.Io.{StartsWith};
 ghost use Rattle.mcs_fields.specs.Fields.{field_of};

@@ -1,5 +1,5 @@
-//! The lines of a check in each format: findings, jobs, answers, figures, rows, unjudged threads, hints,
-//! counts, and the account of a round. The counts of findings, and the exit code.
+//! The lines of a check in each format: findings, jobs, answers, figures, rows, unjudged threads,
+//! hints, counts, and the account of a round. The counts of findings, and the exit code.
 #![tactic(auto)]
 
 mod answer_line;

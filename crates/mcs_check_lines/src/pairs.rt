@@ -95,7 +95,7 @@ fn append_fields<'s>(all: &mut Vec<Field<'s>>, fields: &[Field<'s>]) -> Result<(
     Ok(())
 }
 
-/// Appends a row of values, and of more behind them. If memory runs out the text is unchanged.
+/// Appends a row of these values and more. If memory runs out the text is unchanged.
 pub(crate) fn put_row_with(
     alloc: Global,
     text: &mut Vec<u8>,
@@ -112,7 +112,7 @@ pub(crate) fn put_row_with(
     put_row(text, all.as_slice())
 }
 
-/// Appends an object of values, and of more behind them. If memory runs out the text is unchanged.
+/// Appends an object of these values and more. If memory runs out the text is unchanged.
 pub(crate) fn put_object_with(
     alloc: Global,
     text: &mut Vec<u8>,

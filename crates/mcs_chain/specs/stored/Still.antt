@@ -4,7 +4,7 @@ use Rattle.mcs_ticks.specs.declared.row.What.{What}
 use Rattle.mcs_ticks.specs.declared.row.What.TheVariants as row
 use Rattle.mcs_chain.specs.Watch.{One}
 
--- a row of such a kind moves no origin, and no thread goes on by it
+-- a row of such a kind moves no origin and takes no thread to another step
 abbrev pub is_quiet : What → Bool
 is_quiet (row.Release x) = true
 is_quiet (row.Run x) = true
