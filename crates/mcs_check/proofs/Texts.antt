@@ -1,5 +1,5 @@
 -- The text of a check: what rows tell, and then the rest.
-use Rattle.std.proofs.Common.{◌≡◌, ◌∙◌, ◌++◌, [], ℕ, ◌+◌, Bool, List, None, length, flat_map, refl, ap, sym, append_assoc, append-nil, arith}
+use Rattle.std.proofs.Common.{◌≡◌, ◌∙◌, ◌++◌, [], ℕ, ◌+◌, Bool, List, None, length, flat_map, ap, sym, append_assoc, append-nil, arith}
 use Rattle.mcs_ticks.specs.Capped.{capped}
 use Rattle.mcs_system.specs.System.{System}
 use Rattle.mcs_core.specs.Clock.{schedule}

@@ -3,7 +3,7 @@ use Rattle.std.proofs.Common.{rules, ◌≡◌, ◌∙◌, ◌++◌, ◌∷◌, 
 use Rattle.std.proofs.lemmas.Result.{on_ok_weaker}
 use Rattle.mcs_chain.specs.Answering.{answers_at}
 use Rattle.mcs_chain.specs.Watch.{all_due, watch_of as chains_of}
-use Rattle.mcs_check.specs.stored.Rows.{answered_lines, due_lines, told_at, told_with}
+use Rattle.mcs_check.specs.stored.Rows.{answered_lines, due_lines, told_at}
 use Rattle.mcs_check.proofs.Told.{told-is}
 use Rattle.mcs_check.proofs.finder.Finder.take.Goals as goal
 
