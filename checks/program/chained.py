@@ -4,15 +4,21 @@ A file without a chain has what the reading of rows has, and nothing more."""
 from __future__ import annotations
 
 import functools
-from collections.abc import Sequence
+from collections.abc import Iterator, Sequence
 
-from checks.program.chain_reading import ChainReading, read_chain
+from checks.program.chain_reading import Answer, ChainReading, read_chain
 from checks.program.reading import COLUMNS, KINDS, OF_CHAINS, Reading, Tables, Values, csv_text, percentile
 
-# columns of findings behind the others, in a file with a chain
-MORE = ('chain', 'latency', 'deadline', 'origin')
-# columns that every finding has
-EACH = ('moment', 'core', 'kind')
+# columns behind the others, in a file with a chain
+OF_ANSWERS = ('chain', 'latency', 'deadline', 'origin')
+MORE = {
+    'findings': OF_ANSWERS, 'jobs': OF_ANSWERS,
+    'table': ('chain', 'interrupts', 'answers', 'least', 'greatest', 'total', 'p50', 'p90', 'p99', 'deadline', 'margin'),
+}
+# the other columns in which a line of chains has a value, by its kind
+OWN = {
+    **dict.fromkeys(OF_CHAINS, ('moment', 'core', 'kind')), 'answer': ('moment', 'core', 'kind', 'thread', 'number'), 'chain': ('kind',),
+}
 
 
 class Chained(Reading):
@@ -52,13 +58,40 @@ class Chained(Reading):
         """What is judged of threads, and of chains with a deadline each answer and an interrupt that had to be answered by the horizon."""
         return super().judged() + sum(len(chain.answers) + bool(self.left(chain)) for chain in self.with_deadlines())
 
+    def jobs(self) -> Iterator[str]:
+        """The line of each round that ended, and behind it those of what it answers, chain by chain."""
+        for line in super().jobs():
+            yield line
+            _, _, _, thread, number, *_ = line.split()
+            for chain in self.chains:
+                if chain.chain['thread'] == thread:
+                    yield from (answer_line(chain, answer) for answer in chain.answers if answer.number == int(number))
+
+    def values(self, line: str) -> Values:
+        _, _, kind, *words = line.split()
+        if kind != 'answer':
+            return super().values(line)
+        chain = next(chain for chain in self.chains if chain.chain['name'] == words[0])
+        answer = next(answer for answer in chain.answers if answer_line(chain, answer) == line)
+        values = {
+            'moment': answer.moment, 'core': answer.core, 'kind': kind, 'thread': chain.chain['thread'], 'number': answer.number, 'chain': words[0],
+            'latency': answer.latency,
+        }
+        deadline = chain.chain.get('deadline', 0)
+        return {**values, **({'deadline': deadline} if deadline else {}), 'origin': answer.origin}
+
     def table(self) -> list[Values]:
         return [*super().table(), *map(figures, self.chains)]
 
     def rows_text(self, show: str, rows: Sequence[Values]) -> str:
-        if show != 'findings':
-            return super().rows_text(show, rows)
-        return csv_text((*COLUMNS[show], *MORE), map(cells, rows))
+        return csv_text((*COLUMNS[show], *MORE[show]), (cells(show, values) for values in rows))
+
+
+def answer_line(chain: ChainReading, answer: Answer) -> str:
+    """The line of an answer. A chain without a deadline names none."""
+    deadline = chain.chain.get('deadline', 0)
+    times = f'round {answer.number} origin {answer.origin} latency {answer.latency}'
+    return f'{answer.moment} {answer.core} answer {chain.chain["name"]} {times}' + (f' deadline {deadline}' if deadline else '')
 
 
 def figures(chain: ChainReading) -> Values:
@@ -73,10 +106,12 @@ def figures(chain: ChainReading) -> Values:
     }
 
 
-def cells(values: Values) -> list[object]:
-    """The cells of a finding: those of a chain stand behind the others, and so does its deadline."""
-    own, more = ({name: values[name] for name in EACH}, values) if values['kind'] in OF_CHAINS else (values, {})
-    return [*map(own.get, COLUMNS['findings']), *map(more.get, MORE)]
+def cells(show: str, values: Values) -> list[object]:
+    """The cells of a line: those of a chain stand behind the others, and so does its deadline."""
+    if values['kind'] not in OWN:
+        return [*map(values.get, COLUMNS[show]), *[None] * len(MORE[show])]
+    own = {name: values[name] for name in OWN[values['kind']]}
+    return [*map(own.get, COLUMNS[show]), *map(values.get, MORE[show])]
 
 
 def reading_of(tables: Tables, text: str, horizon: int) -> Reading:

@@ -1,8 +1,8 @@
 #!/usr/bin/env python3
 """Checks that mcscheck reports chains as a second, plain reading of the rows finds them, byte for byte, on 200 random systems of version 3.
 
-First come four systems whose lines are worked by hand. Then each random system with a chain is tried: findings, the table and both of them, as text, CSV
-and JSON, with --strict and several workers or without, and the exit code. It is tried again with a deadline that an answer just meets or just misses, up to
+First come four systems whose lines are worked by hand. Then each random system with a chain is tried: findings, jobs, the table, and findings with it, as
+text, CSV and JSON, with --strict and several workers or without, and the exit code. It is tried again with a deadline that an answer just meets or just misses, up to
 the end of this answer or about the time at which an interrupt had to be answered. The percentiles of latencies follow the rule of those of responses.
 
 What was seen nowhere is a failure: a test that sees nothing of it tells nothing."""
@@ -28,15 +28,15 @@ from checks.program.verdicts import System, answer, parted
 from checks.random_systems import text_of
 
 HORIZONS = (0, 1, 60, 200, 400, 1000, 1000)
-FORMS = tuple(itertools.product(('findings', 'table', 'both'), ('text', 'csv', 'json')))
+FORMS = tuple(itertools.product(('findings', 'jobs', 'table', 'both'), ('text', 'csv', 'json')))
 SEEN = (
     'slow', 'unanswered', 'slow of two chains at one time', 'a row and an answer at one time', 'slow at the horizon', 'unanswered behind others',
     'found of chains alone', 'two slow answers of one job', 'a slow answer and another of one job', 'no answer', 'no deadline', 'margin above 0', 'margin 0',
     'margin below 0', 'a percentile below the greatest', 'a percentile at the end of its bucket', 'unjudged behind unanswered', 'judged by chains alone',
-    'no deadline of a thread', 'status 0', 'status 2', 'status 5', 'status 6',
+    'no deadline of a thread', 'a job without an answer', 'two answers of one job', 'answers of two chains by one job', 'status 0', 'status 2', 'status 5', 'status 6',
 )
 # how the lines of threads and contexts begin
-OF_OTHERS = ('thread ', 'context ', '{"kind":"thread"', '{"kind":"context"')
+OF_OTHERS = ('thread ', 'thread,', 'context ', '{"kind":"thread"', '{"kind":"context"')
 # D is woken at 3, and its signal leaves at 6; C gets it at 8 and ends its job at 12, which is 4 after it was woken. It is so each 10 ticks
 TWO_CORES = '''version = 3
 cores = 2
@@ -73,6 +73,21 @@ TWO_CORES_FOUND = '''12 1 miss C 1 4 deadline 3 activated 8 queued 0 ready 0 run
 hint note q is waited on and no script signals it
 missed 2 overdue 0 lost 0 never 1 merged 0 allowed 0 unjudged 0 hints 1 threads 3 deadlines 6 judged 9 slow 4 unanswered 1
 '''
+# the jobs of D answer the chain near, 3 ticks after the interrupt, and those of C the first three
+TWO_CORES_JOBS = '''moment,core,kind,thread,number,activated,begun,response,queued,preemptions,ready,running,throttled,blocked,woken,chain,latency,deadline,origin
+6,0,job,D,1,3,3,3,0,0,0,3,0,0,0,,,,
+6,0,answer,D,1,,,,,,,,,,,near,3,,3
+12,1,job,C,1,8,8,4,0,0,0,4,0,0,0,,,,
+12,1,answer,C,1,,,,,,,,,,,f,9,7,3
+12,1,answer,C,1,,,,,,,,,,,e,9,8,3
+12,1,answer,C,1,,,,,,,,,,,g,9,9,3
+16,0,job,D,2,13,13,3,0,0,0,3,0,0,0,,,,
+16,0,answer,D,2,,,,,,,,,,,near,3,,13
+22,1,job,C,2,18,18,4,0,0,0,4,0,0,0,,,,
+22,1,answer,C,2,,,,,,,,,,,f,9,7,13
+22,1,answer,C,2,,,,,,,,,,,e,9,8,13
+22,1,answer,C,2,,,,,,,,,,,g,9,9,13
+'''
 # what a job of L is given at 23 came at 12 and at 22, and its next one is given what came at 32 and 42; three answers and an interrupt are judged
 LOOP = '''version = 3
 cores = 1
@@ -85,6 +100,18 @@ chain = [{ name = "c", source = "s", thread = "L", deadline = 20 }]
 '''
 LOOP_TABLE = '''chain c interrupts 6 answers 3 least 20 greatest 31 total 72 p50 21 p90 31 p99 31 deadline 20 margin -11
 missed 0 overdue 0 lost 2 never 0 merged 0 allowed 0 unjudged 0 hints 0 threads 1 deadlines 1 judged 4 slow 1 unanswered 1
+'''
+LOOP_JOBS = '''22 0 job L 1 activated 2 begun 2 response 20 queued 0 preemptions 0 ready 0 running 20 throttled 0 blocked 0 woken 0
+22 0 answer c round 1 origin 2 latency 20 deadline 20
+43 0 job L 2 activated 12 begun 23 response 31 queued 11 preemptions 0 ready 0 running 20 throttled 0 blocked 0 woken 0
+43 0 answer c round 2 origin 12 latency 31 deadline 20
+43 0 answer c round 2 origin 22 latency 21 deadline 20
+missed 0 overdue 0 lost 2 never 0 merged 0 allowed 0 unjudged 0 hints 0 threads 1 deadlines 1 judged 4 slow 1 unanswered 1
+'''
+LOOP_FIGURES = '''kind,thread,core,priority,budget,period,granted,used,rounds,greatest,p50,p90,p99,deadline,margin,missed,late,lost,merged,\
+ticks_pending,ticks_ready,ticks_running,ticks_throttled,ticks_blocked,ticks_woken,ticks_done,\
+chain,interrupts,answers,least,greatest,total,p50,p90,p99,deadline,margin
+chain,,,,,,,,,,,,,,,,,,,,,,,,,,c,6,3,20,31,72,21,31,31,20,-11
 '''
 LOOP_ROWS = '''moment,core,kind,thread,note,word,number,response,deadline,activated,queued,ready,running,throttled,blocked,woken,chain,latency,deadline,origin
 22,0,lost,,n,1,,,,,,,,,,,,,,
@@ -104,6 +131,11 @@ LATER_TABLE = '''chain c interrupts 0 answers 0 least - greatest - total 0 p50 -
 missed 0 overdue 0 lost 0 never 0 merged 0 allowed 0 unjudged 0 hints 0 threads 1 deadlines 1 judged 0 slow 0 unanswered 0
 '''
 LATER_OBJECTS = '''{"kind":"chain","chain":"c","interrupts":1,"answers":1,"least":20,"greatest":20,"total":20,"p50":20,"p90":20,"p99":20,"deadline":20,"margin":0}
+{"kind":"counts","missed":0,"overdue":0,"lost":0,"never":0,"merged":0,"allowed":0,"unjudged":0,"hints":0,"threads":1,"deadlines":1,"judged":1,"slow":0,"unanswered":0}
+'''
+LATER_JOBS = '''{"moment":80,"core":0,"kind":"job","thread":"L","number":1,"activated":60,"begun":60,"response":20,"queued":0,"preemptions":0,"ready":0,"running":20,\
+"throttled":0,"blocked":0,"woken":0}
+{"moment":80,"core":0,"kind":"answer","thread":"L","number":1,"chain":"c","latency":20,"deadline":20,"origin":60}
 {"kind":"counts","missed":0,"overdue":0,"lost":0,"never":0,"merged":0,"allowed":0,"unjudged":0,"hints":0,"threads":1,"deadlines":1,"judged":1,"slow":0,"unanswered":0}
 '''
 # L takes 150 ticks from 100 on; at 1100 E computes 19 before it, and the wait of E takes a tick. Of 150 and 170 the half is 150, told as the end of 150 to 151. Nothing has a
@@ -140,11 +172,15 @@ class Known(NamedTuple):
 
 KNOWN = (
     Known(TWO_CORES, 22, ['--show=findings'], TWO_CORES_FOUND, 5),
+    Known(TWO_CORES, 22, ['--show=jobs', '--format=csv'], TWO_CORES_JOBS, 5),
     Known(LOOP, 52, ['--show=table'], LOOP_TABLE, 5),
+    Known(LOOP, 52, ['--show=table', '--format=csv'], LOOP_FIGURES, 5),
+    Known(LOOP, 52, ['--show=jobs'], LOOP_JOBS, 5),
     Known(LOOP, 52, ['--show=findings', '--format=csv'], LOOP_ROWS, 5),
     Known(LOOP, 52, ['--show=findings', '--format=json'], LOOP_OBJECTS, 5),
     Known(LATER, 50, [], LATER_TABLE, 6),
     Known(LATER, 80, ['--show=table', '--format=json'], LATER_OBJECTS, 0),
+    Known(LATER, 80, ['--show=jobs', '--format=json'], LATER_JOBS, 0),
     Known(LONG, 1300, ['--show=table'], LONG_TABLE, 6),
     Known(LONG, 1300, ['--show=table', '--strict'], LONG_TABLE, 5),
 )
@@ -221,6 +257,11 @@ def shown(found: Chained) -> Iterator[str]:
         yield 'unjudged behind unanswered'
     if not found.with_deadline() and found.deadlines():
         yield 'judged by chains alone' if found.judged() else 'no deadline of a thread'
+    answering = [{(chain.chain['thread'], one.number) for one in chain.answers} for chain in found.chains]
+    if len(set().union(*answering)) < sum(map(len, answering)):
+        yield 'answers of two chains by one job'
+    if any(row.kind == 'round' and not any((row.what[1], int(row.what[2])) in jobs for jobs in answering) for row in found.rows):
+        yield 'a job without an answer'
     for chain in found.chains:
         latencies = sorted(one.latency for one in chain.answers)
         yield from shown_by_figures(figures(chain), latencies)
@@ -233,6 +274,8 @@ def shown_by_jobs(chain: ChainReading) -> Iterator[str]:
     for one in chain.answers:
         jobs[one.moment, one.number].append(0 < chain.chain.get('deadline', 0) < one.latency)
     for are_slow in jobs.values():
+        if len(are_slow) > 1:
+            yield 'two answers of one job'
         if sum(are_slow) > 1:
             yield 'two slow answers of one job'
         if any(are_slow) and not all(are_slow):

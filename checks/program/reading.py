@@ -479,14 +479,18 @@ class Reading:
         shown, hinted = (lines, hints) if show in ('findings', 'both') else ([*self.jobs()] if show == 'jobs' else [], [])
         figures = self.table() if show in ('table', 'both') else []
         if form == 'csv':
-            rows = [*map(values_of, shown), *(values for values in figures if values['kind'] == 'thread')]
+            rows = [*map(self.values, shown), *(values for values in figures if values['kind'] != 'context')]
             return Wanted(self.rows_text(show, rows), counts)
         if form == 'json':
             known = ({name: value for name, value in values.items() if value is not None} for values in figures)
-            objects = [*map(values_of, shown), *map(values_of_hint, hinted), *known, {'kind': 'counts', **counts}]
+            objects = [*map(self.values, shown), *map(values_of_hint, hinted), *known, {'kind': 'counts', **counts}]
             return Wanted(''.join(json.dumps(each, separators=(',', ':')) + '\n' for each in objects), counts)
         told = [*shown, *hinted, *map(line_of, figures), ' '.join(f'{kind} {many}' for kind, many in counts.items())]
         return Wanted(''.join(f'{line}\n' for line in told), counts)
+
+    def values(self, line: str) -> Values:
+        """The values of a line of a finding or a job."""
+        return values_of(line)
 
     def rows_text(self, show: str, rows: Sequence[Values]) -> str:
         """Values of lines as CSV."""

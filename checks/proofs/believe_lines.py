@@ -38,6 +38,12 @@ SAYS = {
         'unanswered_for': 'the finding at the horizon for this origin without an answer, if its deadline has passed',
         'unanswered': 'the finding at the horizon: the earliest origin without an answer, if its deadline has passed',
     },
+    'mcs_chain/src/set.rt': {
+        'Marks': 'the origins of a set: none, one, or a list of them',
+    },
+    'mcs_chain/specs/stored/Sets.antt': {
+        'marks_of': 'the list of the origins of a set',
+    },
     'mcs_chain/specs/Moves.antt': {
         'free': "the place of a thread's free set",
         'all_bits': 'the places that are bits of a word',
@@ -368,6 +374,13 @@ SAYS = {
         'chain_found_lines': 'the lines of these findings of chains',
         'chain_fields': "the fields of a chain's figures, with its name",
         'chain_text': "the line of a chain's figures, in words",
+        'chain_line': "the line of a chain's figures",
+        'no_thread': "the columns of a thread's figures, each empty",
+    },
+    'mcs_check_lines/specs/Answers.antt': {
+        'answer_words': 'the words of an answer, without its time and core',
+        'answer_line': 'what is written of an interrupt and the job that answers it',
+        'answer_lines': 'the same of several, one after another',
     },
     'mcs_check/specs/Check.antt': {
         'counts_of': 'the counts of threads and notifications, and those of chains',
@@ -389,6 +402,7 @@ SAYS = {
         'found_line': 'the line of a finding',
         'job_line': 'the line of a round that ended',
         'row_line': 'the line of a row of the schedule',
+        'no_columns': 'the columns of chains, each empty',
     },
     'mcs_check_words/specs/CommandLine.antt': {
         'question_texts': 'the texts of a question: of the thread and of the round',
@@ -633,6 +647,7 @@ WORDS = {
         'pos': 'an integer of at least 0',
         'position': 'the index of the first element for which this is `true`, or `None`',
         'Result': '`Ok x` or `Err e`',
+        'reverse': 'the elements in the other order',
         'set': '`set xs n a`: the list with `a` at index `n`',
         'slice_get': '`slice_get xs n`: the element with index `n`, or `None` past the end',
         'slice_set': '`slice_set xs n a`: the list with `a` at index `n`',

@@ -13,7 +13,7 @@ from checks import common
 from checks.common import Ran
 from checks.program import latencies, reading, verdicts
 from checks.program.chained import Chained, reading_of
-from checks.program.latencies import LOOP, LOOP_OBJECTS, LOOP_ROWS, LOOP_TABLE, TWO_CORES, TWO_CORES_FOUND
+from checks.program.latencies import LOOP, LOOP_FIGURES, LOOP_JOBS, LOOP_OBJECTS, LOOP_ROWS, LOOP_TABLE, TWO_CORES, TWO_CORES_FOUND, TWO_CORES_JOBS
 
 # the schedule of LOOP up to 52
 ROWS = '''0 0 release L
@@ -95,8 +95,14 @@ class Readings(unittest.TestCase):
     def test_rows_and_objects(self) -> None:
         self.assertEqual(loop().wanted(form='csv').text, LOOP_ROWS)
         self.assertEqual(loop().wanted(form='json').text, LOOP_OBJECTS)
-        # a table of CSV has threads alone
-        self.assertEqual([line.split(',')[0] for line in loop().wanted(show='table', form='csv').text.splitlines()], ['kind', 'thread'])
+        # a table of CSV has no contexts
+        self.assertEqual([line.split(',')[0] for line in loop().wanted(show='table', form='csv').text.splitlines()], ['kind', 'thread', 'chain'])
+        self.assertEqual(of_chains(loop().wanted(show='table', form='csv').text), LOOP_FIGURES)
+
+    def test_answers_follow_their_job(self) -> None:
+        self.assertEqual(loop().wanted(show='jobs').text, LOOP_JOBS)
+        found = Chained(tomllib.loads(TWO_CORES), TWO_CORES_ROWS, 22)
+        self.assertEqual(found.wanted(show='jobs', form='csv').text, TWO_CORES_JOBS)
 
     def test_an_exit_code_for_chains_alone(self) -> None:
         counts = [{**dict.fromkeys(reading.KINDS, 0), 'judged': 1, 'slow': slow, 'unanswered': unanswered} for slow, unanswered in ((0, 0), (1, 0), (0, 1))]
@@ -149,7 +155,7 @@ class WrongCheckers(unittest.TestCase):
         self.assertEqual(self.failed(lambda ran: ran), 0)
 
     def test_another_status(self) -> None:
-        self.assertEqual(self.failed(lambda ran: ran._replace(status=0)), 8)
+        self.assertEqual(self.failed(lambda ran: ran._replace(status=0)), 11)
 
     def test_lines_that_are_not_there(self) -> None:
         # as text: of findings and of both
@@ -157,20 +163,31 @@ class WrongCheckers(unittest.TestCase):
         self.assertEqual(self.replaced('52 0 unanswered c deadline 20 origin 32\n', ''), 2)
 
     def test_another_origin_of_a_row(self) -> None:
-        self.assertEqual(self.replaced('c,31,20,12', 'c,21,20,22'), 1)
+        # of findings and of jobs
+        self.assertEqual(self.replaced('c,31,20,12', 'c,21,20,22'), 2)
 
     def test_another_value_of_an_object(self) -> None:
-        self.assertEqual(self.replaced('"latency":31', '"latency":21'), 2)
+        self.assertEqual(self.replaced('"latency":31', '"latency":21'), 3)
+
+    def test_an_answer_that_is_not_there(self) -> None:
+        self.assertEqual(self.replaced('43 0 answer c round 2 origin 22 latency 21 deadline 20\n', ''), 1)
+
+    def test_answers_in_another_order(self) -> None:
+        first, second = LOOP_JOBS.splitlines(keepends=True)[3:5]
+        self.assertEqual(self.replaced(first + second, second + first), 1)
+
+    def test_figures_in_other_columns(self) -> None:
+        self.assertEqual(self.replaced('chain,,', 'chain,'), 1)
 
     def test_another_percentile(self) -> None:
         self.assertEqual(self.replaced('p50 21', 'p50 20'), 2)
 
     def test_other_counts_of_what_was_judged(self) -> None:
         for old, new in (('judged 4', 'judged 3'), ('deadlines 1', 'deadlines 0'), ('unjudged 0', 'unjudged 1'), ('threads 1', 'threads 2')):
-            self.assertEqual(self.replaced(old, new), 3, new)
+            self.assertEqual(self.replaced(old, new), 4, new)
 
     def test_counts_without_chains(self) -> None:
-        self.assertEqual(self.replaced(' slow 1 unanswered 1', ''), 3)
+        self.assertEqual(self.replaced(' slow 1 unanswered 1', ''), 4)
 
 
 if __name__ == '__main__':

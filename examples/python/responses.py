@@ -23,13 +23,15 @@ class Fault(Exception):
     """mcscheck gave no verdict; this is its line."""
 
 
-def shown(file: pathlib.Path, horizon: int, what: str) -> pd.DataFrame:
-    """The rows of `--show WHAT`. A thread may be called 1 or NA, so its name stays a text; a cell that is empty is missing."""
+def shown(file: pathlib.Path, horizon: int, what: str, kind: str) -> pd.DataFrame:
+    """The rows of a kind of `--show WHAT`. A thread may be called 1 or NA, so its name stays a text; a cell that is empty is missing."""
     command = [CHECKER, file, '--horizon', str(horizon), '--show', what, '--format', 'csv']
     ran = subprocess.run(command, stdout=subprocess.PIPE, stderr=subprocess.PIPE, text=True)
     if ran.returncode not in VERDICTS:
         raise Fault(ran.stderr.strip())
-    return pd.read_csv(io.StringIO(ran.stdout), dtype={'thread': 'string'}, keep_default_na=False, na_values=['']).convert_dtypes()
+    rows = pd.read_csv(io.StringIO(ran.stdout), dtype={'thread': 'string'}, keep_default_na=False, na_values=['']).convert_dtypes()
+    # the others are of chains
+    return rows[rows['kind'] == kind]
 
 
 def nearest_rank(responses: pd.Series, percentile: int) -> int:
@@ -69,7 +71,7 @@ def main() -> int:
     parser.add_argument('--percentile', type=int, default=99, choices=range(1, 101), metavar='P', help='1 to 100 (default: %(default)s)')
     words = parser.parse_args()
     try:
-        table, jobs = (shown(words.file, words.horizon, what) for what in ('table', 'jobs'))
+        table, jobs = (shown(words.file, words.horizon, what, kind) for what, kind in (('table', 'thread'), ('jobs', 'job')))
     except (Fault, OSError) as fault:
         print(fault, file=sys.stderr)
         return 1

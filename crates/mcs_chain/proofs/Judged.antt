@@ -1,5 +1,5 @@
 -- How many judged answers a watch counts: as many as there are, at most 2^64 - 1.
-use Rattle.std.proofs.Common.{◌≡◌, ◌∙◌, ℕ, ◌+◌, ◌-◌, ◌++◌, List, [], ◌∷◌, length, map, refl, ap, ap₂, sym, arith}
+use Rattle.std.proofs.Common.{◌≡◌, ◌∙◌, ℕ, ◌+◌, ◌-◌, List, [], ◌∷◌, length, map, ap, ap₂, sym, arith}
 use Rattle.std.specs.Prelude.{◌==◌, if◌then◌else◌, fold}
 use Rattle.std.proofs.lemmas.List.{length-append, length-map}
 use Rattle.mcs_ticks.specs.Capped.{capped}
@@ -8,7 +8,7 @@ use Rattle.mcs_system.specs.declared.part.ChainPart.{ChainPart}
 use Rattle.mcs_system.specs.System.{System}
 use Rattle.mcs_chain.specs.Answers.{judged, latencies, origins}
 use Rattle.mcs_chain.specs.Found.{all_judged}
-use Rattle.mcs_chain.specs.Watch.{One, all_judged_many, judged_at, judged_sum, one_of, watch_of}
+use Rattle.mcs_chain.specs.Watch.{One, all_judged_many, judged_sum, one_of, watch_of}
 
 -- a row more, without a deadline and with one
 one-more : (deadline a b : ℕ) → (if deadline == 0 then 0 else a) + (if deadline == 0 then 0 else b) ≡ (if deadline == 0 then 0 else (a + b))

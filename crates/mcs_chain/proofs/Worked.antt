@@ -14,6 +14,8 @@ use Rattle.mcs_system.specs.declared.part.SourcePart.{SourcePart}
 use Rattle.mcs_system.specs.declared.part.ThreadPart.{ThreadPart}
 use Rattle.mcs_system.specs.System.{System}
 use Rattle.mcs_chain.specs.declared.finding.Finding.TheVariants.{Slow, Unanswered}
+use Rattle.mcs_chain.specs.declared.answer.Answer.{Answer}
+use Rattle.mcs_chain.specs.Answering.{answers_at}
 use Rattle.mcs_chain.specs.Answers.{origins, latencies, judged, slow, unanswered, interrupts}
 
 -- thread i has context i; a context is on a core
@@ -58,6 +60,11 @@ abbrev latest_first : List Row → List Row → List Row
 latest_first past [] = past
 latest_first past (r ∷ rows) = latest_first (r ∷ past) rows
 
+-- an answer of chain n
+abbrev answer : ℕ → ℕ → ℕ → ℕ → ℕ → ℕ → ℕ → ℕ → Answer
+answer moment core n thread number origin latency deadline =
+    record { moment = moment; core = core; chain = n; thread = thread; number = number; origin = origin; latency = latency; deadline = deadline }
+
 -- an interrupt at 3 wakes a driver, whose signal reaches the other core at 8; a thread there ends its round at 12
 abbrev two_cores : System
 two_cores =
@@ -93,6 +100,17 @@ answers_late = refl
 
 answers_in_time : slow two_cores (chain 0 1 0 9) before_the_answer (at 12 1 (row.Round 1 1 4)) ≡ None
 answers_in_time = refl
+
+answers_one : answers_at two_cores before_the_answer (at 12 1 (row.Round 1 1 4)) 0 (chain 0 1 0 8 ∷ []) ≡ answer 12 1 0 1 1 3 9 8 ∷ []
+answers_one = refl
+
+-- of two chains only that of the driver is answered at 6, where it ends its first round
+answers_of_the_driver :
+    answers_at two_cores
+    (latest_first [] (at 3 0 (row.Interrupt 0 0 1) ∷ at 3 0 (row.Wake 0 0 1) ∷ at 6 0 (row.Signal 0 1 1) ∷ []))
+    (at 6 0 (row.Round 0 1 3)) 0 (chain 0 1 0 8 ∷ chain 0 0 0 0 ∷ [])
+    ≡ answer 6 0 1 0 1 3 3 0 ∷ []
+answers_of_the_driver = refl
 
 -- before that end of a round the origin of 3 has no answer; its deadline passes at 11
 has_no_answer : unanswered two_cores (chain 0 1 0 8) before_the_answer 11 ≡ Some (Unanswered 8 3)
@@ -143,6 +161,20 @@ overload =
 
 answered_together : latencies one_loop (chain 0 0 0 0) overload ≡ 21 ∷ 31 ∷ 20 ∷ []
 answered_together = refl
+
+-- the round's answer for the earliest origin comes first, and the first chain comes before the second
+abbrev overloaded : List Row
+overloaded =
+    latest_first []
+    (at 12 0 (row.Interrupt 0 0 1) ∷ at 12 0 (row.Hold 0 1) ∷ at 22 0 (row.Interrupt 0 0 1) ∷ at 22 0 (row.Hold 0 1) ∷ at 23 0 (row.Got 0 0 1) ∷ [])
+
+answers_two : answers_at one_loop overloaded (at 43 0 (row.Round 0 2 20)) 0 (chain 0 0 0 15 ∷ chain 0 0 0 0 ∷ [])
+    ≡ answer 43 0 0 0 2 12 31 15 ∷ answer 43 0 0 0 2 22 21 15 ∷ answer 43 0 1 0 2 12 31 0 ∷ answer 43 0 1 0 2 22 21 0 ∷ []
+answers_two = refl
+
+-- no other row answers
+answers_none : answers_at one_loop overloaded (at 43 0 (row.Stop 0 why.Wait 20 None)) 0 (chain 0 0 0 15 ∷ []) ≡ []
+answers_none = refl
 
 -- the answers of a chain are judged if it has a deadline
 three_judged : judged one_loop (chain 0 0 0 15) overload ≡ 3

@@ -2,6 +2,7 @@
 //! interrupt to the first round that ends on the strength of it.
 #![tactic(auto)]
 
+mod answer;
 mod figures;
 mod finding;
 mod found;
@@ -15,6 +16,7 @@ mod tallies;
 mod tally;
 mod watch;
 
+pub use answer::Answer;
 pub use figures::Figures;
 pub use finding::{ChainId, Finding, Found};
 pub use tallies::Tallies;

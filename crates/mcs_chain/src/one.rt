@@ -8,6 +8,7 @@ ghost use Rattle.mcs_ticks.specs.Capped.{capped};
 ghost use Rattle.mcs_chain.specs.Found.{all_unanswered, found_at};
 ghost use Rattle.mcs_chain.specs.Moves.{moves};
 ghost use Rattle.mcs_chain.specs.Watch.{all_due, all_judged_many, all_slow_many, due_of_one, is_due, judged_at, late_at, one_if, one_of};
+ghost use Rattle.mcs_chain.specs.stored.Still.{are_still, have_late, is_still};
 
 use crate::moves::Move;
 use crate::origins::Origins;
@@ -46,6 +47,14 @@ impl Model for One {
 }
 
 impl One {
+    /// Whether a quiet row leaves all as it is.
+    #[inline(always)]
+    fn is_still(&self) -> bool
+        ensures { result ≡ is_still self.now }
+    {
+        self.origins.are_still() && self.late.is_empty()
+    }
+
     /// The state before the first row.
     fn new(alloc: Global, parts: &SystemParts) -> Result<One, NoMemory>
         ensures { (chain : TheChain) → IfOk result (λ one. one ≡ one_of parts.now chain []) }
@@ -123,6 +132,32 @@ pub(crate) fn all_new(alloc: Global, parts: &SystemParts) -> Result<Vec<One>, No
         each.push(One::new(alloc, parts)?)?;
     }
     Ok(each)
+}
+
+/// Whether a quiet row leaves all as it is.
+#[inline(always)]
+pub(crate) fn are_still(each: &[One]) -> bool
+    ensures { result ≡ are_still each.now }
+{
+    for one in each {
+        if !one.is_still() {
+            return false;
+        }
+    }
+    true
+}
+
+/// Whether a slow answer has the moment of the latest row.
+#[inline(always)]
+pub(crate) fn have_late(each: &[One]) -> bool
+    ensures { result ≡ have_late each.now }
+{
+    for one in each {
+        if !one.late.is_empty() {
+            return true;
+        }
+    }
+    false
 }
 
 /// Each chain takes one row more.

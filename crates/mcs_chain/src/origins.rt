@@ -1,6 +1,7 @@
 //! The sets of origins without an answer.
-ghost use Rattle.std.specs.Prelude.{◌≡◌, [], ◌++◌, map, filter, not, get_or, slice_set, OnOk, OnErr, IfOk};
+ghost use Rattle.std.specs.Prelude.{◌≡◌, [], ◌++◌, ◌&&◌, map, filter, not, get_or, length, slice_set, take, OnOk, OnErr, IfOk};
 ghost use Rattle.mcs_chain.specs.Origins.{join, given, taken, sent, is_sent, is_one_of, without, is_answer, no_origins, rest, started, sets_out, lands, holds, takes, gets, ends, answers, moved};
+ghost use Rattle.mcs_chain.specs.stored.Still.{is_none};
 
 use crate::mark::{Mark, Sent};
 use crate::moves::{Move, Taking, reach};
@@ -33,14 +34,14 @@ fn none_held(alloc: Global, parts: &SystemParts) -> Result<Vec<Set>, NoMemory>
     ensures { IfOk result (λ sets. sets.items ≡ map (λ _. []) parts.now.notes) }
 {
     let notes = parts.notes.as_slice();
-    Ok(notes.iter().map(|_| Set::new(alloc)).collect(alloc)?)
+    Ok(notes.iter().map(|_| Set::empty()).collect(alloc)?)
 }
 
 fn none_carried(alloc: Global, parts: &SystemParts) -> Result<Vec<Set>, NoMemory>
     ensures { IfOk result (λ sets. sets.items ≡ map (λ _. []) parts.now.threads) }
 {
     let threads = parts.threads.as_slice();
-    Ok(threads.iter().map(|_| Set::new(alloc)).collect(alloc)?)
+    Ok(threads.iter().map(|_| Set::empty()).collect(alloc)?)
 }
 
 /// Whether a round that this word began answers, if the chain has these badges.
@@ -82,43 +83,50 @@ fn drop_from_origins(origins: &mut Vec<Tick>, answered: &[Tick])
     origins.retain(|origin| !is_one_of(answered, *origin));
 }
 
-/// Adds a set to the signals to other cores, which this core made at this moment.
-fn send(
-    alloc: Global,
-    under_way: &[Sent],
+/// Adds a set to the signals to other cores, which this core made at this moment. If memory runs
+/// out, they are unchanged.
+fn send(under_way: &mut Vec<Sent>, maker: CoreId, made: u64, set: &Set) -> Result<(), NoMemory>
+    ensures ok { OnOk result (under_way.new.items ≡ under_way.old.items ++ map (sent maker made) set.now) }
+    ensures err { OnErr result (under_way.new.items ≡ under_way.old.items) }
+{
+    let start = under_way.len();
+    let result = append_sent(under_way, maker, made, set.as_slice());
+    if result.is_err() {
+        under_way.truncate(start);
+    }
+    result
+}
+
+fn append_sent(
+    under_way: &mut Vec<Sent>,
     maker: CoreId,
     made: u64,
-    set: &Set,
-) -> Result<Vec<Sent>, NoMemory>
-    ensures { IfOk result (λ all. all.items ≡ under_way.now ++ map (sent maker made) set.now) }
+    marks: &[Mark],
+) -> Result<(), NoMemory>
+    ensures ok { OnOk result (under_way.new.items ≡ under_way.old.items ++ map (sent maker made) marks.now) }
+    ensures kept { take (length under_way.old.items) under_way.new.items ≡ under_way.old.items }
 {
-    let mut all = Vec::new(alloc);
-    all.extend_from_slice(under_way)?;
-    for mark in set.as_slice() {
-        all.push(Sent {
+    for mark in marks {
+        under_way.push(Sent {
             maker,
             made,
             mark: *mark,
         })?;
     }
-    Ok(all)
+    Ok(())
 }
 
 /// Returns what this core sent at this moment.
-fn landed(
-    alloc: Global,
-    under_way: &[Sent],
-    maker: CoreId,
-    made: u64,
-) -> Result<Vec<Mark>, NoMemory>
-    ensures { IfOk result (λ marks. marks.items ≡ map (λ sent. sent.mark) (filter (is_sent maker made) under_way.now)) }
+fn landed(alloc: Global, under_way: &[Sent], maker: CoreId, made: u64) -> Result<Set, NoMemory>
+    ensures { IfOk result (λ set. set ≡ map (λ sent. sent.mark) (filter (is_sent maker made) under_way.now)) }
 {
-    let marks = under_way
-        .iter()
-        .filter(|sent| is_sent(sent, maker, made))
-        .map(|sent| sent.mark)
-        .collect(alloc)?;
-    Ok(marks)
+    let mut landed = Set::empty();
+    for sent in under_way {
+        if is_sent(sent, maker, made) {
+            landed.push(alloc, sent.mark)?;
+        }
+    }
+    Ok(landed)
 }
 
 fn is_sent(sent: &Sent, maker: CoreId, made: u64) -> bool
@@ -147,7 +155,7 @@ fn given_by(
     if thread.0 < carried.len() {
         carried[thread.0].given(alloc, places, badge)
     } else {
-        Ok(Set::new(alloc))
+        Ok(Set::empty())
     }
 }
 
@@ -158,7 +166,7 @@ fn taken_from(alloc: Global, held: &[Set], note: NoteId, taking: Taking) -> Resu
     if note.0 < held.len() {
         held[note.0].taken(alloc, taking)
     } else {
-        Set::new(alloc).taken(alloc, taking)
+        Ok(Set::empty())
     }
 }
 
@@ -178,11 +186,11 @@ fn join_to(alloc: Global, sets: &mut [Set], number: usize, set: &Set) -> Result<
 }
 
 /// Leaves nothing in the set with this number.
-fn clear(alloc: Global, sets: &mut [Set], number: usize)
+fn clear(sets: &mut [Set], number: usize)
     ensures { sets.new ≡ slice_set sets.old number [] }
 {
     if number < sets.len() {
-        sets[number] = Set::new(alloc);
+        sets[number] = Set::empty();
     }
 }
 
@@ -195,34 +203,30 @@ impl Origins {
             held: none_held(alloc, parts)?,
             carried: none_carried(alloc, parts)?,
             under_way: Vec::new(alloc),
-            posted: Set::new(alloc),
+            posted: Set::empty(),
             unanswered: Vec::new(alloc),
             answered: Vec::new(alloc),
         })
     }
 
     /// A row posts nothing and answers nothing.
-    fn rest(&mut self, alloc: Global)
+    fn rest(&mut self)
         ensures { self.new ≡ rest self.old }
     {
-        self.posted = Set::new(alloc);
+        self.posted = Set::empty();
         self.answered.clear();
     }
 
     /// An interrupt of the chain's source.
-    fn start(&mut self, alloc: Global, moment: Tick, badge: u32) -> Result<(), NoMemory>
+    fn start(&mut self, moment: Tick, badge: u32) -> Result<(), NoMemory>
         ensures ok { OnOk result (self.new ≡ started moment badge self.old) }
         ensures err { OnErr result (self.new ≡ self.old) }
     {
-        let posted = Set::one(
-            alloc,
-            Mark {
-                origin: moment,
-                places: u64::from(badge),
-            },
-        )?;
         self.unanswered.push(moment)?;
-        self.posted = posted;
+        self.posted = Set::one(Mark {
+            origin: moment,
+            places: u64::from(badge),
+        });
         self.answered.clear();
         Ok(())
     }
@@ -258,9 +262,8 @@ impl Origins {
         ensures err { OnErr result (self.new ≡ self.old) }
     {
         let given = given_by(alloc, &self.carried, thread, places, badge)?;
-        let under_way = send(alloc, &self.under_way, maker, made, &given)?;
-        self.under_way = under_way;
-        self.rest(alloc);
+        send(&mut self.under_way, maker, made, &given)?;
+        self.rest();
         Ok(())
     }
 
@@ -269,9 +272,9 @@ impl Origins {
         ensures ok { OnOk result (self.new ≡ lands maker made self.old) }
         ensures err { OnErr result (self.new ≡ self.old) }
     {
-        let marks = landed(alloc, &self.under_way, maker, made)?;
+        let posted = landed(alloc, &self.under_way, maker, made)?;
         drop_sent(&mut self.under_way, maker, made);
-        self.posted = Set::of(marks);
+        self.posted = posted;
         self.answered.clear();
         Ok(())
     }
@@ -282,7 +285,7 @@ impl Origins {
         ensures err { OnErr result (self.new ≡ self.old) }
     {
         join_to(alloc, &mut self.held, note.0, &self.posted)?;
-        self.rest(alloc);
+        self.rest();
         Ok(())
     }
 
@@ -293,7 +296,7 @@ impl Origins {
     {
         let taken = self.posted.taken(alloc, taking)?;
         join_to(alloc, &mut self.carried, thread.0, &taken)?;
-        self.rest(alloc);
+        self.rest();
         Ok(())
     }
 
@@ -310,8 +313,8 @@ impl Origins {
     {
         let taken = taken_from(alloc, &self.held, note, taking)?;
         join_to(alloc, &mut self.carried, thread.0, &taken)?;
-        clear(alloc, &mut self.held, note.0);
-        self.rest(alloc);
+        clear(&mut self.held, note.0);
+        self.rest();
         Ok(())
     }
 
@@ -336,15 +339,15 @@ impl Origins {
     }
 
     /// The round answers these origins.
-    fn end(&mut self, alloc: Global, thread: ThreadId, answered: Vec<Tick>)
+    fn end(&mut self, thread: ThreadId, answered: Vec<Tick>)
         ensures { self.new ≡ ends thread answered.items self.old }
     {
-        clear(alloc, &mut self.carried, thread.0);
+        clear(&mut self.carried, thread.0);
         drop_from_sets(&mut self.held, &answered);
         drop_from_sets(&mut self.carried, &answered);
         drop_from_sent(&mut self.under_way, &answered);
         drop_from_origins(&mut self.unanswered, &answered);
-        self.posted = Set::new(alloc);
+        self.posted = Set::empty();
         self.answered = answered;
     }
 
@@ -360,11 +363,9 @@ impl Origins {
         ensures err { OnErr result (self.new ≡ self.old) }
     {
         match *moves {
-            Move::Start(source, badge) if source == chain.source => {
-                self.start(alloc, moment, badge)
-            }
+            Move::Start(source, badge) if source == chain.source => { self.start(moment, badge) }
             Move::Nothing | Move::Start(..) => {
-                self.rest(alloc);
+                self.rest();
                 Ok(())
             }
             Move::Give(thread, places, badge) => self.give(alloc, thread, places, badge),
@@ -377,10 +378,18 @@ impl Origins {
             Move::Got(thread, note, taking) => self.get(alloc, thread, note, taking),
             Move::End(thread, word) => {
                 let answered = self.answers(alloc, chain, thread, word)?;
-                self.end(alloc, thread, answered);
+                self.end(thread, answered);
                 Ok(())
             }
         }
+    }
+
+    /// Whether the latest row posts nothing and answers nothing.
+    #[inline(always)]
+    pub(crate) fn are_still(&self) -> bool
+        ensures { result ≡ (is_none self.now.posted && is_none self.now.answered) }
+    {
+        self.posted.is_empty() && self.answered.is_empty()
     }
 
     /// The origins that the latest row answers.

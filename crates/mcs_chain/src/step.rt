@@ -3,6 +3,7 @@ ghost use Rattle.std.specs.Prelude.{◌≡◌, ◌+◌, ◌<◌, true, drop, len
 ghost use Rattle.mcs_script.specs.Script.{is_wait};
 ghost use Rattle.mcs_system.specs.System.{thread_part};
 ghost use Rattle.mcs_chain.specs.Steps.{is_silent, handler_behind, passes, next_step, first_step, fresh, step_of, is_first_wait, goes_behind, is_given, goes_by, gone_of, all_go, all_fresh};
+ghost use Rattle.mcs_chain.specs.stored.Still.{is_quiet};
 
 use mcs_script::{Item, Script};
 use mcs_system::{SystemParts, ThreadPart};
@@ -180,6 +181,17 @@ fn begins(all: &mut [Gone], thread: ThreadId)
     if thread.0 < all.len() {
         all[thread.0] = Gone::FRESH;
     }
+}
+
+/// Whether a row of this kind moves no origin and takes no thread to another step.
+#[inline(always)]
+pub(crate) fn is_quiet(what: &What) -> bool
+    ensures { result ≡ is_quiet what.now }
+{
+    matches!(
+        *what,
+        What::Release { .. } | What::Run { .. } | What::Stop { .. } | What::Order { .. }
+    )
 }
 
 /// A row more.

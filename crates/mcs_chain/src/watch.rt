@@ -1,12 +1,16 @@
-ghost use Rattle.std.specs.Prelude.{◌≡◌, List, [], ◌∷◌, OnOk, IfOk};
+ghost use Rattle.std.specs.Prelude.{◌≡◌, ℕ, false, List, [], ◌∷◌, Option, OnOk, IfOk};
 ghost use Rattle.mcs_ticks.specs.declared.row.Row.{Row as TheRow};
+ghost use Rattle.mcs_chain.specs.Answering.{answers_at};
 ghost use Rattle.mcs_chain.specs.Found.{all_unanswered};
 ghost use Rattle.mcs_chain.specs.Watch.{all_due, all_judged_many, all_slow_many, gone_for, watch_of};
 
-use crate::Found;
+use crate::answer::answers_at;
 use crate::moves::moves;
-use crate::one::{One, all_new, all_see, due_of, judged_of, many_of, unanswered_of};
-use crate::step::{Gone, all_fresh, all_go};
+use crate::one::{
+    One, all_new, all_see, are_still, due_of, have_late, judged_of, many_of, unanswered_of,
+};
+use crate::step::{Gone, all_fresh, all_go, is_quiet};
+use crate::{Answer, Found};
 use mcs_system::{System, SystemParts};
 use mcs_ticks::{NoMemory, Row, Tick};
 use std::alloc::Global;
@@ -52,8 +56,20 @@ impl Watch {
     }
 
     /// Takes one row more. `NoMemory` if an allocation failed: then some chains have taken the row,
-    /// and the watch can only be dropped.
+    /// and the watch can only be dropped. A row that moves no origin is only looked at.
+    #[inline(always)]
     pub fn see(&mut self, alloc: Global, system: &System, row: &Row) -> Result<(), NoMemory>
+        ensures { (past : List TheRow) → self.old ≡ watch_of system.now past →
+            OnOk result (self.new ≡ watch_of system.now (row.now ∷ past)) }
+    {
+        if is_quiet(&row.what) && are_still(self.each.as_slice()) {
+            return Ok(());
+        }
+        self.take(alloc, system, row)
+    }
+
+    /// `see` for any row.
+    fn take(&mut self, alloc: Global, system: &System, row: &Row) -> Result<(), NoMemory>
         ensures { (past : List TheRow) → self.old ≡ watch_of system.now past →
             OnOk result (self.new ≡ watch_of system.now (row.now ∷ past)) }
     {
@@ -65,6 +81,14 @@ impl Watch {
         all_see(alloc, &mut self.each, parts.chains.as_slice(), row, &moved)?;
         all_go(parts, &mut self.gone, &row.what);
         Ok(())
+    }
+
+    /// Whether there are slow answers of the latest rows that have one moment.
+    #[inline(always)]
+    pub fn has_late(&self) -> bool
+        ensures { (before : Option ℕ) → result ≡ false → all_due before 0 self.now.each ≡ [] }
+    {
+        have_late(self.each.as_slice())
     }
 
     /// The slow answers of the latest rows that have one moment, chain by chain; with `before` only
@@ -87,6 +111,20 @@ impl Watch {
         ensures { result ≡ all_judged_many self.now.each }
     {
         judged_of(self.each.as_slice())
+    }
+
+    /// The answers of the latest row, chain by chain, those for earlier interrupts first.
+    pub fn answers(
+        &self,
+        alloc: Global,
+        system: &System,
+        row: &Row,
+    ) -> Result<Vec<Answer>, NoMemory>
+        ensures { (past : List TheRow) → self.now ≡ watch_of system.now (row.now ∷ past) →
+            IfOk result (λ all. all.items ≡ answers_at system.now past row.now 0 system.now.chains) }
+    {
+        let chains = system.parts().chains.as_slice();
+        answers_at(alloc, self.each.as_slice(), chains, row)
     }
 
     /// The chains whose earliest origin without an answer is at least a deadline old at the

@@ -1,10 +1,9 @@
 -- What the core of a thread says of it: rounds that ended, and the activation of the first one.
-use Rattle.std.proofs.Common.{◌≡◌, ◌∙◌, ℕ, suc, ◌+◌, ◌<◌, Bool, true, false, cond, eqb, nat_lt, List, [], ◌∷◌, ◌++◌, length, get_or, map, replicate, Option, Some, None, refl, sym, ap, ap₂, subst, arith}
+use Rattle.std.proofs.Common.{◌≡◌, ◌∙◌, ℕ, suc, ◌+◌, ◌<◌, Bool, true, false, cond, eqb, nat_lt, List, [], ◌∷◌, length, get_or, replicate, Option, Some, None, refl, sym, ap, subst, arith}
 use Rattle.std.specs.Prelude.{slice_index, slice_index_or, ◌==◌, ◌&&◌, not, is_some, if◌then◌else◌}
 use Rattle.std.proofs.lemmas.Bool.{cond_both, eqb-true, eq-eqb}
 use Rattle.std.proofs.lemmas.Bool.Decides.{nat_tests}
 use Rattle.std.proofs.lemmas.List.{get_or-replicate}
-use Rattle.mcs_ticks.specs.Capped.{capped}
 use Rattle.mcs_ticks.specs.declared.row.Row.{Row}
 use Rattle.mcs_ticks.specs.declared.row.What.{What}
 use Rattle.mcs_ticks.specs.declared.row.What.TheVariants as row
@@ -12,7 +11,7 @@ use Rattle.mcs_system.specs.declared.part.ThreadPart.{ThreadPart}
 use Rattle.mcs_system.specs.System.{System, core_of, thread_part}
 use Rattle.mcs_system.specs.WellFormed.{IsWellFormed}
 use Rattle.mcs_system.proofs.Linked.{takes_time}
-use Rattle.mcs_core.specs.Clock.{clock, schedule}
+use Rattle.mcs_core.specs.Clock.{clock}
 use Rattle.mcs_laws.proofs.Homes.{core_of_context}
 use Rattle.mcs_stretch.specs.Stretch.{rows_between}
 use Rattle.mcs_stretch.proofs.Merging.{clock-before}
@@ -26,7 +25,7 @@ use Rattle.mcs_verdict.specs.Jobs.{job}
 use Rattle.mcs_verdict.specs.Misses.{set_at, unended, word_for, word_set}
 use Rattle.mcs_verdict.specs.Rounds.{first_wait}
 use Rattle.mcs_verdict.specs.Words.{no_word, held, held_after, firsts_of}
-use Rattle.mcs_verdict.specs.laws.ByCore.{rows_on, word_told, home_of, note_home_of, IsAtHome, ComeHome, CoresAreWatched, WaitsAtHome}
+use Rattle.mcs_verdict.specs.laws.ByCore.{rows_on, word_told, home_of, note_home_of, IsAtHome, ComeHome, CoresAreWatched}
 use Rattle.mcs_verdict.proofs.Accounts.{same, own}
 use Rattle.mcs_verdict.proofs.Kept.{job-kept}
 use Rattle.mcs_verdict.proofs.Watches.{since-up_to}

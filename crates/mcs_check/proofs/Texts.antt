@@ -1,5 +1,5 @@
 -- The text of a check: what rows tell, and then the rest.
-use Rattle.std.proofs.Common.{◌≡◌, ◌∙◌, ◌++◌, [], ℕ, ◌+◌, Bool, List, None, length, flat_map, refl, ap, sym, append_assoc, append-nil, arith}
+use Rattle.std.proofs.Common.{◌≡◌, ◌∙◌, ◌++◌, [], ℕ, ◌+◌, Bool, List, None, length, flat_map, ap, sym, append_assoc, append-nil, arith}
 use Rattle.mcs_ticks.specs.Capped.{capped}
 use Rattle.mcs_system.specs.System.{System}
 use Rattle.mcs_core.specs.Clock.{schedule}
@@ -30,7 +30,7 @@ use Rattle.mcs_check.specs.stored.AllFound.{checked_of}
 use Rattle.mcs_check.specs.stored.Rows.{counts_found, counts_in, ends_lines, lines_of, rest_lines, row_lines, rows_text, tabled_lines}
 use Rattle.mcs_check_lines.specs.Chains.{chain_found_lines}
 use Rattle.mcs_check.proofs.InPlace.{in-place}
-use Rattle.mcs_check.proofs.Told.{all-jobs, both-rows, jobs-are, no-rows}
+use Rattle.mcs_check.proofs.Told.{both-rows, jobs-are, no-rows}
 use Rattle.mcs_check.proofs.Sums.{none-within, rows-within, sums-all, sums-found, sums-rows}
 
 -- what is shown after the last row
@@ -73,7 +73,7 @@ module _ (names : List (List ℕ)) (system : System) (horizon : ℕ) where
 
     shown-is : (how : Format) (asked : Show) → lines_of (row_lines system flags how asked) [] (schedule system horizon) ++ rest_of how asked names system horizon ≡ shown_lines names system horizon how asked
     shown-is how show.Findings = ap (λ l. lines_of (row_lines system flags how show.Findings) [] (schedule system horizon) ++ l) (append-nil _) ∙ findings-are how
-    shown-is how show.Jobs = append-nil _ ∙ all-jobs how system flags [] (schedule system horizon) ∙ jobs-are how system flags [] (schedule system horizon)
+    shown-is how show.Jobs = append-nil _ ∙ jobs-are how system flags [] (schedule system horizon)
     shown-is how show.Table = ap (λ l. l ++ rest_of how show.Table names system horizon) (no-rows how system flags [] (schedule system horizon))
     shown-is how show.Both =
         let rows = lines_of (row_lines system flags how show.Findings) [] (schedule system horizon) in

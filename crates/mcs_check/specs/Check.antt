@@ -8,7 +8,6 @@ use Rattle.mcs_load.specs.Memory.{no_memory}
 use Rattle.mcs_hints.specs.Hints.{hints_of}
 use Rattle.mcs_verdict.specs.declared.finding.Found.{Found}
 use Rattle.mcs_verdict.specs.Findings.{findings, found_at_end, found_in, past_of}
-use Rattle.mcs_verdict.specs.Jobs.{jobs_in}
 use Rattle.mcs_cli.specs.Devices.{AppendsPrefix}
 use Rattle.mcs_cli.specs.Run.{IsFaultOfInput, IsRead, IsTooLong}
 use Rattle.mcs_cli.specs.declared.fault.RunFault.TheVariants as run
@@ -29,7 +28,7 @@ use Rattle.mcs_check_lines.specs.Checked.{chain_counts}
 use Rattle.mcs_check_lines.specs.Counts.{no_counts}
 use Rattle.mcs_check_lines.specs.Formats.{counts_line, found_line, head_text, hint_line, is_mixed}
 use Rattle.mcs_check_lines.specs.Figures.{table_lines}
-use Rattle.mcs_check_lines.specs.Told.{counts_with, found_lines, job_lines, merged_in, told}
+use Rattle.mcs_check_lines.specs.Told.{counts_with, ended_lines, found_lines, merged_in, told}
 use Rattle.mcs_check_lines.specs.Unjudged.{unjudged_line}
 
 -- the findings in the schedule of the one clock over all cores
@@ -70,10 +69,10 @@ module _ (names : List (List ℕ)) (system : System) (horizon : ℕ) where
   abbrev pub figures_lines : Format → List ℕ
   figures_lines how = table_lines how system horizon all_rows ++ chain_lines how system 0 (all_figures horizon system all_rows)
 
-  -- the lines that are asked for: those above, or those of the jobs
+  -- the lines that are asked for: those above, or those of the jobs with the answers of chains
   abbrev pub shown_lines : Format → Show → List ℕ
   shown_lines how show.Findings = findings_lines how
-  shown_lines how show.Jobs = job_lines how system (jobs_in system [] (schedule system horizon))
+  shown_lines how show.Jobs = ended_lines how system [] (schedule system horizon)
   shown_lines how show.Table = figures_lines how
   shown_lines how show.Both = findings_lines how ++ figures_lines how
 

@@ -4,7 +4,7 @@ ghost use Rattle.mcs_ticks.specs.declared.row.Row.{Row as TheRow};
 ghost use Rattle.mcs_verdict.specs.Findings.{UpTo};
 ghost use Rattle.mcs_cli.specs.Devices.{AppendsPrefix};
 ghost use Rattle.mcs_cli.specs.Flow.{AppendsBefore, TakesLine};
-ghost use Rattle.mcs_check.specs.stored.Rows.{counted_at, due_lines, failed_after, kept_table, row_lines, told_at};
+ghost use Rattle.mcs_check.specs.stored.Rows.{counted_at, due_lines, failed_after, kept_table, row_lines, told_with};
 ghost use Rattle.mcs_check_lines.specs.Shown.{shown_text};
 ghost use Rattle.mcs_chain.specs.Watch.{all_due, watch_of as chains_of};
 ghost use Rattle.mcs_check.specs.stored.Watches.{watches_of};
@@ -161,14 +161,15 @@ impl<'t, 's, 'k, 'p, T: Target, P: Progress> Finder<'t, 's, 'k, 'p, T, P> {
         ensures told { (past : List TheRow) → self.old.seen.now.watch ≡ watches_of self.old.system.now past → UpTo row.now.moment past →
             OnOk result (self.new.seen.now.text.items ≡ self.old.seen.now.text.items
             ++ due_lines self.old.format self.old.system.now self.old.show (all_due (Some row.now.moment) 0 (chains_of self.old.system.now past).each)
-            ++ told_at self.old.system.now self.old.allowed.now self.old.format self.old.show past row.now) }
+            ++ told_with self.old.system.now self.old.allowed.now self.old.format self.old.show past row.now) }
     {
         let (alloc, system, format) = (self.lines.alloc, self.system, self.format);
         let shown = self.seen.see(self.show, self.allowed, row);
         self.seen
             .put_due(alloc, format, self.show, system, row.moment)?;
         self.seen.put(alloc, format, system, &shown)?;
-        self.seen.take(alloc, system, row)
+        self.seen.take(alloc, system, row)?;
+        self.seen.put_answers(alloc, format, self.show, system, row)
     }
 
     /// Reports the progress now and then.

@@ -7,7 +7,8 @@ ghost use Rattle.mcs_verdict.specs.Words.{merges};
 ghost use Rattle.mcs_table.specs.Table.{table_of, Table as TheTable};
 ghost use Rattle.mcs_check_lines.specs.Counts.{told_of};
 ghost use Rattle.mcs_check.specs.stored.Threads.{threads_of};
-ghost use Rattle.mcs_check.specs.stored.Rows.{counted_at, due_lines, if_figures, shown_at, shown_found, told_line};
+ghost use Rattle.mcs_check.specs.stored.Rows.{answered_lines, counted_at, due_lines, if_figures, shown_at, shown_found, told_line};
+ghost use Rattle.mcs_chain.specs.Answering.{answers_at};
 ghost use Rattle.mcs_chain.specs.Figures.{tallies_of, Tally as TheTally};
 ghost use Rattle.mcs_chain.specs.Watch.{all_due, watch_of as chains_of};
 ghost use Rattle.mcs_check_words.specs.declared.asked.Show.{Show as TheShow};
@@ -15,7 +16,7 @@ ghost use Rattle.mcs_check_words.specs.declared.asked.Show.{Show as TheShow};
 use crate::core_watch::find;
 use crate::thread_watch::ThreadWatch;
 use mcs_chain::{Tallies, Watch as ChainWatch};
-use mcs_check_lines::{Counts, Shown, put_chains_found, put_shown};
+use mcs_check_lines::{Counts, Shown, put_answers, put_chains_found, put_shown};
 use mcs_check_words::{Format, Show};
 use mcs_system::System;
 use mcs_table::Table;
@@ -99,6 +100,7 @@ impl Seen {
 
     /// Appends the lines of the slow answers that are due at this moment, if findings are shown.
     /// `NoMemory` if an allocation failed: then some may be there.
+    #[inline(always)]
     pub(crate) fn put_due(
         &mut self,
         alloc: Global,
@@ -113,12 +115,42 @@ impl Seen {
         ensures counts { self.new.counts ≡ self.old.counts }
         ensures table { self.new.table ≡ self.old.table }
     {
+        // Mostly there is none.
+        if !self.watch.chains.has_late() {
+            return Ok(());
+        }
         match show {
             Show::Findings | Show::Both => {
                 let due = self.watch.chains.due(alloc, Some(moment))?;
                 put_chains_found(alloc, &mut self.text, format, system, due.as_slice())
             }
             Show::Jobs | Show::Table => Ok(()),
+        }
+    }
+
+    /// Appends the lines of the row's answers, if jobs are shown. The chains have taken the row.
+    /// `NoMemory` if an allocation failed: then some may be there.
+    pub(crate) fn put_answers(
+        &mut self,
+        alloc: Global,
+        format: Format,
+        show: Show,
+        system: &System,
+        row: &Row,
+    ) -> Result<(), NoMemory>
+        ensures text { (past : List TheRow) → self.old.watch.chains ≡ chains_of system.now (row.now ∷ past) →
+            OnOk result (self.new.text.items ≡ self.old.text.items
+            ++ answered_lines format system.now show (answers_at system.now past row.now 0 system.now.chains)) }
+        ensures watch { self.new.watch ≡ self.old.watch }
+        ensures counts { self.new.counts ≡ self.old.counts }
+        ensures table { self.new.table ≡ self.old.table }
+    {
+        match show {
+            Show::Jobs => {
+                let answers = self.watch.chains.answers(alloc, system, row)?;
+                put_answers(alloc, &mut self.text, format, system, answers.as_slice())
+            }
+            Show::Findings | Show::Table | Show::Both => Ok(()),
         }
     }
 

@@ -1,5 +1,5 @@
 -- Exit codes that were worked by hand, and what an exit code of 0 says.
-use Rattle.std.specs.Prelude.{◌≡◌, ℕ, Bool, true, false, ◌==◌, ◌&&◌, ◌||◌, Some, None, refl}
+use Rattle.std.specs.Prelude.{◌≡◌, Bool, true, false, ◌==◌, ◌&&◌, ◌||◌, Some, None, refl}
 use Rattle.std.proofs.Common.{arith}
 use Rattle.mcs_check_lines.specs.declared.checked.Checked.{Checked}
 use Rattle.mcs_check_lines.specs.Counts.{no_counts}

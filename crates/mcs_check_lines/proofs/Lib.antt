@@ -1,6 +1,7 @@
 mod Values
 mod Words
 mod Threads
+mod Behind
 mod Runners
 mod Worked
 mod Figured

@@ -1,5 +1,5 @@
 -- The lines of chains.
-use Rattle.std.specs.Prelude.{ℕ, suc, nat_lt, if◌then◌else◌, List, [], ◌∷◌, ◌++◌, codes, decimal, flat_map, fold, get_or}
+use Rattle.std.specs.Prelude.{ℕ, suc, nat_lt, if◌then◌else◌, List, [], ◌∷◌, ◌++◌, codes, decimal, drop, flat_map, fold, get_or}
 use Rattle.mcs_fields.specs.Fields.{Text, Value, amount, empty, name}
 use Rattle.mcs_system.specs.declared.part.ChainPart.{ChainPart}
 use Rattle.mcs_system.specs.System.{System}
@@ -11,7 +11,8 @@ use Rattle.mcs_chain.specs.declared.finding.Found.{Found}
 use Rattle.mcs_check_words.specs.declared.asked.Format.{Format}
 use Rattle.mcs_check_lines.specs.Fields.{Fields}
 use Rattle.mcs_check_lines.specs.Figures.{deadline_known, known, margin_value, pair_words}
-use Rattle.mcs_check_lines.specs.Formats.{unless_rows, written}
+use Rattle.mcs_check_words.specs.declared.asked.Show.TheVariants as show
+use Rattle.mcs_check_lines.specs.Formats.{column_names, empty_in, written}
 
 -- the value past the end of the list, which is never reached
 abbrev pub no_chain : ChainPart
@@ -73,15 +74,21 @@ chain_figures f =
     ∷ (codes "p90", known f.ninetieth) ∷ (codes "p99", known f.ninety_ninth) ∷ (codes "deadline", deadline_known f.deadline)
     ∷ (codes "margin", margin_value f.margin) ∷ []
 
+-- the columns of chains, and before them those of threads, which are empty
+abbrev pub own_fields : System → ℕ → Figures → Fields
+own_fields system n f = (codes "chain", name (chain_name system n)) ∷ chain_figures f
+
+abbrev pub no_thread : Fields
+no_thread = empty_in (drop 1 (column_names show.Table))
+
 abbrev pub chain_fields : System → ℕ → Figures → Fields
-chain_fields system n f = (codes "kind", name (codes "chain")) ∷ (codes "chain", name (chain_name system n)) ∷ chain_figures f
+chain_fields system n f = (codes "kind", name (codes "chain")) ∷ no_thread ++ own_fields system n f
 
 abbrev pub chain_text : System → ℕ → Figures → Text
 chain_text system n f = line (codes "chain") (chain_name system n ∷ pair_words (chain_figures f))
 
--- CSV has no lines of chains' figures
 abbrev pub chain_line : Format → System → ℕ → Figures → Text
-chain_line how system n f = unless_rows how (chain_text system n f) (chain_fields system n f)
+chain_line how system n f = written how (chain_text system n f) (chain_fields system n f)
 
 -- the figures of the chains from number n on
 abbrev pub chain_lines : Format → System → ℕ → List Figures → Text

@@ -1,5 +1,5 @@
 -- The numbers of findings, by kind.
-use Rattle.std.specs.Prelude.{ℕ, ◌+◌, Bool, false, ◌==◌, ◌&&◌, ◌||◌, not, if◌then◌else◌, List, get_or, Option, Some, None}
+use Rattle.std.specs.Prelude.{ℕ, ◌+◌, Bool, false, if◌then◌else◌, List, get_or, Option, Some, None}
 use Rattle.mcs_ticks.specs.Capped.{capped}
 pub use Rattle.mcs_ticks.specs.Capped.{one_more}
 use Rattle.mcs_verdict.specs.declared.finding.Finding.{Finding}

@@ -14,7 +14,7 @@ use Rattle.mcs_table.specs.Figures.{figures_of}
 use Rattle.mcs_table.specs.Unused.{unused_of}
 use Rattle.mcs_check_words.specs.declared.asked.Format.{Format}
 use Rattle.mcs_check_lines.specs.Fields.{Fields}
-use Rattle.mcs_check_lines.specs.Formats.{unless_rows, written}
+use Rattle.mcs_check_lines.specs.Formats.{if_chains, no_figures, unless_rows, written}
 
 -- a number, if there is one
 abbrev pub known : Option ℕ → Value
@@ -79,7 +79,8 @@ context_text system context unused =
     line (codes "context") (context_name system context ∷ pair_words ((codes "unused", known unused) ∷ []))
 
 abbrev pub thread_line : Format → System → ℕ → Figures → Text
-thread_line how system thread f = written how (thread_text system thread f) (thread_fields system thread f)
+thread_line how system thread f =
+    written how (thread_text system thread f) (thread_fields system thread f ++ if_chains system.chains no_figures)
 
 abbrev pub context_line : Format → System → ℕ → Option ℕ → Text
 context_line how system context unused = unless_rows how (context_text system context unused) (context_fields system context unused)

@@ -28,19 +28,22 @@ abbrev pub if_chains : {A : Type 0} → List ChainPart → List A → List A
 if_chains [] more = []
 if_chains (chain ∷ chains) more = more
 
--- the columns that a file with a chain has behind the others
+-- the columns that findings and jobs of a file with a chain have behind the others
 abbrev pub chain_columns : List Text
 chain_columns = codes "chain" ∷ codes "latency" ∷ codes "deadline" ∷ codes "origin" ∷ []
 
--- what a finding of a thread or a notification has there: nothing
+-- what another line has in such columns: nothing
+abbrev pub empty_in : List Text → Fields
+empty_in columns = map (λ column. (column, empty)) columns
+
 abbrev pub no_columns : Fields
-no_columns = map (λ column. (column, empty)) chain_columns
+no_columns = empty_in chain_columns
 
 abbrev pub found_line : Format → System → Found → Text
 found_line how system found = written how (found_text system found) (found_fields system found ++ if_chains system.chains no_columns)
 
 abbrev pub job_line : Format → System → Job → Text
-job_line how system job = written how (job_text system job) (job_fields system job)
+job_line how system job = written how (job_text system job) (job_fields system job ++ if_chains system.chains no_columns)
 
 abbrev pub row_line : Format → System → Row → Text
 row_line how system r = written how (row_words system r) (row_fields system r)
@@ -77,10 +80,26 @@ abbrev pub is_mixed : Format → Show → Bool
 is_mixed format.Csv show.Both = true
 is_mixed how asked = false
 
+-- those that the table of a file with a chain has behind the others
+abbrev pub figure_columns : List Text
+figure_columns =
+    codes "chain" ∷ codes "interrupts" ∷ codes "answers" ∷ codes "least" ∷ codes "greatest" ∷ codes "total" ∷ codes "p50"
+    ∷ codes "p90" ∷ codes "p99" ∷ codes "deadline" ∷ codes "margin" ∷ []
+
+-- what the line of a thread's figures has there: nothing
+abbrev pub no_figures : Fields
+no_figures = empty_in figure_columns
+
+-- the columns that a file with a chain has behind the others
+abbrev pub more_columns : Show → List Text
+more_columns show.Findings = chain_columns
+more_columns show.Jobs = chain_columns
+more_columns show.Table = figure_columns
+more_columns show.Both = []
+
 -- the first line of CSV, and its columns: a file with a chain has more
 abbrev pub columns : Show → List ChainPart → List Text
-columns show.Findings chains = column_names show.Findings ++ if_chains chains chain_columns
-columns asked chains = column_names asked
+columns asked chains = column_names asked ++ if_chains chains (more_columns asked)
 
 abbrev pub head_text : Format → Show → System → Text
 head_text format.Csv asked system = names_text (columns asked system.chains)

@@ -11,4 +11,5 @@ pub mod Shown
 pub mod Figures
 pub mod Told
 pub mod Chains
+pub mod Answers
 pub mod Account

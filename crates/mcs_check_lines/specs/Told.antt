@@ -1,5 +1,5 @@
 -- The findings that are reported, and the count of each kind.
-use Rattle.std.specs.Prelude.{ℕ, ◌+◌, Bool, true, false, not, if◌then◌else◌, List, [], ◌∷◌, count_by, filter, flat_map}
+use Rattle.std.specs.Prelude.{ℕ, ◌+◌, Bool, true, false, not, if◌then◌else◌, List, [], ◌∷◌, ◌++◌, count_by, filter, flat_map, option_to_list}
 use Rattle.mcs_ticks.specs.Capped.{capped}
 use Rattle.mcs_ticks.specs.declared.row.Row.{Row}
 use Rattle.mcs_system.specs.System.{System}
@@ -7,9 +7,12 @@ use Rattle.mcs_verdict.specs.declared.finding.Finding.{Finding}
 use Rattle.mcs_verdict.specs.declared.finding.Finding.TheVariants.{Miss, Overdue, Lost, Never}
 use Rattle.mcs_verdict.specs.declared.finding.Found.{Found}
 use Rattle.mcs_verdict.specs.declared.job.Job.{Job}
+use Rattle.mcs_verdict.specs.Jobs.{job_of}
 use Rattle.mcs_verdict.specs.Words.{merges}
+use Rattle.mcs_chain.specs.Answering.{answers_at}
 use Rattle.mcs_check_words.specs.declared.asked.Format.{Format}
 use Rattle.mcs_check_lines.specs.declared.counts.Counts.{Counts}
+use Rattle.mcs_check_lines.specs.Answers.{answer_lines}
 use Rattle.mcs_check_lines.specs.Counts.{is_allowed}
 use Rattle.mcs_check_lines.specs.Formats.{found_line, job_line}
 
@@ -24,6 +27,15 @@ found_lines how system allowed found = flat_map (found_line how system) (told al
 -- the lines of jobs
 abbrev pub job_lines : Format → System → List Job → List ℕ
 job_lines how system jobs = flat_map (job_line how system) jobs
+
+-- the lines of the rounds that these rows end, each by the rows before it: the job, and behind it the
+-- answers of the row, chain by chain
+abbrev pub ended_lines : Format → System → List Row → List Row → List ℕ
+ended_lines how system past [] = []
+ended_lines how system past (r ∷ rows) =
+    job_lines how system (option_to_list (job_of system past r.moment r.what))
+    ++ answer_lines how system (answers_at system past r 0 system.chains)
+    ++ ended_lines how system (r ∷ past) rows
 
 -- the kind of a finding
 abbrev pub is_miss : Finding → Bool

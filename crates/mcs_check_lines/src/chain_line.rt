@@ -1,14 +1,12 @@
-//! The lines of the findings and figures of chains.
+//! The lines of the findings of chains.
 ghost use Rattle.std.specs.Prelude.{◌≡◌, ◌++◌, ◌∷◌, OnOk, OnErr, codes, decimal, map};
 ghost use Rattle.std.specs.Io.{StartsWith};
 ghost use Rattle.mcs_fields.specs.Fields.{field_of, value_of};
 ghost use Rattle.mcs_text.specs.Text.{after};
-ghost use Rattle.mcs_check_lines.specs.Chains.{chain_deadline, chain_fields, chain_found_fields, chain_found_line, chain_found_lines, chain_found_text, chain_kind, chain_line, chain_lines, chain_name, chain_text, chain_words, due_words, latency_of, origin_of};
+ghost use Rattle.mcs_check_lines.specs.Chains.{chain_deadline, chain_found_fields, chain_found_line, chain_found_lines, chain_found_text, chain_kind, chain_name, chain_words, due_words, latency_of, origin_of};
 
-use crate::figures::{deadline, known, margin};
 use crate::line::{append_digits, append_named};
-use crate::pairs::{behind_two, put_line};
-use mcs_chain::{ChainId, Figures, Finding, Found};
+use mcs_chain::{ChainId, Finding, Found};
 use mcs_check_words::Format;
 use mcs_fields::{Cell, Field, put_object, put_row};
 use mcs_system::System;
@@ -17,7 +15,7 @@ use mcs_ticks::{NoMemory, Tick};
 use std::alloc::Global;
 
 /// The name of a chain, or the empty text if there is no such chain.
-fn chain_name(system: &System, chain: ChainId) -> &str
+pub(crate) fn chain_name(system: &System, chain: ChainId) -> &str
     ensures { result.now ≡ chain_name system.now chain }
 {
     match system.parts().chains.as_slice().get(chain.0) {
@@ -197,80 +195,6 @@ pub fn put_chains_found(
 {
     for found in all {
         put_chain_found_as(alloc, text, format, system, found)?;
-    }
-    Ok(())
-}
-
-/// The figures of a chain.
-fn chain_fields<'s>(system: &'s System, chain: ChainId, figures: &Figures) -> [Field<'s>; 12]
-    ensures { map field_of result ≡ chain_fields system.now chain figures.now }
-{
-    [
-        ("kind", Cell::Name("chain")),
-        ("chain", Cell::Name(chain_name(system, chain))),
-        ("interrupts", Cell::Number(figures.interrupts)),
-        ("answers", Cell::Number(figures.answers)),
-        ("least", known(figures.least)),
-        ("greatest", known(figures.greatest)),
-        ("total", Cell::Number(figures.total)),
-        ("p50", known(figures.fiftieth)),
-        ("p90", known(figures.ninetieth)),
-        ("p99", known(figures.ninety_ninth)),
-        ("deadline", deadline(figures.deadline)),
-        ("margin", margin(figures.margin)),
-    ]
-}
-
-/// Appends the line of a chain's figures as text. If memory runs out the text is unchanged.
-fn put_chain(
-    text: &mut Vec<u8>,
-    system: &System,
-    chain: ChainId,
-    figures: &Figures,
-) -> Result<(), NoMemory>
-    ensures ok { OnOk result (text.new.items ≡ text.old.items ++ chain_text system.now chain figures.now) }
-    ensures err { OnErr result (text.new.items ≡ text.old.items) }
-{
-    let fields = chain_fields(system, chain, figures);
-    put_line(
-        text,
-        "chain",
-        chain_name(system, chain),
-        behind_two(fields.as_slice()),
-    )
-}
-
-/// Appends the line of a chain's figures; CSV has no such line.
-fn put_chain_as(
-    alloc: Global,
-    text: &mut Vec<u8>,
-    format: Format,
-    system: &System,
-    chain: ChainId,
-    figures: &Figures,
-) -> Result<(), NoMemory>
-    ensures ok { OnOk result (text.new.items ≡ text.old.items ++ chain_line format system.now chain figures.now) }
-    ensures err { OnErr result (text.new.items ≡ text.old.items) }
-{
-    match format {
-        Format::Text => put_chain(text, system, chain, figures),
-        Format::Csv => Ok(()),
-        Format::Json => put_object(alloc, text, chain_fields(system, chain, figures).as_slice()),
-    }
-}
-
-/// Appends the lines of the chains' figures.
-pub fn put_chains(
-    alloc: Global,
-    text: &mut Vec<u8>,
-    format: Format,
-    system: &System,
-    all: &[Figures],
-) -> Result<(), NoMemory>
-    ensures { OnOk result (text.new.items ≡ text.old.items ++ chain_lines format system.now 0 all.now) }
-{
-    for (number, figures) in all.iter().enumerate() {
-        put_chain_as(alloc, text, format, system, ChainId(number), figures)?;
     }
     Ok(())
 }

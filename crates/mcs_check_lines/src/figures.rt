@@ -7,14 +7,15 @@ ghost use Rattle.mcs_verdict.specs.Watch.{watch_of};
 ghost use Rattle.mcs_table.specs.Figures.{figures_of};
 ghost use Rattle.mcs_table.specs.Table.{table_of};
 ghost use Rattle.mcs_table.specs.Unused.{unused_of};
-ghost use Rattle.mcs_check_lines.specs.Figures.{context_fields, context_line, context_lines, context_text, deadline_known, known, lost_value, margin_value, merged_value, table_lines, thread_fields, thread_line, thread_lines, thread_text};
+ghost use Rattle.mcs_check_lines.specs.Figures.{context_fields, context_line, context_lines, context_text, deadline_known, known, margin_value, table_lines, thread_lines};
 
-use crate::pairs::{behind_two, put_line};
+use crate::pairs::put_line;
+use crate::thread_line::put_thread_as;
 use mcs_check_words::Format;
-use mcs_fields::{Cell, Field, put_object, put_row};
+use mcs_fields::{Cell, Field, put_object};
 use mcs_system::System;
-use mcs_table::{Figures, Margin, Signals, Table};
-use mcs_text::{context_name, thread_name};
+use mcs_table::{Figures, Margin, Table};
+use mcs_text::context_name;
 use mcs_ticks::{ContextId, NoMemory, ThreadId};
 use mcs_verdict::Watch;
 use std::alloc::Global;
@@ -48,57 +49,6 @@ pub(crate) fn margin<'s>(margin: Option<Margin>) -> Cell<'s>
     }
 }
 
-fn lost<'s>(signals: Option<Signals>) -> Cell<'s>
-    ensures { value_of result ≡ lost_value signals }
-{
-    match signals {
-        Some(signals) => Cell::Number(signals.lost),
-        None => Cell::Empty,
-    }
-}
-
-fn merged<'s>(signals: Option<Signals>) -> Cell<'s>
-    ensures { value_of result ≡ merged_value signals }
-{
-    match signals {
-        Some(signals) => Cell::Number(signals.merged),
-        None => Cell::Empty,
-    }
-}
-
-fn thread_fields<'s>(system: &'s System, thread: ThreadId, figures: &Figures) -> [Field<'s>; 26]
-    ensures { map field_of result ≡ thread_fields system.now thread figures.now }
-{
-    [
-        ("kind", Cell::Name("thread")),
-        ("thread", Cell::Name(thread_name(system, thread))),
-        ("core", Cell::Number(figures.core.0 as u64)),
-        ("priority", Cell::Number(u64::from(figures.priority))),
-        ("budget", Cell::Number(figures.share.budget)),
-        ("period", Cell::Number(figures.share.period)),
-        ("granted", Cell::Number(figures.share.granted)),
-        ("used", Cell::Number(figures.share.used)),
-        ("rounds", Cell::Number(figures.rounds.ended)),
-        ("greatest", known(figures.rounds.greatest)),
-        ("p50", known(figures.rounds.fiftieth)),
-        ("p90", known(figures.rounds.ninetieth)),
-        ("p99", known(figures.rounds.ninety_ninth)),
-        ("deadline", deadline(figures.deadline)),
-        ("margin", margin(figures.margin)),
-        ("missed", Cell::Number(figures.rounds.missed)),
-        ("late", Cell::Number(figures.rounds.late)),
-        ("lost", lost(figures.signals)),
-        ("merged", merged(figures.signals)),
-        ("ticks_pending", Cell::Number(figures.stood.pending)),
-        ("ticks_ready", Cell::Number(figures.stood.ready)),
-        ("ticks_running", Cell::Number(figures.stood.running)),
-        ("ticks_throttled", Cell::Number(figures.stood.throttled)),
-        ("ticks_blocked", Cell::Number(figures.stood.blocked)),
-        ("ticks_woken", Cell::Number(figures.stood.woken)),
-        ("ticks_done", Cell::Number(figures.stood.done)),
-    ]
-}
-
 fn context_fields<'s>(system: &'s System, context: ContextId, unused: Option<u64>) -> [Field<'s>; 3]
     ensures { map field_of result ≡ context_fields system.now context unused }
 {
@@ -107,25 +57,6 @@ fn context_fields<'s>(system: &'s System, context: ContextId, unused: Option<u64
         ("context", Cell::Name(context_name(system, context))),
         ("unused", known(unused)),
     ]
-}
-
-/// Appends the line of a thread's figures as text. If memory runs out the text is unchanged.
-fn put_thread(
-    text: &mut Vec<u8>,
-    system: &System,
-    thread: ThreadId,
-    figures: &Figures,
-) -> Result<(), NoMemory>
-    ensures ok { OnOk result (text.new.items ≡ text.old.items ++ thread_text system.now thread figures.now) }
-    ensures err { OnErr result (text.new.items ≡ text.old.items) }
-{
-    let fields = thread_fields(system, thread, figures);
-    put_line(
-        text,
-        "thread",
-        thread_name(system, thread),
-        behind_two(fields.as_slice()),
-    )
 }
 
 /// Appends the line of a context's figure as text. If memory runs out the text is unchanged.
@@ -140,28 +71,6 @@ fn put_context(
 {
     let fields = [("unused", known(unused))];
     put_line(text, "context", context_name(system, context), &fields)
-}
-
-fn put_thread_as(
-    alloc: Global,
-    text: &mut Vec<u8>,
-    format: Format,
-    system: &System,
-    thread: ThreadId,
-    figures: &Figures,
-) -> Result<(), NoMemory>
-    ensures ok { OnOk result (text.new.items ≡ text.old.items ++ thread_line format system.now thread figures.now) }
-    ensures err { OnErr result (text.new.items ≡ text.old.items) }
-{
-    match format {
-        Format::Text => put_thread(text, system, thread, figures),
-        Format::Csv => put_row(text, thread_fields(system, thread, figures).as_slice()),
-        Format::Json => put_object(
-            alloc,
-            text,
-            thread_fields(system, thread, figures).as_slice(),
-        ),
-    }
 }
 
 /// Appends the line of a context's figure; CSV has no lines of contexts.

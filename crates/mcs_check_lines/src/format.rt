@@ -1,176 +1,31 @@
 //! The lines of what is shown, in each format. If memory runs out, a call leaves the text
 //! unchanged.
 ghost use Rattle.std.specs.Prelude.{◌≡◌, ◌++◌, Some, OnOk, OnErr};
-ghost use Rattle.mcs_fields.specs.Fields.{names_text, object_text};
-ghost use Rattle.mcs_check_words.specs.declared.asked.Show.TheVariants.{Findings};
+ghost use Rattle.mcs_fields.specs.Fields.{object_text};
 ghost use Rattle.mcs_check_lines.specs.Fields.{chain_count_fields, checked_fields, counts_fields, found_fields};
-ghost use Rattle.mcs_check_lines.specs.Formats.{chain_columns, column_names, columns, counts_line, found_line, head_text, is_mixed, job_line, no_columns, row_line, written};
+ghost use Rattle.mcs_check_lines.specs.Formats.{counts_line, found_line, is_mixed, no_columns, row_line, written};
 ghost use Rattle.mcs_check_lines.specs.Lines.{found_text};
 ghost use Rattle.mcs_check_lines.specs.Shown.{shown_text};
 
-use crate::fields::{checked_fields, counts_fields, found_fields, job_fields, wide_found_fields};
-use crate::line::{put_counts, put_found, put_job};
+use crate::fields::{checked_fields, counts_fields, found_fields, wide_found_fields};
+use crate::job_line::put_job_as;
+use crate::line::{put_counts, put_found};
 use crate::row_fields::row_fields;
 use crate::shown::Shown;
 use crate::{ChainCounts, Checked, Counts, Scope};
 use mcs_check_words::{Format, Show};
-use mcs_fields::{Cell, put_names, put_object, put_row};
+use mcs_fields::{put_object, put_row};
 use mcs_system::System;
 use mcs_text::put_row as put_row_text;
 use mcs_ticks::{NoMemory, Row};
-use mcs_verdict::{Found, Job};
+use mcs_verdict::Found;
 use std::alloc::Global;
-
-static FINDINGS: [&str; 16] = [
-    "moment",
-    "core",
-    "kind",
-    "thread",
-    "note",
-    "word",
-    "number",
-    "response",
-    "deadline",
-    "activated",
-    "queued",
-    "ready",
-    "running",
-    "throttled",
-    "blocked",
-    "woken",
-];
-
-/// The columns of findings in a file with a chain.
-static WIDE: [&str; 20] = [
-    "moment",
-    "core",
-    "kind",
-    "thread",
-    "note",
-    "word",
-    "number",
-    "response",
-    "deadline",
-    "activated",
-    "queued",
-    "ready",
-    "running",
-    "throttled",
-    "blocked",
-    "woken",
-    "chain",
-    "latency",
-    "deadline",
-    "origin",
-];
-
-static JOBS: [&str; 15] = [
-    "moment",
-    "core",
-    "kind",
-    "thread",
-    "number",
-    "activated",
-    "begun",
-    "response",
-    "queued",
-    "preemptions",
-    "ready",
-    "running",
-    "throttled",
-    "blocked",
-    "woken",
-];
-
-static TABLE: [&str; 26] = [
-    "kind",
-    "thread",
-    "core",
-    "priority",
-    "budget",
-    "period",
-    "granted",
-    "used",
-    "rounds",
-    "greatest",
-    "p50",
-    "p90",
-    "p99",
-    "deadline",
-    "margin",
-    "missed",
-    "late",
-    "lost",
-    "merged",
-    "ticks_pending",
-    "ticks_ready",
-    "ticks_running",
-    "ticks_throttled",
-    "ticks_blocked",
-    "ticks_woken",
-    "ticks_done",
-];
 
 /// Whether rows of two kinds are asked for as CSV.
 pub fn is_mixed(format: Format, show: Show) -> bool
     ensures { result ≡ is_mixed format show }
 {
     matches!((format, show), (Format::Csv, Show::Both))
-}
-
-/// Appends the first line of CSV; other formats have none.
-pub fn put_head(
-    text: &mut Vec<u8>,
-    format: Format,
-    show: Show,
-    system: &System,
-) -> Result<(), NoMemory>
-    ensures ok { OnOk result (text.new.items ≡ text.old.items ++ head_text format show system.now) }
-    ensures err { OnErr result (text.new.items ≡ text.old.items) }
-{
-    match format {
-        Format::Csv => put_columns(text, show, system),
-        Format::Text | Format::Json => Ok(()),
-    }
-}
-
-/// Appends the first line of CSV.
-fn put_columns(text: &mut Vec<u8>, show: Show, system: &System) -> Result<(), NoMemory>
-    ensures ok { OnOk result (text.new.items ≡ text.old.items ++ names_text (columns show system.now.chains)) }
-    ensures err { OnErr result (text.new.items ≡ text.old.items) }
-{
-    match show {
-        Show::Findings => put_finding_columns(text, system),
-        Show::Jobs => put_names(text, JOBS.as_slice()),
-        Show::Table => put_names(text, TABLE.as_slice()),
-        Show::Both => put_names(text, &[]),
-    }
-}
-
-fn put_finding_columns(text: &mut Vec<u8>, system: &System) -> Result<(), NoMemory>
-    ensures ok { OnOk result (text.new.items ≡ text.old.items ++ names_text (columns Findings system.now.chains)) }
-    ensures err { OnErr result (text.new.items ≡ text.old.items) }
-{
-    if system.parts().chains.is_empty() {
-        put_narrow_columns(text)
-    } else {
-        put_wide_columns(text)
-    }
-}
-
-fn put_narrow_columns(text: &mut Vec<u8>) -> Result<(), NoMemory>
-    ensures ok { OnOk result (text.new.items ≡ text.old.items ++ names_text (column_names Findings)) }
-    ensures err { OnErr result (text.new.items ≡ text.old.items) }
-{
-    put_names(text, FINDINGS.as_slice())
-}
-
-/// Appends the columns of findings in a file with a chain.
-fn put_wide_columns(text: &mut Vec<u8>) -> Result<(), NoMemory>
-    ensures ok { OnOk result (text.new.items ≡ text.old.items ++ names_text (column_names Findings ++ chain_columns)) }
-    ensures err { OnErr result (text.new.items ≡ text.old.items) }
-{
-    put_names(text, WIDE.as_slice())
 }
 
 /// Appends the line of what is shown.
@@ -244,24 +99,6 @@ fn put_wide(
         Format::Text => put_found(text, system, found),
         Format::Csv => put_row(text, wide_found_fields(system, found).as_slice()),
         Format::Json => put_object(alloc, text, wide_found_fields(system, found).as_slice()),
-    }
-}
-
-/// Appends the line of a job.
-fn put_job_as(
-    alloc: Global,
-    text: &mut Vec<u8>,
-    format: Format,
-    system: &System,
-    job: &Job,
-) -> Result<(), NoMemory>
-    ensures ok { OnOk result (text.new.items ≡ text.old.items ++ job_line format system.now job.now) }
-    ensures err { OnErr result (text.new.items ≡ text.old.items) }
-{
-    match format {
-        Format::Text => put_job(text, system, job),
-        Format::Csv => put_row(text, job_fields(system, job).as_slice()),
-        Format::Json => put_object(alloc, text, job_fields(system, job).as_slice()),
     }
 }
 

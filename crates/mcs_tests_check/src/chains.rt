@@ -1,4 +1,4 @@
-//! Findings, figures and counts of chains, worked by hand from the rules.
+//! Findings, answers, figures and counts of chains, worked by hand from the rules.
 
 use crate::runs::{options, written};
 use mcs_check::{Quiet, check};
@@ -107,9 +107,61 @@ missed 0 overdue 0 lost 2 never 0 merged 0 allowed 0 unjudged 0 hints 0 threads 
 
 const LOOP_TABLE_ROWS: &str = "\
 kind,thread,core,priority,budget,period,granted,used,rounds,greatest,p50,p90,p99,deadline,margin,missed,late,lost,merged,\
-ticks_pending,ticks_ready,ticks_running,ticks_throttled,ticks_blocked,ticks_woken,ticks_done
-thread,L,0,5,100,100,1000000,980769,2,31,20,31,31,,,0,0,2,0,0,0,51,0,1,0,0
+ticks_pending,ticks_ready,ticks_running,ticks_throttled,ticks_blocked,ticks_woken,ticks_done,\
+chain,interrupts,answers,least,greatest,total,p50,p90,p99,deadline,margin
+thread,L,0,5,100,100,1000000,980769,2,31,20,31,31,,,0,0,2,0,0,0,51,0,1,0,0,,,,,,,,,,,
+chain,,,,,,,,,,,,,,,,,,,,,,,,,,c,6,3,20,31,72,21,31,31,20,-11
 ";
+
+const LOOP_JOBS: &str = "\
+22 0 job L 1 activated 2 begun 2 response 20 queued 0 preemptions 0 ready 0 running 20 throttled 0 blocked 0 woken 0
+22 0 answer c round 1 origin 2 latency 20 deadline 20
+43 0 job L 2 activated 12 begun 23 response 31 queued 11 preemptions 0 ready 0 running 20 throttled 0 blocked 0 woken 0
+43 0 answer c round 2 origin 12 latency 31 deadline 20
+43 0 answer c round 2 origin 22 latency 21 deadline 20
+missed 0 overdue 0 lost 2 never 0 merged 0 allowed 0 unjudged 0 hints 0 threads 1 deadlines 1 judged 4 slow 1 unanswered 1
+";
+
+const LOOP_JOB_ROWS: &str = "\
+moment,core,kind,thread,number,activated,begun,response,queued,preemptions,ready,running,throttled,blocked,woken,chain,latency,deadline,origin
+22,0,job,L,1,2,2,20,0,0,0,20,0,0,0,,,,
+22,0,answer,L,1,,,,,,,,,,,c,20,20,2
+43,0,job,L,2,12,23,31,11,0,0,20,0,0,0,,,,
+43,0,answer,L,2,,,,,,,,,,,c,31,20,12
+43,0,answer,L,2,,,,,,,,,,,c,21,20,22
+";
+
+const LOOP_JOB_OBJECTS: &str = "\
+{\"moment\":22,\"core\":0,\"kind\":\"job\",\"thread\":\"L\",\"number\":1,\"activated\":2,\"begun\":2,\"response\":20,\"queued\":0,\
+\"preemptions\":0,\"ready\":0,\"running\":20,\"throttled\":0,\"blocked\":0,\"woken\":0}
+{\"moment\":22,\"core\":0,\"kind\":\"answer\",\"thread\":\"L\",\"number\":1,\"chain\":\"c\",\"latency\":20,\"deadline\":20,\"origin\":2}
+{\"moment\":43,\"core\":0,\"kind\":\"job\",\"thread\":\"L\",\"number\":2,\"activated\":12,\"begun\":23,\"response\":31,\"queued\":11,\
+\"preemptions\":0,\"ready\":0,\"running\":20,\"throttled\":0,\"blocked\":0,\"woken\":0}
+{\"moment\":43,\"core\":0,\"kind\":\"answer\",\"thread\":\"L\",\"number\":2,\"chain\":\"c\",\"latency\":31,\"deadline\":20,\"origin\":12}
+{\"moment\":43,\"core\":0,\"kind\":\"answer\",\"thread\":\"L\",\"number\":2,\"chain\":\"c\",\"latency\":21,\"deadline\":20,\"origin\":22}
+{\"kind\":\"counts\",\"missed\":0,\"overdue\":0,\"lost\":2,\"never\":0,\"merged\":0,\"allowed\":0,\"unjudged\":0,\"hints\":0,\"threads\":1,\
+\"deadlines\":1,\"judged\":4,\"slow\":1,\"unanswered\":1}
+";
+
+/// The jobs of D answer the chain near, which has no deadline; those of C answer three chains.
+const TWO_CORES_JOBS: &str = "\
+6 0 job D 1 activated 3 begun 3 response 3 queued 0 preemptions 0 ready 0 running 3 throttled 0 blocked 0 woken 0
+6 0 answer near round 1 origin 3 latency 3
+12 1 job C 1 activated 8 begun 8 response 4 queued 0 preemptions 0 ready 0 running 4 throttled 0 blocked 0 woken 0
+12 1 answer f round 1 origin 3 latency 9 deadline 7
+12 1 answer e round 1 origin 3 latency 9 deadline 8
+12 1 answer g round 1 origin 3 latency 9 deadline 9
+missed 1 overdue 0 lost 0 never 1 merged 0 allowed 0 unjudged 0 hints 1 threads 3 deadlines 6 judged 4 slow 2 unanswered 0
+";
+
+#[test]
+fn answers_of_several_chains(rt: HostRuntime) -> Result<(), Fail> {
+    let mut options = options(rt.alloc(), 12, 1, &[])?;
+    options.show = Show::Jobs;
+    let text = written(&rt, rt.alloc(), TWO_CORES, &options)?;
+    assert_eq!(rt; text.as_str(), TWO_CORES_JOBS);
+    Ok(())
+}
 
 #[test]
 fn chains_in_each_format(rt: HostRuntime) -> Result<(), Fail> {
@@ -119,6 +171,9 @@ fn chains_in_each_format(rt: HostRuntime) -> Result<(), Fail> {
         (Show::Findings, Format::Json, LOOP_OBJECTS),
         (Show::Table, Format::Text, LOOP_TABLE),
         (Show::Table, Format::Csv, LOOP_TABLE_ROWS),
+        (Show::Jobs, Format::Text, LOOP_JOBS),
+        (Show::Jobs, Format::Csv, LOOP_JOB_ROWS),
+        (Show::Jobs, Format::Json, LOOP_JOB_OBJECTS),
     ] {
         let mut options = options(rt.alloc(), 52, 1, &[])?;
         options.show = show;

@@ -1,5 +1,5 @@
 //! Chains that are watched and tallied.
-use mcs_chain::{ChainId, Figures, Finding, Found, Tallies, Watch};
+use mcs_chain::{Answer, ChainId, Figures, Finding, Found, Tallies, Watch};
 use mcs_load::load;
 use mcs_system::System;
 use mcs_table::Margin;
@@ -91,10 +91,24 @@ fn figures() -> Figures {
 fn is_read(rt: &impl Abort, alloc: Global, system: &System, rows: &[Row]) -> Result<(), Fail> {
     let mut watch = Watch::new(alloc, system)?;
     let mut tallies = Tallies::new(alloc, system, Tick::at(20))?;
+    let mut answers = Vec::new(alloc);
     for row in rows {
         watch.see(alloc, system, row)?;
         tallies.see(system, &watch, row);
+        let own = watch.answers(alloc, system, row)?;
+        answers.extend_from_slice(own.as_slice())?;
     }
+    let answer = Answer {
+        moment: Tick::at(12),
+        core: CoreId(1),
+        chain: ChainId(0),
+        thread: ThreadId(1),
+        number: 1,
+        origin: Tick::at(3),
+        latency: 9,
+        deadline: 8,
+    };
+    assert!(rt; answers.as_slice() == [answer].as_slice());
     let slow = Found {
         moment: Tick::at(12),
         core: CoreId(1),
@@ -105,6 +119,7 @@ fn is_read(rt: &impl Abort, alloc: Global, system: &System, rows: &[Row]) -> Res
             origin: Tick::at(3),
         },
     };
+    assert!(rt; watch.has_late());
     assert!(rt; watch.due(alloc, None)?.as_slice() == [slow].as_slice());
     assert!(rt; watch.due(alloc, Some(Tick::at(12)))?.is_empty());
     assert!(rt; watch.slow() == 1);

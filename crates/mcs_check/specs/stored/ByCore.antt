@@ -1,8 +1,7 @@
 -- The findings of each core in its rows, and those of all cores together.
-use Rattle.std.specs.Prelude.{ℕ, ◌+◌, Bool, List, [], flat_map, fold}
+use Rattle.std.specs.Prelude.{ℕ, Bool, List, [], flat_map, fold}
 use Rattle.std.specs.List.{range_with_len}
 use Rattle.mcs_ticks.specs.declared.row.Row.{Row}
-use Rattle.mcs_ticks.specs.Capped.{capped}
 use Rattle.mcs_system.specs.System.{System}
 use Rattle.mcs_stretch.specs.Stretch.{rows_between}
 use Rattle.mcs_verdict.specs.declared.finding.Found.{Found}

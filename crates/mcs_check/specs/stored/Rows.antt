@@ -9,8 +9,10 @@ use Rattle.mcs_verdict.specs.Findings.{finding}
 use Rattle.mcs_verdict.specs.Jobs.{job_of}
 use Rattle.mcs_verdict.specs.Words.{merges}
 use Rattle.mcs_table.specs.Table.{table_of}
+use Rattle.mcs_chain.specs.Answering.{answers_at}
 use Rattle.mcs_chain.specs.Figures.{all_figures, tallies_of}
 use Rattle.mcs_chain.specs.Watch.{all_due, watch_of}
+use Rattle.mcs_chain.specs.declared.answer.Answer.{Answer}
 use Rattle.mcs_chain.specs.declared.finding.Found.{Found as ChainFound}
 use Rattle.mcs_cli.specs.declared.fault.RunFault.{RunFault}
 use Rattle.mcs_cli.specs.declared.fault.RunFault.TheVariants as fault
@@ -25,6 +27,7 @@ use Rattle.mcs_check.specs.declared.seen.Tables.{Tables}
 use Rattle.mcs_check_lines.specs.declared.shown.Shown.{Shown}
 use Rattle.mcs_check_lines.specs.declared.shown.Shown.TheVariants as shown
 use Rattle.mcs_ticks.specs.Capped.{one_more}
+use Rattle.mcs_check_lines.specs.Answers.{answer_lines}
 use Rattle.mcs_check_lines.specs.Chains.{chain_found_lines, chain_lines}
 use Rattle.mcs_check_lines.specs.Counts.{taken, told_of}
 use Rattle.mcs_check_lines.specs.Formats.{head_text, hint_line}
@@ -105,6 +108,13 @@ due_lines how system show.Jobs due = []
 due_lines how system show.Table due = []
 due_lines how system show.Both due = chain_found_lines how system due
 
+-- the lines of answers, if jobs are shown
+abbrev pub answered_lines : Format → System → Show → List Answer → List ℕ
+answered_lines how system show.Findings answers = []
+answered_lines how system show.Jobs answers = answer_lines how system answers
+answered_lines how system show.Table answers = []
+answered_lines how system show.Both answers = []
+
 module _ (system : System) (allowed : List Bool) where
   -- what is shown of a row that comes after these
   abbrev pub shown_at : Show → List Row → Row → Option Shown
@@ -115,6 +125,13 @@ module _ (system : System) (allowed : List Bool) where
 
   abbrev pub told_at : Format → Show → List Row → Row → List ℕ
   told_at how asked past r = told_line how system (shown_at asked past r)
+
+  -- and then the row's answers, if jobs are shown
+  abbrev pub told_with : Format → Show → List Row → Row → List ℕ
+  told_with how show.Findings past r = told_at how show.Findings past r
+  told_with how show.Jobs past r = told_at how show.Jobs past r ++ answer_lines how system (answers_at system past r 0 system.chains)
+  told_with how show.Table past r = told_at how show.Table past r
+  told_with how show.Both past r = told_at how show.Both past r
 
   abbrev pub counted_at : List Row → Row → Counts → Counts
   counted_at past r counts =
@@ -128,7 +145,7 @@ module _ (system : System) (allowed : List Bool) where
   -- the lines of the slow answers of earlier rows that are due at a row, and then those of the row
   unfoldable pub row_lines : Format → Show → List Row → Row → List ℕ
   row_lines how asked past r =
-      due_lines how system asked (all_due (Some r.moment) 0 (watch_of system past).each) ++ told_at how asked past r
+      due_lines how system asked (all_due (Some r.moment) 0 (watch_of system past).each) ++ told_with how asked past r
 
   -- the first line, and the lines of all rows
   abbrev pub rows_text : Format → Show → List Row → List ℕ

@@ -2,7 +2,7 @@ use Rattle.std.proofs.Common.{rules, ◌≡◌, ◌∙◌, ◌++◌, ◌∷◌, 
 use Rattle.mcs_chain.specs.Watch.{all_due, watch_of as chains_of}
 use Rattle.mcs_cli.specs.Devices.{AppendsPrefix}
 use Rattle.mcs_cli.specs.Flow.{AppendsBefore}
-use Rattle.mcs_check.specs.stored.Rows.{counted_at, due_lines, failed_after, kept_table, row_lines, told_at}
+use Rattle.mcs_check.specs.stored.Rows.{counted_at, due_lines, failed_after, kept_table, row_lines, told_with}
 use Rattle.mcs_check.specs.stored.Watches.{watches_of}
 use Rattle.mcs_check.proofs.Results.{err-holds, moved, ok-holds, takes-lines}
 use Rattle.mcs_check.proofs.Told.{row-is}
@@ -33,18 +33,18 @@ returns g c =
           ap (λ s. s.watch) p.seen_now ∙ watch ∙ ap (λ s. watches_of s.now past) (sym p.system) in
           let raw : c.take.new.self.seen.now.text.items ≡ c.pass.new.self.seen.now.text.items
           ++ due_lines c.pass.new.self.format c.pass.new.self.system.now c.pass.new.self.show (all_due (Some c.args.row.now.moment) 0 (chains_of c.pass.new.self.system.now past).each)
-          ++ told_at c.pass.new.self.system.now c.pass.new.self.allowed.now c.pass.new.self.format c.pass.new.self.show past c.args.row.now =
+          ++ told_with c.pass.new.self.system.now c.pass.new.self.allowed.now c.pass.new.self.format c.pass.new.self.show past c.args.row.now =
           ok-holds c.take.result done (t.told past mine up) in
           let here : c.take.new.self.seen.now.text.items ≡ c.pass.new.self.seen.now.text.items
           ++ due_lines c.args.self.now.format c.args.self.now.system.now c.args.self.now.show (all_due (Some c.args.row.now.moment) 0 (chains_of c.args.self.now.system.now past).each)
-          ++ told_at c.args.self.now.system.now c.args.self.now.allowed.now c.args.self.now.format c.args.self.now.show past c.args.row.now =
+          ++ told_with c.args.self.now.system.now c.args.self.now.allowed.now c.args.self.now.format c.args.self.now.show past c.args.row.now =
           moved (λ sys flags asked form. c.take.new.self.seen.now.text.items ≡ c.pass.new.self.seen.now.text.items
-          ++ due_lines form sys asked (all_due (Some row.moment) 0 (chains_of sys past).each) ++ told_at sys flags form asked past row)
+          ++ due_lines form sys asked (all_due (Some row.moment) 0 (chains_of sys past).each) ++ told_with sys flags form asked past row)
           _ _ _ _ _ _ _ _ (ap (λ b. b.now) p.system) (ap (λ b. b.now) p.allowed) p.show p.format raw in
           let told : c.take.new.self.seen.now.text.items ≡ c.args.self.now.seen.now.text.items
           ++ row_lines c.args.self.now.system.now c.args.self.now.allowed.now c.args.self.now.format c.args.self.now.show past c.args.row.now =
           here ∙ append_assoc c.pass.new.self.seen.now.text.items (due_lines before.format before.system.now before.show (all_due (Some row.moment) 0 (chains_of before.system.now past).each))
-          (told_at before.system.now before.allowed.now before.format before.show past row)
+          (told_with before.system.now before.allowed.now before.format before.show past row)
           ∙ ap₂ (λ s l. s.text.items ++ l) p.seen_now (row-is before.format before.system.now before.allowed.now before.show past row) in (
             λ taken. ok-holds c.take.result done (t.kept past mine up) ∙ ap (λ s. watches_of s.now (row ∷ past)) p.system,
             subst (λ a. after.seen.now.counts ≡ counted_at before.system.now a.now past row before.seen.now.counts) p.allowed

@@ -1,0 +1,9 @@
+use Rattle.std.proofs.Common.{rules, ◌≡◌, ◌++◌, map}
+use Rattle.mcs_fields.specs.Fields.{field_of}
+use Rattle.mcs_check_lines.proofs.Values.{values-are}
+use Rattle.mcs_check_lines.proofs.pairs.put_row_with.Goals as goal
+
+pub returns-clause-ok : goal.returns-clause-ok
+returns-clause-ok c =
+    let are : map field_of c.as_slice.result.now ≡ map field_of c.args.fields.now ++ map field_of c.args.more.now = search rules in
+    rw (values-are c.as_slice.result.now _ are) at c.put_row.ensures.ok
