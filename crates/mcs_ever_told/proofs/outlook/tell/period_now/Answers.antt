@@ -1,4 +1,4 @@
-use Rattle.std.proofs.Common.{◌≡◌, ◌-◌, true, Option, refl, sym, subst, rules}
+use Rattle.std.proofs.Common.{◌≡◌, true, Option, refl, sym, subst, rules}
 use Rattle.std.specs.Prelude.{IfSome}
 use Rattle.mcs_system.specs.System.{System}
 use Rattle.mcs_ever.specs.Recurs.{IsClosed}
@@ -6,10 +6,10 @@ use Rattle.mcs_ever.specs.Closed.{has}
 use Rattle.mcs_ever_again.specs.declared.recurs.shifts.Shifts.{Shifts}
 use Rattle.mcs_ever_search.specs.Compared.{RecursSince}
 use Rattle.mcs_ever_told.proofs.Since.{has-recurred, recurs-here}
-use Rattle.mcs_ever_told.proofs.outlook.tell.told_now.Goals as goal
+use Rattle.mcs_ever_told.proofs.outlook.tell.period_now.Goals as goal
 
 pub returns : goal.returns
-returns c = λ horizon.
+returns c =
     let s = c.args.look.now.system.now in
     let run = c.args.look.now.search.now in
     let look = c.requires.look in
@@ -19,7 +19,8 @@ returns c = λ horizon.
     let F : Option Shifts → Type 0 = λ o. IfSome o (λ (shifts : Shifts). RecursSince run set shifts) in
     let since : RecursSince run set c.in-Some.shifts = subst F c.in-Some.is found in
     let finds : c.finds_again.result ≡ true = search rules in
-    let settled : c.are_settled.result ≡ true = search rules in
+    let misses : c.misses_are_told.result ≡ true = search rules in
+    let notes : c.notes_are_settled.result ≡ true = search rules in
     let recurred = has-recurred s run look set c.in-Some.shifts since
     (c.finds_again.ensures finds _ refl since.period (recurs-here s run look set c.in-Some.shifts since)) in
-    c.in_ok-told_for_ever.ensures horizon recurred (c.are_settled.ensures settled recurred)
+    record { recurred = recurred; misses = c.misses_are_told.ensures misses recurred; notes = c.notes_are_settled.ensures notes recurred }
