@@ -1,8 +1,8 @@
 #!/usr/bin/env python3
 """Measures how often mcscheck --forever finds a repetition, how late, and at which cost.
 
-The systems are random ones as of verdicts.py, a third as many random sets of periodic tasks with a clock each, and the files of this repository. A set
-is looked at up to a horizon. Where no repetition is found, though the rows of the set came ten times at its end, that is counted: there one may have
+The systems are random ones as of verdicts.py, a third as many random sets of periodic tasks with a clock each, as many of workers that share a
+notification or a lock, and the files of this repository. A set is looked at up to a horizon. Where no repetition is found, though the rows of the set came ten times at its end, that is counted: there one may have
 been missed, and --missed names each. A row of the schedule counts as an event.
 
 What it takes is held against a run of mcsim --show reports to the end of the latest first period, or to the horizon where a set does not repeat, both on
@@ -28,13 +28,14 @@ from checks.common import DATA, TOP, Count
 from checks.measure import forever_rows
 from checks.measure.measured import run_measured
 from checks.program import analyses, forever_reading as forever, verdicts
+from checks.program.forever import pool_of
 from checks.random_systems import text_of
 
 sys.path.insert(0, str(TOP / 'tools'))
 from mcsim_tools import writing
 
 PAGE = TOP / 'docs' / 'FOREVER.md'
-FOUND_HEAD = ['Systems', 'Sets', 'Repeat', 'Within', 'End of the first period', 'Rows up to then', 'Nothing ever found', 'Perhaps missed']
+FOUND_HEAD = ['Systems', 'Sets', 'Repeat', 'Within', 'End of the first period', 'Rows up to then', 'Nothing ever found', 'Unsettled', 'Perhaps missed']
 COST_HEAD = ['Systems', 'Runs', 'Reports: {}', 'Forever: {}', 'Together', 'Median', '9 of 10', 'Greatest']
 WITHIN = (100, 1000, 10_000)
 STATUSES = (0, 5, 6)
@@ -51,16 +52,19 @@ def texts(many: int, seed: int) -> Iterator[tuple[str, str, str]]:
     for number in range(many // 3):
         form = analyses.form_of(random.Random(f'{seed} {number}'), True)
         yield 'periodic tasks', f'tasks {number}', writing.system_text(form.tables())
+    for number in range(many // 3):
+        yield 'shared waits', f'pool {number}', text_of(pool_of(random.Random(f'{seed} {number}')))
     for file in sorted([*DATA.glob('*/*.toml'), *(TOP / 'examples' / 'systems').glob('*.toml')]):
         yield 'files', str(file.relative_to(TOP)), file.read_text(errors='replace')
 
 
 class Set(NamedTuple):
-    """A set of a system, where its first period ends if it repeats, its rows up to then, and whether a repetition may have been missed."""
+    """A set of a system, where its first period ends if it repeats, its rows up to then, whether a thread is unsettled, and whether a repetition may have been missed."""
 
     end: Optional[int]
     rows: int
     is_clean: bool
+    is_unsettled: bool
     may_be_missed: bool
 
 
@@ -116,8 +120,8 @@ class Table:
     def set_of(self, claim: forever.Claim, lines: Sequence[str]) -> Set:
         own = self.own(claim, lines)
         if claim.end is None:
-            return Set(None, len(own), False, forever_rows.period_of(own, self.words.horizon) is not None)
-        return Set(claim.end, sum(forever.moment_of(line) <= claim.end for line in own), claim.is_clean, False)
+            return Set(None, len(own), False, False, forever_rows.period_of(own, self.words.horizon) is not None)
+        return Set(claim.end, sum(forever.moment_of(line) <= claim.end for line in own), claim.is_clean, bool(claim.unsettled), False)
 
     # ---- what it takes
 
@@ -141,8 +145,8 @@ class Table:
             ends = [each.end for each in repeating if each.end is not None]
             within = ' / '.join(share(sum(end <= most for end in ends), len(sets)) for most in WITHIN)
             numbers = quartiles(ends), quartiles([each.rows for each in repeating])
-            clean, missed = sum(each.is_clean for each in sets), sum(each.may_be_missed for each in sets)
-            yield [kind, f'{len(sets):,}', share(len(repeating), len(sets)), within, *numbers, share(clean, len(sets)), f'{missed:,}']
+            clean, unsettled, missed = (sum(flags) for flags in zip(*((each.is_clean, each.is_unsettled, each.may_be_missed) for each in sets)))
+            yield [kind, f'{len(sets):,}', share(len(repeating), len(sets)), within, *numbers, share(clean, len(sets)), f'{unsettled:,}', f'{missed:,}']
 
     def cost_rows(self) -> Iterator[list[str]]:
         unit = 1e6 if self.words.instructions else 1
