@@ -2,13 +2,13 @@
 """Measures how often mcscheck --forever finds a repetition, how late, and at which cost.
 
 The systems are random ones as of verdicts.py, a third as many random sets of periodic tasks with a clock each, as many of workers that share a
-notification or a lock, and the files of this repository. A set is looked at up to a horizon. Where no repetition is found, though the rows of the set came ten times at its end, that is counted: there one may have
-been missed, and --missed names each. A row of the schedule counts as an event.
+notification or a lock, and the files of this repository. A set is looked at up to a horizon. Where no repetition is found, though the rows of the set
+came ten times at its end, that is counted: there one may have been missed, and --missed names each. A row of the schedule counts as an event.
 
 What it takes is held against a run of mcsim --show reports to the end of the latest first period, or to the horizon where a set does not repeat, both on
 one worker: of systems for which that run takes some hundredths of a second, CPU seconds, of each the least of three tries; nothing else
-should run meanwhile. With --instructions valgrind counts them instead, without those of a run to horizon 0, whatever else runs. With --write both tables
-are written to docs/FOREVER.md, between the lines that mark their place. The count of the last line is of runs of which two agree on the status."""
+should run meanwhile. With --instructions valgrind counts them instead, without those of a run to horizon 0, whatever else runs. With --write both tables,
+or the first one with --found, are written to docs/FOREVER.md, between the lines that mark their place. The count of the last line is of runs of which two agree on the status."""
 from __future__ import annotations
 
 import argparse
@@ -109,6 +109,8 @@ class Table:
             self.sets.setdefault(kind, []).append(found)
             if found.may_be_missed and self.words.missed:
                 print(f'{name}: cores {claim.cores}: rows come again from {forever_rows.period_of(self.own(claim, lines), self.words.horizon)}')
+        if self.words.found:
+            return
         cost = self.cost(file, far, ran.status)
         if cost.reports >= LEAST[self.words.instructions]:
             self.costs.setdefault(kind, []).append(cost)
@@ -158,7 +160,8 @@ class Table:
 
     def tables(self) -> list[str]:
         unit = '10^6' if self.words.instructions else 's'
-        return [table(FOUND_HEAD, self.found_rows()), table([name.format(unit) for name in COST_HEAD], self.cost_rows())]
+        found = [table(FOUND_HEAD, self.found_rows())]
+        return found if self.words.found else [*found, table([name.format(unit) for name in COST_HEAD], self.cost_rows())]
 
 
 def table(head: Sequence[str], rows: Iterator[list[str]]) -> str:
@@ -178,6 +181,7 @@ def asked() -> argparse.Namespace:
     parser.add_argument('--horizon', type=int, default=100_000, help='up to which a repetition is looked for (default 100000)')
     parser.add_argument('--missed', action='store_true', help='names the sets of which a repetition may have been missed')
     parser.add_argument('--instructions', action='store_true', help='counts instructions by valgrind')
+    parser.add_argument('--found', action='store_true', help='counts only what is found: the second table is not made')
     parser.add_argument('--write', action='store_true', help='writes the tables to docs/FOREVER.md')
     return parser.parse_args()
 
