@@ -1,19 +1,20 @@
 -- An outlook's invariant, from one call to the next.
-use Rattle.std.proofs.Common.{◌≡◌, ℕ, zero, suc, ◌+◌, ◌<◌, ◌≤◌, Bool, true, false, List, [], ◌∷◌, length, get_or, cond, replicate, Option, Some, None, Result, Ok, Err, ◌&&◌, ◌||◌, refl, sym, ap, subst, ◌∙◌, arith}
+use Rattle.std.proofs.Common.{◌≡◌, ℕ, zero, suc, ◌+◌, ◌<◌, ◌≤◌, ◌⊎◌, inl, inr, Bool, true, false, List, [], ◌∷◌, length, get_or, cond, replicate, Option, Some, None, Result, Ok, Err, ◌&&◌, ◌||◌, refl, sym, ap, subst, ◌∙◌, arith}
 use Rattle.std.specs.Prelude.{IfOk, nat_le}
 use Rattle.std.proofs.lemmas.Bool.Decides.{nat_tests}
 use Rattle.std.specs.List.{filter, range_with_len}
-use Rattle.std.proofs.lemmas.List.{get_or-map, get_or-replicate, length-map}
+use Rattle.std.proofs.lemmas.Bool.{cases_lt}
+use Rattle.std.proofs.lemmas.List.{get_or-map, get_or-replicate, get_or_past, length-map}
+use Rattle.std.proofs.lemmas.List.FromFn.{get_or-map-range_with_len, length-map-range_with_len}
 use Rattle.mcs_system.specs.System.{System}
-use Rattle.mcs_ever.specs.Recurs.{IsClosed}
 use Rattle.mcs_ever.specs.Closed.{has, AreLeastClosed}
 use Rattle.mcs_ever_told.specs.declared.outlook.sets.Group.{Group}
 use Rattle.mcs_ever_told.specs.declared.outlook.told.Known.{Known}
 use Rattle.mcs_ever_told.specs.declared.outlook.told.Told.{Told}
-use Rattle.mcs_ever_told.specs.Sets.{firsts, is_first}
+use Rattle.mcs_ever_told.specs.Sets.{set_has, have_one_set, own_of, firsts, is_first}
 use Rattle.mcs_ever_told.specs.Outlook.{IsTold, AreTold}
 use Rattle.mcs_ever_told.specs.stored.Groups.{group_of, groups_of}
-use Rattle.mcs_ever_told.specs.stored.Looks.{AreClosed, AreTrueOf, AreToldSoFar, AreToldBelow}
+use Rattle.mcs_ever_told.specs.stored.Looks.{IsClosedGroup, AreClosed, AreTrueOf, AreToldSoFar, AreToldBelow}
 use Rattle.mcs_ever_told.specs.stored.Left.{unknown, is_missing, is_any_left}
 
 -- a number that passes a test is among those that were tried
@@ -28,6 +29,26 @@ module _ (p : ℕ → Bool) where
   kept-below zero a m d e i l = absurd (omega (arith, l))
   kept-below (suc n) a m d e i l =
       head-of (p a) a m (filter p (range_with_len (a + 1) n)) d (omega (arith, e)) (kept-below n (a + 1) m d (omega (arith, e))) i l
+
+-- the cores that are reported with a set are some of its own
+no-core : (b : Bool) → b ≡ true → b ≡ false → ⊥
+no-core true e f = cc
+no-core false e f = cc
+
+both-of : (a b : Bool) → (a && b) ≡ true → a ≡ true
+both-of true b e = refl
+both-of false b e = e
+
+own-within : (sets : List (List Bool)) (core other : ℕ) → has (own_of sets core) other ≡ true → has (get_or sets core []) other ≡ true
+own-within sets core other own = by (cases_lt other 64)
+  where
+    by : (other < 64) ⊎ (64 ≤ other) → has (get_or sets core []) other ≡ true
+    by (inl l) =
+        both-of (set_has sets core other) (set_has sets other core)
+        (sym (get_or-map-range_with_len (have_one_set sets core) 0 64 other other false l (omega arith)) ∙ own)
+    by (inr m) =
+        let many : length (own_of sets core) ≤ other = omega (arith, m, length-map-range_with_len (have_one_set sets core) 0 64) in
+        absurd (no-core (has (own_of sets core) other) own (get_or_past (own_of sets core) other false many))
 
 module _ (sets : List (List Bool)) (groups : List Group) (is : groups ≡ groups_of sets) where
   many-groups : length groups ≡ length (firsts sets)
@@ -46,10 +67,10 @@ module _ (sets : List (List Bool)) (groups : List Group) (is : groups ≡ groups
   -- the sets of the groups are closed: no core outside signals one of them
   pub groups-closed : (system : System) → AreLeastClosed system sets → AreClosed system groups
   groups-closed system closed i d l =
-      let P : Group → Type 0 = λ group. IsClosed system (has group.set) in
       let core = get_or (firsts sets) i 0 in
       let known : get_or (firsts sets) i 0 < system.cores = (let m = closed.many in omega (arith, m, first-below i l)) in
-      subst P (sym (group-at i d l)) (closed.each (get_or (firsts sets) i 0) known).closed
+      subst (IsClosedGroup system) (sym (group-at i d l))
+      (record { closed = (closed.each (get_or (firsts sets) i 0) known).closed; within = own-within sets (get_or (firsts sets) i 0) })
 
   -- the results of all sets are true, in order
   pub all-told : (system : System) (allowed : List Bool) (horizon : ℕ) (all : List Told) →

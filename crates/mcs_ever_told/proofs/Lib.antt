@@ -9,3 +9,6 @@ pub mod Flags
 pub mod Since
 pub mod Telling
 pub mod Keeping
+pub mod Growing
+pub mod Counting
+pub mod ForEver

@@ -1,5 +1,6 @@
 -- The results of a check for all time, and what they mean.
 use Rattle.std.specs.Prelude.{◌≡◌, ◌≢◌, ℕ, ◌+◌, ◌-◌, ◌<◌, ◌≤◌, Bool, true, false, List, [], ◌∷◌, ◌++◌, length, get_or, Option, Some, None}
+use Rattle.std.specs.List.{AllByRecursion}
 use Rattle.mcs_system.specs.System.{System, thread_part}
 use Rattle.mcs_core.specs.Clock.{schedule}
 use Rattle.mcs_verdict.specs.declared.finding.Finding.{Finding}
@@ -18,6 +19,7 @@ use Rattle.mcs_ever_told.specs.declared.line.Line.TheVariants as line
 use Rattle.mcs_ever_told.specs.declared.outlook.told.Period.{Period}
 use Rattle.mcs_ever_told.specs.declared.outlook.told.Told.{Told}
 use Rattle.mcs_ever_told.specs.Sets.{own_of, firsts}
+use Rattle.mcs_ever_told.specs.ForEver.{HoldsForEver}
 use Rattle.mcs_ever_told.specs.Lines.{count_lines, end_line, end_lines, thread_lines, threads_so_far, unsettled_lines, clean_lines, miss_line, lost_line, is_own_thread, is_own_note}
 
 module _ (system : System) where
@@ -142,12 +144,14 @@ module _ (system : System) (allowed : List Bool) (horizon : ℕ) (set own : List
   unsettled_of unsettled (Some p) = unsettled_lines system own unsettled
   unsettled_of unsettled None = []
 
-  -- the set recurs with this period, in its findings, too; a thread or a notification without a
-  -- finding by the end of the first period never has one, but for these threads
+  -- the set recurs with this period, in its findings, too; each of its lines holds for ever; a
+  -- thread or a notification without a finding by the end of the first period never has one, but
+  -- for these threads
   pub record Repeats (unsettled : List Bool) (p : Period) : Type 0 where
     pub shifts : Shifts
     pub by : shifts.by ≡ p.ticks
     pub recurs : FindingsRecur system (has set) shifts p.from
+    pub lines_hold : AllByRecursion (HoldsForEver system p) (period_lines unsettled p)
     pub settled : AreSettled system allowed own p unsettled
     pub clean : found_in_period system allowed own p ≡ [] → unsettled_lines system own unsettled ≡ [] →
         NothingIsEverFound system allowed own p.from

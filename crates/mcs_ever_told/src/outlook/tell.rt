@@ -1,11 +1,9 @@
 //! The result of a set of cores.
 ghost use Rattle.std.specs.Prelude.{◌≡◌, ◌+◌, ◌-◌, ◌<◌, ◌≤◌, ◌++◌, ◌∷◌, [], ℕ, List, length, get_or, None, replicate, OnOk, IfOk, IfSome};
-ghost use Rattle.mcs_ever.specs.Recurs.{IsClosed};
-ghost use Rattle.mcs_ever.specs.Closed.{has};
 ghost use Rattle.mcs_ever_told.specs.declared.line.Line.{Line as TheLine};
 ghost use Rattle.mcs_ever_told.specs.Lines.{clean_lines};
 ghost use Rattle.mcs_ever_told.specs.Outlook.{IsTold};
-ghost use Rattle.mcs_ever_told.specs.stored.Looks.{IsLook, CanBeTold, AreClosed, AreTrueOf, AreToldSoFar, AreToldBelow};
+ghost use Rattle.mcs_ever_told.specs.stored.Looks.{IsLook, CanBeTold, IsClosedGroup, AreClosed, AreTrueOf, AreToldSoFar, AreToldBelow};
 ghost use Rattle.mcs_ever_told.specs.stored.Left.{unknown, best_of, is_any_left};
 
 use crate::line::Line;
@@ -18,7 +16,9 @@ use crate::outlook::settle::{
     misses_are_told, notes_are_settled, threads_are_settled, unsettled_flags, unsettled_threads,
 };
 use crate::outlook::told::{Known, Period, Told};
-use mcs_ever::CoreSet;
+use mcs_ever::{CoreSet, no_round_ends_again};
+use mcs_ever_again::rows_tell_turns;
+use mcs_ever_found::{findings_repeat, greatest_is_forever, never_spent};
 use mcs_ticks::NoMemory;
 use mcs_verdict_laws::schedules_are_in_order;
 use std::alloc::Global;
@@ -107,10 +107,16 @@ fn told_for_ever(alloc: Global, look: &Look<'_>, group: &Group, by: u64) -> Resu
 /// Returns the period of a closed set that recurs at this moment, in its findings, too.
 fn period_now(alloc: Global, look: &Look<'_>, group: &Group) -> Result<Option<u64>, NoMemory>
     requires look { IsLook look.now.system.now look.now.search.now }
-    requires closed { IsClosed look.now.system.now (has group.now.set) }
+    requires closed { IsClosedGroup look.now.system.now group.now }
     ensures { IfOk result (λ by. IfSome by
         (CanBeTold look.now.system.now look.now.search.now look.now.allowed.now group.now)) }
 {
+    let _parts = look.system.parts();
+    rows_tell_turns();
+    findings_repeat();
+    greatest_is_forever();
+    never_spent();
+    no_round_ends_again();
     let Some(shifts) = look.search.recurs(alloc, &group.set)? else {
         return Ok(None);
     };
@@ -144,7 +150,7 @@ fn tell_one(
     known: &mut Known,
 ) -> Result<(), NoMemory>
     requires look { IsLook look.now.system.now look.now.search.now }
-    requires closed { IsClosed look.now.system.now (has group.now.set) }
+    requires closed { IsClosedGroup look.now.system.now group.now }
     ensures { (horizon : ℕ) → AreTrueOf look.now.system.now look.now.allowed.now horizon group.now known.old →
         AreTrueOf look.now.system.now look.now.allowed.now horizon group.now known.new }
 {
