@@ -11,4 +11,5 @@ pub mod Telling
 pub mod Keeping
 pub mod Growing
 pub mod Counting
+pub mod Reaching
 pub mod ForEver

@@ -13,14 +13,14 @@ use Rattle.mcs_ever_again.specs.Period.{told_between}
 use Rattle.mcs_ever_found.specs.Recurs.{past_before, FindingsRecur}
 use Rattle.mcs_ever_found.specs.laws.Never.{has_lost_of, told_up_to, NothingIsFoundOf}
 use Rattle.mcs_ever_found.specs.Doings.{doings_of}
-use Rattle.mcs_ever_found.specs.Course.{Course, course_of}
+use Rattle.mcs_ever_found.specs.Course.{misses, losses, Course, course_of}
 use Rattle.mcs_ever_told.specs.declared.line.Line.{Line}
 use Rattle.mcs_ever_told.specs.declared.line.Line.TheVariants as line
 use Rattle.mcs_ever_told.specs.declared.outlook.told.Period.{Period}
 use Rattle.mcs_ever_told.specs.declared.outlook.told.Told.{Told}
 use Rattle.mcs_ever_told.specs.Sets.{own_of, firsts}
-use Rattle.mcs_ever_told.specs.ForEver.{HoldsForEver}
-use Rattle.mcs_ever_told.specs.Lines.{count_lines, end_line, end_lines, thread_lines, threads_so_far, unsettled_lines, clean_lines, miss_line, lost_line, is_own_thread, is_own_note}
+use Rattle.mcs_ever_told.specs.ForEver.{RowsRepeat, IsOften, ThreadIsSo}
+use Rattle.mcs_ever_told.specs.Lines.{count_lines, end_told, end_line, end_lines, thread_lines, threads_so_far, unsettled_lines, clean_lines, miss_line, lost_line, is_own_thread, is_own_note}
 
 module _ (system : System) where
   -- the counts of the rows before a moment, and of those up to a horizon
@@ -112,6 +112,22 @@ pub record NothingIsEverFound (system : System) (allowed own : List Bool) (from 
   pub notes : (note : ℕ) → note < length system.notes → is_own_note system own note ≡ true → has allowed note ≡ false →
       NeverLoses system note
 
+module _ (system : System) (allowed own : List Bool) (p : Period) where
+  -- what each line of a set that recurs says. `overdue` and `never` are about one moment, all others
+  -- about all horizons. Such a set has no line of a repetition that was not found
+  abbrev pub HoldsForEver : Line → Type 0
+  HoldsForEver (line.Repeats cores from period) = RowsRepeat system cores from period
+  HoldsForEver (line.Miss thread often) = IsOften system p (misses system thread) often
+  HoldsForEver (line.Lost note often) = IsOften system p (losses system note) often
+  HoldsForEver (line.Overdue thread moment) = end_told moment thread (unended_at system moment thread) ≡ Some (line.Overdue thread moment)
+  HoldsForEver (line.Never thread moment) = end_told moment thread (unended_at system moment thread) ≡ Some (line.Never thread moment)
+  HoldsForEver (line.Thread thread response never_throttled silent_from) = ThreadIsSo system p thread response never_throttled silent_from
+  HoldsForEver (line.Unsettled thread) = NeverMisses system thread
+  HoldsForEver (line.Clean cores) = NothingIsEverFound system allowed own p.from
+  HoldsForEver (line.Open cores horizon) = ⊥
+  HoldsForEver (line.ThreadSoFar thread response) = ⊥
+  HoldsForEver (line.Sets totals) = ⊥
+
 -- notifications that may lose signals, the horizon, a set of cores, and those of its cores that are
 -- reported with it
 module _ (system : System) (allowed : List Bool) (horizon : ℕ) (set own : List Bool) where
@@ -151,7 +167,7 @@ module _ (system : System) (allowed : List Bool) (horizon : ℕ) (set own : List
     pub shifts : Shifts
     pub by : shifts.by ≡ p.ticks
     pub recurs : FindingsRecur system (has set) shifts p.from
-    pub lines_hold : AllByRecursion (HoldsForEver system p) (period_lines unsettled p)
+    pub lines_hold : AllByRecursion (HoldsForEver system allowed own p) (period_lines unsettled p)
     pub settled : AreSettled system allowed own p unsettled
     pub clean : found_in_period system allowed own p ≡ [] → unsettled_lines system own unsettled ≡ [] →
         NothingIsEverFound system allowed own p.from

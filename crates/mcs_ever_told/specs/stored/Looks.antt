@@ -7,8 +7,7 @@ use Rattle.mcs_ever.specs.Closed.{has}
 use Rattle.mcs_verdict_laws.specs.laws.Horizons.{WaitsAlone}
 use Rattle.mcs_ever_found.specs.Recurs.{EndRecurs, FindingsRecur}
 use Rattle.mcs_ever_search.specs.Compared.{Compared}
-use Rattle.mcs_ever_told.specs.ForEver.{HoldsForEver}
-use Rattle.mcs_ever_told.specs.Outlook.{unended_at, MissesAreTold, NoteIsSettled, period_lines, IsTold}
+use Rattle.mcs_ever_told.specs.Outlook.{unended_at, MissesAreTold, NoteIsSettled, AreSettled, HoldsForEver, period_lines, IsTold}
 use Rattle.mcs_ever_told.specs.declared.outlook.sets.Group.{Group}
 use Rattle.mcs_ever_told.specs.declared.outlook.told.Known.{Known}
 use Rattle.mcs_ever_told.specs.declared.outlook.told.Period.{Period}
@@ -32,12 +31,12 @@ module _ (system : System) where
     pub recurs : FindingsRecur system (has set) shifts search.kept
     pub period : search.kept + by ≡ search.clock
 
-  -- the set has recurred; each of its lines holds for ever; its misses are reported, and its
-  -- notifications are settled
+  -- the set has recurred; its misses are reported, and its notifications are settled. Each of its
+  -- lines holds for ever if its threads are settled, too
   pub record CanBeTold (search : Compared) (allowed : List Bool) (group : Group) (by : ℕ) : Type 0 where
     pub recurred : HasRecurred search group.set by
-    pub lines_hold : (horizon : ℕ) (unsettled : List Bool) →
-        AllByRecursion (HoldsForEver system (period_of search by))
+    pub lines_hold : (horizon : ℕ) (unsettled : List Bool) → AreSettled system allowed group.own (period_of search by) unsettled →
+        AllByRecursion (HoldsForEver system allowed group.own (period_of search by))
         (period_lines system allowed horizon group.set group.own unsettled (period_of search by))
     pub misses : (thread : ℕ) → thread < length system.threads → MissesAreTold system group.own (period_of search by) thread
     pub notes : (note : ℕ) → note < length system.notes → NoteIsSettled system allowed group.own (period_of search by) note

@@ -16,7 +16,7 @@ use crate::outlook::settle::{
     misses_are_told, notes_are_settled, threads_are_settled, unsettled_flags, unsettled_threads,
 };
 use crate::outlook::told::{Known, Period, Told};
-use mcs_ever::{CoreSet, no_round_ends_again};
+use mcs_ever::{CoreSet, no_round_ends_again, turns_repeat};
 use mcs_ever_again::rows_tell_turns;
 use mcs_ever_found::{findings_repeat, greatest_is_forever, never_spent};
 use mcs_ticks::NoMemory;
@@ -113,6 +113,7 @@ fn period_now(alloc: Global, look: &Look<'_>, group: &Group) -> Result<Option<u6
 {
     let _parts = look.system.parts();
     rows_tell_turns();
+    turns_repeat();
     findings_repeat();
     greatest_is_forever();
     never_spent();

@@ -28,9 +28,9 @@ returns c =
     record {
       recurred = recurred;
       lines_hold =
-          lines-hold s c.parts-parts.ensures.well_formed set c.args.group.now.own c.requires.closed.within recurred.shifts
-          (period_of run c.in-Some.shifts.by) recurred.by_is recurred.recurs c.findings_repeat.ensures c.greatest_is_forever.ensures c.never_spent.ensures
-          c.no_round_ends_again.ensures (c.rows_tell_turns.ensures s c.parts-parts.ensures.well_formed) c.args.look.now.allowed.now;
+          lines-hold s c.parts-parts.ensures.well_formed c.args.look.now.allowed.now set c.args.group.now.own c.requires.closed.within recurred.shifts
+          (period_of run c.in-Some.shifts.by) recurred.by_is recurred.recurs c.turns_repeat.ensures c.findings_repeat.ensures c.greatest_is_forever.ensures c.never_spent.ensures
+          c.no_round_ends_again.ensures (c.rows_tell_turns.ensures s c.parts-parts.ensures.well_formed);
       misses = c.misses_are_told.ensures misses recurred;
       notes = c.notes_are_settled.ensures notes recurred;
     }

@@ -67,7 +67,7 @@ returns c = λ horizon can.
     (record {
       cores = refl;
       flags = flags;
-      so = record { shifts = recurred.shifts; by = recurred.by_is; recurs = recurred.recurs; lines_hold = can.lines_hold horizon flags; settled = settled; clean = clean s allowed own p flags settled };
+      so = record { shifts = recurred.shifts; by = recurred.by_is; recurs = recurred.recurs; lines_hold = can.lines_hold horizon flags settled; settled = settled; clean = clean s allowed own p flags settled };
       lines = told.lines_are;
       findings = told.findings_are;
       unsettled = told.others_are;
