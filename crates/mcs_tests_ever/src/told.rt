@@ -64,7 +64,7 @@ thread = [
 ]
 "#;
 
-/// A has exhausted its budget when a word arrives at 7, and B takes it at 14. It is so again each 30
+/// A has exhausted its budget when a word arrives at 7, and B takes it at 14, and so on each 30
 /// ticks. A is overdue at 12 and 13, at 42 and 43, and so on.
 const TAKEN: &str = r#"
 version = 1
@@ -155,8 +155,8 @@ fn a_loop_that_calls_a_server_is_told_for_ever(rt: HostRuntime) -> Result<(), Fa
 }
 
 /// The workers take turns: the core at 43 is that at 23, which is kept after 15 busy moments. The
-/// word of 1 is taken at 3, so the first response is 3. By their scripts either one may take each
-/// word: the set recurs, and neither is settled.
+/// word of 1 is set until 3, and its job ends at 4. Either worker may take a word by its script, so
+/// neither is settled.
 #[test]
 fn a_pool_recurs_and_is_not_settled(rt: HostRuntime) -> Result<(), Fail> {
     let text = lines(rt.alloc(), POOL, 1000)?;
@@ -184,7 +184,7 @@ fn a_pool_is_told_so_far(rt: HostRuntime) -> Result<(), Fail> {
     Ok(())
 }
 
-/// Each of the two holds the lock once in 10 ticks. A word of a free lock may be taken by either, so
+/// Each of the two holds the lock once in 10 ticks. Either may take the word of a free lock, so
 /// neither is settled; the thread that frees it first has no deadline.
 #[test]
 fn a_lock_that_is_taken_first_is_not_settled(rt: HostRuntime) -> Result<(), Fail> {
@@ -208,8 +208,8 @@ fn a_period_leaves_a_thread_unsettled(rt: HostRuntime) -> Result<(), Fail> {
     Ok(())
 }
 
-/// A later period ends at 103, at which A is overdue: it has a finding and is settled. That period
-/// is reported, and not the earlier one.
+/// A later period ends at 103, at which A is overdue: it has a finding and is settled. The earlier
+/// period is not reported.
 #[test]
 fn a_later_period_settles_a_thread(rt: HostRuntime) -> Result<(), Fail> {
     let all = told(rt.alloc(), TAKEN, 1000)?;
