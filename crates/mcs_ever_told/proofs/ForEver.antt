@@ -2,7 +2,6 @@
 use Rattle.std.proofs.Common.{◌≡◌, ℕ, zero, suc, ◌+◌, ◌-◌, ◌*◌, ◌<◌, ◌≤◌, Bool, true, false, cond, ◌||◌, ◌&&◌, List, [], ◌∷◌, ◌++◌, length, map, get_or, Option, Some, None, refl, sym, ap, subst, ◌∙◌, arith}
 use Rattle.std.specs.Prelude.{◌==◌, ◌^◌, not, IfSome}
 use Rattle.std.specs.List.{AllByRecursion, filter, filter_map, list_any, range_with_len}
-use Rattle.std.proofs.lemmas.Bool.{cases_lt}
 use Rattle.std.proofs.lemmas.Bool.Decides.{nat_tests}
 use Rattle.std.proofs.lemmas.List.FromFn.{get_or-map-range_with_len}
 use Rattle.mcs_stretch.proofs.Later.{takes_time}
@@ -35,7 +34,7 @@ use Rattle.mcs_ever_told.specs.declared.line.Line.TheVariants as line
 use Rattle.mcs_ever_told.specs.declared.outlook.told.Period.{Period}
 use Rattle.mcs_ever_told.specs.stored.Told.{if_some}
 use Rattle.mcs_ever_told.specs.Lines.{is_some, silent_from, end_told, end_line, misses_of, losses_of, miss_line, lost_line, thread_line, unsettled_line, clean_lines, is_own_thread, is_own_note, of_threads, of_notes, count_lines, end_lines, thread_lines, unsettled_lines}
-use Rattle.mcs_ever_told.specs.ForEver.{RowsRepeat, IsNeverLonger, IsNeverThrottled, IsSilentFrom, ThreadIsSo, Happens, IsOften}
+use Rattle.mcs_ever_told.specs.ForEver.{RowsRepeat, IsNeverLonger, IsNeverThrottled, IsSilentFrom, Happens}
 use Rattle.mcs_ever_told.specs.Outlook.{course_before, course_up_to, ended_between, unended_at, last_of, AreSettled, found_in_period, NothingIsEverFound, HoldsForEver, period_lines}
 use Rattle.mcs_ever_told.proofs.Numbers.{told-more}
 use Rattle.mcs_ever_told.proofs.Since.{rows-on}
@@ -280,7 +279,9 @@ module _ (system : System) (well : IsWellFormed system) (allowed set own : List 
       let found = all-both Holds (count_lines system own true before after allowed) (end_lines system own (last_of p) (unended_at system (last_of p))) counts ends in
       let rest = all-both Holds (unsettled_lines system own unsettled) (clean_lines set (found_in_period system allowed own p ++ unsettled_lines system own unsettled)) others last in
       let more = all-both Holds (thread_lines system own after p.from (ended_between system p.from (p.from + p.ticks)))
-      (unsettled_lines system own unsettled ++ clean_lines set (found_in_period system allowed own p ++ unsettled_lines system own unsettled)) threads rest in
-      (repeats-so turns_law, all-both Holds (found_in_period system allowed own p)
-      (thread_lines system own after p.from (ended_between system p.from (p.from + p.ticks))
-      ++ (unsettled_lines system own unsettled ++ clean_lines set (found_in_period system allowed own p ++ unsettled_lines system own unsettled))) found more)
+      (unsettled_lines system own unsettled ++ clean_lines set (found_in_period system allowed own p ++ unsettled_lines system own unsettled)) threads rest in (
+        repeats-so turns_law,
+        all-both Holds (found_in_period system allowed own p)
+            (thread_lines system own after p.from (ended_between system p.from (p.from + p.ticks))
+            ++ (unsettled_lines system own unsettled ++ clean_lines set (found_in_period system allowed own p ++ unsettled_lines system own unsettled))) found more,
+      )

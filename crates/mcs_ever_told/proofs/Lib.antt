@@ -1,5 +1,6 @@
 mod Sets
 mod Worked
+mod WorkedForEver
 pub mod Numbers
 pub mod Places
 pub mod Counted
