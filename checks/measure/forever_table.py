@@ -1,14 +1,14 @@
 #!/usr/bin/env python3
 """Measures how often mcscheck --forever finds a repetition, how late, and at which cost.
 
-The systems are random ones as of verdicts.py, a third as many random sets of periodic tasks with a clock each, and the files of this repository. A set
-is looked at up to a horizon. Where no repetition is found, though the rows of the set came ten times at its end, that is counted: there one may have
-been missed, and --missed names each. A row of the schedule counts as an event.
+The systems are random ones as of verdicts.py, a third as many random sets of periodic tasks with a clock each, as many of workers that share a
+notification or a lock, and the files of this repository. A set is looked at up to a horizon. Where no repetition is found, though the rows of the set
+came ten times at its end, that is counted: there one may have been missed, and --missed names each. A row of the schedule counts as an event.
 
 What it takes is held against a run of mcsim --show reports to the end of the latest first period, or to the horizon where a set does not repeat, both on
 one worker: of systems for which that run takes some hundredths of a second, CPU seconds, of each the least of three tries; nothing else
-should run meanwhile. With --instructions valgrind counts them instead, without those of a run to horizon 0, whatever else runs. With --write both tables
-are written to docs/FOREVER.md, between the lines that mark their place. The count of the last line is of runs of which two agree on the status."""
+should run meanwhile. With --instructions valgrind counts them instead, without those of a run to horizon 0, whatever else runs. With --write both tables,
+or the first one with --found, are written to docs/FOREVER.md, between the lines that mark their place. The count of the last line is of runs of which two agree on the status."""
 from __future__ import annotations
 
 import argparse
@@ -28,13 +28,14 @@ from checks.common import DATA, TOP, Count
 from checks.measure import forever_rows
 from checks.measure.measured import run_measured
 from checks.program import analyses, forever_reading as forever, verdicts
+from checks.program.forever import pool_of
 from checks.random_systems import text_of
 
 sys.path.insert(0, str(TOP / 'tools'))
 from mcsim_tools import writing
 
 PAGE = TOP / 'docs' / 'FOREVER.md'
-FOUND_HEAD = ['Systems', 'Sets', 'Repeat', 'Within', 'End of the first period', 'Rows up to then', 'Nothing ever found', 'Perhaps missed']
+FOUND_HEAD = ['Systems', 'Sets', 'Repeat', 'Within', 'End of the first period', 'Rows up to then', 'Nothing ever found', 'Unsettled', 'Perhaps missed']
 COST_HEAD = ['Systems', 'Runs', 'Reports: {}', 'Forever: {}', 'Together', 'Median', '9 of 10', 'Greatest']
 WITHIN = (100, 1000, 10_000)
 STATUSES = (0, 5, 6)
@@ -51,16 +52,19 @@ def texts(many: int, seed: int) -> Iterator[tuple[str, str, str]]:
     for number in range(many // 3):
         form = analyses.form_of(random.Random(f'{seed} {number}'), True)
         yield 'periodic tasks', f'tasks {number}', writing.system_text(form.tables())
+    for number in range(many // 3):
+        yield 'shared waits', f'pool {number}', text_of(pool_of(random.Random(f'{seed} {number}')))
     for file in sorted([*DATA.glob('*/*.toml'), *(TOP / 'examples' / 'systems').glob('*.toml')]):
         yield 'files', str(file.relative_to(TOP)), file.read_text(errors='replace')
 
 
 class Set(NamedTuple):
-    """A set of a system, where its first period ends if it repeats, its rows up to then, and whether a repetition may have been missed."""
+    """A set of a system, where its first period ends if it repeats, its rows up to then, whether a thread is unsettled, and whether a repetition may have been missed."""
 
     end: Optional[int]
     rows: int
     is_clean: bool
+    is_unsettled: bool
     may_be_missed: bool
 
 
@@ -105,6 +109,8 @@ class Table:
             self.sets.setdefault(kind, []).append(found)
             if found.may_be_missed and self.words.missed:
                 print(f'{name}: cores {claim.cores}: rows come again from {forever_rows.period_of(self.own(claim, lines), self.words.horizon)}')
+        if self.words.found:
+            return
         cost = self.cost(file, far, ran.status)
         if cost.reports >= LEAST[self.words.instructions]:
             self.costs.setdefault(kind, []).append(cost)
@@ -116,8 +122,8 @@ class Table:
     def set_of(self, claim: forever.Claim, lines: Sequence[str]) -> Set:
         own = self.own(claim, lines)
         if claim.end is None:
-            return Set(None, len(own), False, forever_rows.period_of(own, self.words.horizon) is not None)
-        return Set(claim.end, sum(forever.moment_of(line) <= claim.end for line in own), claim.is_clean, False)
+            return Set(None, len(own), False, False, forever_rows.period_of(own, self.words.horizon) is not None)
+        return Set(claim.end, sum(forever.moment_of(line) <= claim.end for line in own), claim.is_clean, bool(claim.unsettled), False)
 
     # ---- what it takes
 
@@ -141,8 +147,8 @@ class Table:
             ends = [each.end for each in repeating if each.end is not None]
             within = ' / '.join(share(sum(end <= most for end in ends), len(sets)) for most in WITHIN)
             numbers = quartiles(ends), quartiles([each.rows for each in repeating])
-            clean, missed = sum(each.is_clean for each in sets), sum(each.may_be_missed for each in sets)
-            yield [kind, f'{len(sets):,}', share(len(repeating), len(sets)), within, *numbers, share(clean, len(sets)), f'{missed:,}']
+            clean, unsettled, missed = (sum(flags) for flags in zip(*((each.is_clean, each.is_unsettled, each.may_be_missed) for each in sets)))
+            yield [kind, f'{len(sets):,}', share(len(repeating), len(sets)), within, *numbers, share(clean, len(sets)), f'{unsettled:,}', f'{missed:,}']
 
     def cost_rows(self) -> Iterator[list[str]]:
         unit = 1e6 if self.words.instructions else 1
@@ -154,7 +160,8 @@ class Table:
 
     def tables(self) -> list[str]:
         unit = '10^6' if self.words.instructions else 's'
-        return [table(FOUND_HEAD, self.found_rows()), table([name.format(unit) for name in COST_HEAD], self.cost_rows())]
+        found = [table(FOUND_HEAD, self.found_rows())]
+        return found if self.words.found else [*found, table([name.format(unit) for name in COST_HEAD], self.cost_rows())]
 
 
 def table(head: Sequence[str], rows: Iterator[list[str]]) -> str:
@@ -174,6 +181,7 @@ def asked() -> argparse.Namespace:
     parser.add_argument('--horizon', type=int, default=100_000, help='up to which a repetition is looked for (default 100000)')
     parser.add_argument('--missed', action='store_true', help='names the sets of which a repetition may have been missed')
     parser.add_argument('--instructions', action='store_true', help='counts instructions by valgrind')
+    parser.add_argument('--found', action='store_true', help='counts only what is found: the second table is not made')
     parser.add_argument('--write', action='store_true', help='writes the tables to docs/FOREVER.md')
     return parser.parse_args()
 

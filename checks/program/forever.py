@@ -1,5 +1,5 @@
 #!/usr/bin/env python3
-"""Checks that claims of mcscheck --forever hold for three more periods, on 100 random systems and some whose findings are known.
+"""Checks that claims of mcscheck --forever hold for three more periods, on 100 random systems, 20 of shared waits, and some whose findings are known.
 
 Of each set of cores that is said to repeat, mcsim runs three more periods: their rows are those of the first one, later, and their missed deadlines and
 lost signals are as many. All lines are those of a second, plain reading (`checks/program/forever_reading.py`) of these rows, byte by byte, as text and as JSON,
@@ -33,7 +33,7 @@ KNOWN = {
     SYSTEMS / 'car_gateway_as_found.toml': (3000, None, {'miss', 'lost', 'overdue'}),
 }
 # A's word of 16, 56, .. is held while A waits for its budget, and B takes it at 26, 66, ..: from 21 to 25 a round of A is overdue that never ends, which the
-# ends of no period tell. So nothing is told to be found, nor that nothing ever is
+# ends of no period tell. So nothing is told to be found, nor that nothing ever is: A is not settled
 TAKEN = '''version = 1
 cores = 2
 delay = 1
@@ -60,7 +60,8 @@ SEEN = (
     'status 0', 'status 1', 'status 5', 'status 6', 'a set of several cores', 'a core of a larger set', 'repeats', 'open', 'at rest', 'rounds that go on',
     'miss in each period', 'miss before alone', 'miss so far', 'lost in each period', 'lost before alone', 'lost so far', 'overdue', 'overdue so far',
     'never', 'never so far', 'greatest', 'no greatest', 'throttled never', 'throttled', 'ends no round', 'ends rounds', 'clean', 'a lost signal that is allowed',
-    'an order', 'interrupts without end', 'interrupts that ended', 'a server that is entered', 'clean without a deadline',
+    'an order', 'interrupts without end', 'interrupts that ended', 'a server that is entered', 'clean without a deadline', 'a thread that is not settled',
+    'a finding beside a thread that is not settled', 'a worker that is settled',
 )
 
 
@@ -127,6 +128,8 @@ class Trial:
             self.seen['a core of a larger set'] += each.group.own != each.group.cores
             self.seen['open' if so_far else 'repeats'] += 1
             self.seen['clean'] += each.claim.is_clean
+            self.seen['a thread that is not settled'] += bool(each.claim.unsettled)
+            self.seen['a worker that is settled'] += any(name.startswith('Worker') and name not in each.claim.unsettled for name in each.own)
             self.seen['a lost signal that is allowed'] += each.is_allowed(allowed)
             self.seen['an order'] += bool(each.tables.get('order')) and not so_far
             self.seen['interrupts without end'] += not so_far and any(row.kind == 'interrupt' for row in each.rows_in(0))
@@ -137,6 +140,7 @@ class Trial:
                 self.seen['rounds that go on'] += bool(each.numbers(0))
                 # what is found at no horizon that was tried, and not said to be found at none
                 self.seen['not said to be clean'] += not each.claim.is_clean and not list(each.not_clean(allowed))
+                self.seen['a finding beside a thread that is not settled'] += bool(each.claim.unsettled) and bool(list(each.findings(allowed)))
             for values in each.values(allowed):
                 self.tell_line(values, so_far)
 
@@ -166,7 +170,7 @@ class Trial:
     def taken(self) -> None:
         """A round that is overdue now and then, and neither ends nor is overdue at the end of a period."""
         told = self.agrees(System('taken', TAKEN, 1000))
-        self.count.expect(f'taken: {[each.claim for each in told]}', [each.claim.is_clean for each in told] == [False, True])
+        self.count.expect(f'taken: {[each.claim for each in told]}', [(each.claim.is_clean, each.claim.unsettled) for each in told] == [(False, ('A',)), (True, ())])
         ends = [common.run([self.checker, f'--horizon={horizon}'], TAKEN.encode()).status for horizon in (1000, 1022)]
         self.count.expect(f'taken: status {ends} at horizons 1000 and 1022', ends == [0, 5])
 
@@ -178,6 +182,20 @@ class Trial:
             self.count.expect(f'--forever {" ".join(words)}: {ran}', is_good)
         ran = common.run([self.checker, file, '--forever', '--allow-lost=tik'])
         self.count.expect(f'a notification that is not there: {ran}', ran == Ran(2, b'', reading.unknown_note('tik', ['tick']).encode()))
+
+
+def pool_of(rng: random.Random) -> Tables:
+    """Workers of one core whose scripts begin with the same wait: for words of a clock on this core or another one, or for a lock."""
+    cores, period, is_lock = rng.randint(1, 2), rng.choice((10, 20, 40)), rng.random() < 0.3
+    behind = ['signal jobs 1', 'yield'] if is_lock else []
+    then: list[str] = rng.choice([[], ['compute 1', 'signal jobs 1'], ['yield']])
+    contexts = [{'name': 'clock', 'core': cores - 1, 'budget': rng.randint(1, 3), 'period': period}]
+    threads: list[Values] = [{'name': 'Clock', 'context': 'clock', 'priority': 9, 'script': ['signal jobs 1', *then], **({'rounds': 1} if is_lock else {})}]
+    for number in range(rng.randint(2, 4)):
+        contexts.append({'name': f'c{number}', 'core': 0, 'budget': rng.randint(1, 6), 'period': rng.choice((period, 2 * period))})
+        work = ['wait jobs', f'compute {rng.randint(1, 5)}', *behind]
+        threads.append({'name': f'Worker{number}', 'context': f'c{number}', 'priority': rng.randint(1, 8), 'deadline': rng.choice((0, period // 2, period, 2 * period)), 'script': work})
+    return {'version': 1, 'cores': cores, 'delay': 1, 'context': contexts, 'note': [{'name': 'jobs', 'core': 0}], 'thread': threads}
 
 
 def random_system(name: str) -> tuple[System, list[str], list[str]]:
@@ -199,6 +217,8 @@ def main() -> None:
     trial.seen.clear()
     for number in range(words.systems):
         trial.agrees(*random_system(f'{words.seed} {number}'))
+    for number in range(words.systems // 5):
+        trial.agrees(System(f'pool-{number}', text_of(pool_of(random.Random(f'{words.seed} {number}'))), 400))
     trial.count.expect_all(trial.seen, SEEN)
     trial.count.end()
 

@@ -51,12 +51,13 @@ def core_sets(tables: Tables) -> list[CoreSet]:
 
 
 class Claim(NamedTuple):
-    """What is claimed of a set: from which moment on it repeats with which period, or neither, and whether nothing is ever found."""
+    """What is claimed of a set: from which moment on it repeats with which period, or neither, whether nothing is ever found, and which threads are not settled."""
 
     cores: str
     start: Optional[int] = None
     period: Optional[int] = None
     is_clean: bool = False
+    unsettled: tuple[str, ...] = ()
 
     @property
     def repeats(self) -> tuple[int, int]:
@@ -77,6 +78,7 @@ class Claim(NamedTuple):
 REPEATS = re.compile(r'cores ([\d ]+): repeats from (\d+) with period (\d+)')
 OPEN = re.compile(r'cores ([\d ]+): no repetition found up to \d+')
 CLEAN = 'nothing is ever found'
+UNSETTLED = re.compile(r'unsettled (\S+): no deadline is ever missed; whether a job is ever overdue is not known')
 
 
 def claims_of(text: str) -> list[Claim]:
@@ -89,6 +91,8 @@ def claims_of(text: str) -> list[Claim]:
             claims.append(Claim(found[1]))
         elif line == CLEAN and claims:
             claims[-1] = claims[-1]._replace(is_clean=True)
+        elif (found := UNSETTLED.fullmatch(line)) and claims:
+            claims[-1] = claims[-1]._replace(unsettled=(*claims[-1].unsettled, found[1]))
     return claims
 
 
@@ -155,8 +159,8 @@ class Told:
     def broken(self, allowed: Sequence[str] = ()) -> Iterator[str]:
         """What of the claim the rows of three more periods contradict, where these notifications may lose signals."""
         if self.claim.start is None:
-            if self.claim.is_clean:
-                yield 'no repetition was found, and nothing is ever found'
+            if self.claim.is_clean or self.claim.unsettled:
+                yield 'no repetition was found, and nothing is ever found or a thread is not settled'
             return
         start, period = self.claim.repeats
         # the turns of the horizon are taken too
@@ -177,10 +181,33 @@ class Told:
             for kind in ('missed', 'lost'):
                 if self.many(kind, number) != self.many(kind, 0):
                     yield f'{kind} in period {number}: {self.many(kind, number)}, and in the first one {self.many(kind, 0)}'
+        yield from self.not_open()
         if self.claim.is_clean:
             yield from self.not_clean(allowed)
-        elif not list(self.findings(allowed)) and not self.is_allowed(allowed):
+        elif not self.claim.unsettled and not list(self.findings(allowed)) and not self.is_allowed(allowed):
             yield 'nothing is found and no signal is lost, and it does not say that nothing is ever found'
+
+    def not_open(self) -> Iterator[str]:
+        """What of the threads that are said to be unsettled is not so: each has a deadline and misses none, has no finding, and there is a reason."""
+        told = {name for name in self.own if self.reading(self.end).found_at_end(name)} | {name for _, kind, name in self.found if kind == 'missed'}
+        if self.claim.is_clean and self.claim.unsettled:
+            yield f'nothing is ever found, and {self.claim.unsettled} are not settled'
+        for name in self.claim.unsettled:
+            if name not in self.own or not self.whole.deadline(name) or name in told:
+                yield f'{name} is not settled: it has no deadline, or something is found of it, or it is not of this set'
+            elif not self.is_shared(name) and not self.was_found(name):
+                yield f'{name} is not settled, and no other thread may take its word, and nothing was found of it before the first period'
+
+    def is_shared(self, thread: str) -> bool:
+        """Whether another script waits for the notification for which this one waits first."""
+        note, servers = self.whole.first_wait(thread), scripts_of(self.tables)
+        others = [each['script'] for each in self.tables['thread'] if each['name'] != thread]
+        return note is not None and any(item == ['wait', note] for script in [*others, *servers.values()] for item in items_of(servers, script))
+
+    def was_found(self, thread: str) -> bool:
+        """Whether something is found of a thread at the horizon before the first period; at none there is no such horizon."""
+        start = self.claim.repeats[0]
+        return start == 0 or self.reading(start - 1).found_at_end(thread) is not None
 
     def last_interrupts(self) -> Iterator[tuple[str, int]]:
         """Of the set's sources that end the moments of their last dates."""
@@ -263,8 +290,9 @@ class Told:
         yield from self.at_end()
 
     def values(self, allowed: Sequence[str]) -> list[Values]:
+        unsettled = [{'kind': 'unsettled', 'thread': name} for name in self.own if name in self.claim.unsettled]
         clean = [{'kind': 'clean', 'cores': self.group.name}] if self.claim.is_clean else []
-        return [self.head(), *self.findings(allowed), *map(self.of_thread, self.own), *clean]
+        return [self.head(), *self.findings(allowed), *map(self.of_thread, self.own), *unsettled, *clean]
 
     def is_allowed(self, allowed: Sequence[str]) -> bool:
         """Whether a signal is lost that is allowed to be."""
@@ -280,11 +308,12 @@ def counts_of(tables: Tables, told: Sequence[Told], allowed: Sequence[str]) -> V
 
 
 def status_of(tables: Tables, told: Sequence[Told], allowed: Sequence[str]) -> int:
-    """5 if something is found; 6 if a set was not found to repeat, or no thread has a deadline that could be missed; else 0."""
+    """5 if something is found; 6 if a set was not found to repeat, a thread is not settled, or none has a deadline that could be missed; else 0."""
     counts = counts_of(tables, told, allowed)
     if counts['findings']:
         return 5
-    return 0 if counts['repeating'] == counts['sets'] and counts['deadlines'] else 6
+    is_settled = all(each.claim.start is not None and not each.claim.unsettled for each in told)
+    return 0 if is_settled and counts['deadlines'] else 6
 
 
 def line_of(values: Values) -> str:
@@ -308,6 +337,8 @@ def line_of(values: Values) -> str:
             never = ', throttled: never' if 'throttled' in values else ''
             ends = f', ends no round from {values["ends_no_round_from"]} on' if 'ends_no_round_from' in values else ''
             return f'thread {thread}: greatest response {dashed(greatest)}{never}{ends}'
+        case {'kind': 'unsettled', 'thread': thread}:
+            return f'unsettled {thread}: no deadline is ever missed; whether a job is ever overdue is not known'
         case {'kind': 'clean'}:
             return CLEAN
     return ' '.join(f'{key} {values[key]}' for key in ('sets', 'repeating', 'findings', 'threads', 'deadlines'))

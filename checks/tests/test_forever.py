@@ -141,6 +141,15 @@ ALLOWED_TEXT = LOST_TEXT.replace('lost n: 2 in each period, 1 before\n', '').rep
 QUIET = LOST.replace('deadline = 3, ', '').replace('rounds = 1,', 'rounds = 1, deadline = 5,')
 QUIET_TEXT = ALLOWED_TEXT.replace('never U up to 34\n', '').replace('findings 1', 'findings 0').replace('sets', 'nothing is ever found\nsets')
 
+# a second thread waits for the tick from 2 on; each tick is there for Loop, of the greater priority, but by the scripts Spare may take it
+SPARE = '    { name = "Spare", context = "spare", priority = 1, script = ["wait tick", "compute 1"] },\n'
+SHARED = LOOP.replace('    { name = "clock"', '    { name = "spare", core = 0, budget = 4, period = 10 },\n    { name = "clock"').replace('    { name = "Clock"', f'{SPARE}    {{ name = "Clock"')
+SHARED_FIRST = FIRST.replace('0 0 run Loop\n', '0 0 release Spare\n0 0 run Loop\n').replace('1 0 stop Loop wait 1\n', '1 0 stop Loop wait 1\n1 0 run Spare\n').replace(
+    '2 0 arrive', '2 0 stop Spare wait 1\n2 0 arrive')
+UNSETTLED = 'unsettled Loop: no deadline is ever missed; whether a job is ever overdue is not known\n'
+SHARED_TEXT = IN_TIME.replace('never\nnothing is ever found\n', f'never\nthread Spare: greatest response -, throttled: never, ends no round from 13 on\n{UNSETTLED}').replace(
+    'threads 2', 'threads 3')
+
 
 def rows(first: str, later: str, far: int) -> str:
     """The rows up to a moment."""
@@ -172,6 +181,8 @@ def as_json(text: str) -> str:
                 found.append({'kind': of, 'thread': name, **number, **never, **({'ends_no_round_from': int(rest[-2])} if 'ends' in rest else {})})
             case ['sets', *_]:
                 found.append({'kind': 'sets', **{key: int(number) for key, number in zip(words[::2], words[1::2])}})
+            case ['unsettled', name, *_]:
+                found.append({'kind': 'unsettled', 'thread': name})
             case ['nothing', *_]:
                 found.append({'kind': 'clean', 'cores': next(each['cores'] for each in reversed(found) if 'cores' in each)})
     return ''.join(json.dumps(each, separators=(',', ':')) + '\n' for each in found)
@@ -233,7 +244,23 @@ class RightPrograms(Programs):
         self.assertEqual(self.seen['status 6'], 2)
 
 
+    def test_a_thread_is_not_settled(self) -> None:
+        self.assertIn('Spare', SHARED)
+        self.assertEqual(as_json(UNSETTLED), '{"kind":"unsettled","thread":"Loop"}\n')
+        self.assertEqual(self.failed(SHARED, SHARED_TEXT, 6, SHARED_FIRST), 0)
+        self.assertEqual((self.seen['a thread that is not settled'], self.seen['clean'], self.seen['repeats']), (1, 1, 2))
+
+
 class WrongPrograms(Programs):
+    def test_a_thread_that_is_settled_or_is_not(self) -> None:
+        for text, written, status, first in (
+            (SHARED, SHARED_TEXT, 0, SHARED_FIRST), (SHARED, SHARED_TEXT.replace('unsettled Loop', 'unsettled Spare'), 6, SHARED_FIRST),
+            (SHARED, SHARED_TEXT.replace(UNSETTLED, f'{UNSETTLED}nothing is ever found\n'), 6, SHARED_FIRST), (SHARED, SHARED_TEXT.replace(UNSETTLED, ''), 6, SHARED_FIRST),
+            (LOOP, IN_TIME.replace('never\nnothing is ever found\n', f'never\n{UNSETTLED}'), 6, FIRST),
+            (LATE, TOO_LATE.replace('never\n', f'never\n{UNSETTLED}'), 5, FIRST), (LATE, TOO_LATE.replace('1 so far\n', f'1 so far\n{UNSETTLED}'), 5, FIRST),
+        ):
+            self.assertGreaterEqual(self.failed(text, written, status, first), 1, written)
+
     def replaced(self, old: str, new: str, **how: object) -> int:
         """How many tries fail of each program, which writes something in place of something else, and that as JSON too."""
         texts = {LOOP: (IN_TIME, 0, FIRST, NEXT), LATE: (TOO_LATE, 5, FIRST, NEXT), LOST: (LOST_TEXT, 5, LOST_FIRST, LOST_NEXT)}

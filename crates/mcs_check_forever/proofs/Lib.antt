@@ -1,2 +1,1 @@
 mod Foretelling
-mod Codes

@@ -1,5 +1,5 @@
 -- The text and the verdict of a system for all time.
-use Rattle.std.specs.Prelude.{◌≡◌, ℕ, Bool, not, ◌==◌, ◌||◌, if◌then◌else◌, List, ◌++◌, length, flat_map, count_by, is_some}
+use Rattle.std.specs.Prelude.{◌≡◌, ℕ, Bool, not, ◌==◌, ◌&&◌, ◌||◌, if◌then◌else◌, List, ◌++◌, length, flat_map, count_by, is_some}
 use Rattle.std.specs.List.{sum_by}
 use Rattle.mcs_ticks.specs.Capped.{capped}
 use Rattle.mcs_system.specs.System.{System}
@@ -7,7 +7,6 @@ use Rattle.mcs_check.specs.Allowed.{flags_of}
 use Rattle.mcs_check_words.specs.declared.asked.Format.{Format}
 use Rattle.mcs_check_words.specs.declared.asked.Format.TheVariants as format
 use Rattle.mcs_check_lines.specs.Deadlines.{thread_deadlines}
-use Rattle.mcs_check_lines.specs.Status.{code_of}
 use Rattle.mcs_ever_told.specs.declared.line.Line.TheVariants.{Sets}
 use Rattle.mcs_ever_told.specs.declared.line.Totals.{Totals}
 use Rattle.mcs_ever_told.specs.declared.line.LineFormat.{LineFormat}
@@ -46,9 +45,14 @@ told_text how system told =
     flat_map (λ (t : Told). lines_text (line_format how) system t.lines.items) told
     ++ line_text (line_format how) system (Sets (totals_of system told))
 
--- that there is no finding says nothing if a set does not repeat, or if no thread has a deadline
+-- the number of sets that repeat and whose threads are all settled
+abbrev pub settled : List Told → ℕ
+settled told = count_by (λ (t : Told). is_some t.period && t.unsettled == 0) told
+
+-- that there is no finding says nothing if a set does not repeat, if a thread is not settled, or if
+-- no thread has a deadline
 abbrev pub says_nothing : System → List Told → Bool
-says_nothing system told = not (repeating told == length told) || thread_deadlines system.threads == 0
+says_nothing system told = not (settled told == length told) || thread_deadlines system.threads == 0
 
 -- a finding; or no finding for ever; or no finding so far
 abbrev pub verdict_of : System → List Told → Verdict
@@ -56,14 +60,11 @@ verdict_of system told =
     if not (findings told == 0) then Found
     else if says_nothing system told then Open else Clean
 
--- the exit code of a verdict, and of a system
+-- the exit code of a verdict
 abbrev pub status_of : Verdict → ℕ
 status_of Clean = 0
 status_of Found = 5
 status_of Open = 6
-
-abbrev pub status_of_all : System → List Told → ℕ
-status_of_all system told = code_of (not (findings told == 0)) (says_nothing system told)
 
 -- these bytes are the text of the system for all time, if these notifications may lose signals, and
 -- this is the verdict

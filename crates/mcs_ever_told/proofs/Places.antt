@@ -38,9 +38,3 @@ module _ {T : Type 0} (P : ℕ → T → Type 0) (e : T) where
       by (inr other) =
           let Q : T → Type 0 = λ y. P k y in
           subst Q (sym (get_or-set_other xs n k x e other)) (each other)
-
-  -- one more of the first ones is written
-  pub written-next : (xs : List T) (n : ℕ) (x : T) → n < length xs → ((k : ℕ) → k < n → P k (get_or xs k e)) → P n x →
-      (k : ℕ) → k < n + 1 → P k (get_or (set xs n x) k e)
-  written-next xs n x within each here k l =
-      written xs n x within k (λ other. each k (omega (arith, l, other))) here

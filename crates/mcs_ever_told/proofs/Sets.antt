@@ -42,9 +42,6 @@ told-more set n one is =
     ap (map decimal) (kept-more set n ∙ ap (λ b. filter (has set) (range_with_len 0 n) ++ cond b (n ∷ []) []) is)
     ∙ map-append decimal (filter (has set) (range_with_len 0 n)) (cond one (n ∷ []) [])
 
-pub none-yet : (set : List Bool) → IsTold set 0 false []
-none-yet set = record { text_is = refl; later_is = refl }
-
 pub passed-by : (set : List Bool) (n : ℕ) (later : Bool) (text : List ℕ) → has set n ≡ false → IsTold set n later text → IsTold set (n + 1) later text
 passed-by set n later text not told_before =
     let same : told set (n + 1) ≡ told set n = told-more set n false not ∙ append-nil (told set n) in

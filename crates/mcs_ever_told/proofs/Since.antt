@@ -27,7 +27,7 @@ use Rattle.mcs_ever_told.specs.Outlook.{course_before, course_up_to, ended_betwe
 use Rattle.mcs_ever_told.specs.stored.Looks.{IsLook, HasRecurred}
 
 -- the rows by which a schedule to a later horizon continues
-rows-on : (s : System) → TakesTime s → (from n : ℕ) → (rows : List Row) × (rows_before s (from + n) ≡ rows_before s from ++ rows)
+pub rows-on : (s : System) → TakesTime s → (from n : ℕ) → (rows : List Row) × (rows_before s (from + n) ≡ rows_before s from ++ rows)
 rows-on s takes from zero =
     let e : from + 0 ≡ from = omega arith in
     ([], ap (rows_before s) e ∙ sym (append-nil (rows_before s from)))

@@ -1,5 +1,5 @@
--- Each finding of a thread at the end of a run has a line.
-use Rattle.std.proofs.Common.{◌≡◌, ℕ, ◌-◌, Bool, true, false, cond, ◌&&◌, not, List, Option, Some, None, refl}
+-- Each finding of a thread at the end of a run has a line, and a thread without a deadline has none.
+use Rattle.std.proofs.Common.{◌≡◌, ℕ, ◌-◌, Bool, true, false, cond, ◌&&◌, not, List, Option, Some, None, refl, ap, ◌∙◌}
 use Rattle.std.specs.Prelude.{◌==◌, is_some}
 use Rattle.mcs_ticks.specs.declared.row.Row.{Row}
 use Rattle.mcs_system.specs.System.{System, thread_part}
@@ -61,3 +61,31 @@ module _ (h x : ℕ) where
       (never_at-told thread (thread_part system thread).deadline
       (was_activated (first_wait (thread_part system thread)) (bits_of (thread_part system thread)) (called_of system thread past) (first_word system thread past)
       (stood_in thread past 0 horizon)))
+
+-- a thread without a deadline has no finding at the end of a run
+overdue_at-free : (horizon thread deadline begun : ℕ) (stood : Stood) (o : Option ℕ) → deadline ≡ 0 →
+    overdue_at horizon thread deadline begun stood o ≡ None
+overdue_at-free horizon thread deadline begun stood None e = refl
+overdue_at-free horizon thread deadline begun stood (Some active) e =
+    ap (λ (d : ℕ). cond (is_reached d (horizon - active)) (Some (Overdue thread deadline active (begun - active) stood)) None) e
+
+overdue_since-free : (system : System) (past : List Row) (horizon thread : ℕ) (o : Option ℕ) → (thread_part system thread).deadline ≡ 0 →
+    overdue_since system past horizon thread o ≡ None
+overdue_since-free system past horizon thread None e =
+    overdue_at-free horizon thread (thread_part system thread).deadline horizon (stood_in thread past horizon horizon)
+    (yet_to_begin (standing_at horizon None (telling thread past)) (bits_of (thread_part system thread)) (first_word system thread past)) e
+overdue_since-free system past horizon thread (Some begun) e =
+    overdue_at-free horizon thread (thread_part system thread).deadline begun (stood_in thread past begun horizon)
+    (activated system thread past begun horizon) e
+
+never_at-free : (thread deadline : ℕ) (once : Bool) → deadline ≡ 0 → never_at thread deadline once ≡ None
+never_at-free thread deadline once e = ap (λ (d : ℕ). cond (not (d == 0) && not once) (Some (Never thread deadline)) None) e
+
+pub unended-free : (system : System) (past : List Row) (horizon thread : ℕ) → (thread_part system thread).deadline ≡ 0 →
+    unended system past horizon thread ≡ None
+unended-free system past horizon thread e =
+    ap (λ (o : Option Finding). first_of o (never system past horizon thread))
+    (overdue_since-free system past horizon thread (begun_of system thread past) e)
+    ∙ never_at-free thread (thread_part system thread).deadline
+    (was_activated (first_wait (thread_part system thread)) (bits_of (thread_part system thread)) (called_of system thread past) (first_word system thread past)
+    (stood_in thread past 0 horizon)) e

@@ -1,15 +1,16 @@
 -- Lines of a check for all time, worked by hand.
-use Rattle.std.specs.Prelude.{◌≡◌, Bool, true, false, List, [], ◌∷◌, ℕ, Some, None, codes, refl}
+use Rattle.std.specs.Prelude.{◌≡◌, Bool, true, false, List, [], ◌∷◌, ◌++◌, ℕ, Some, None, codes, refl}
 use Rattle.std.specs.Fmt.{digits}
 use Rattle.serde_json.proofs.OnLiterals.{serde_json_on_literals}
 use Rattle.mcs_script.specs.declared.item.Item.TheVariants.{Compute}
 use Rattle.mcs_control.specs.declared.config.Mode.TheVariants as mode
 use Rattle.mcs_system.specs.System.{System}
 use Rattle.mcs_ever_told.specs.declared.line.Totals.{Totals}
-use Rattle.mcs_ever_told.specs.declared.line.Line.TheVariants.{Repeats, Open, Miss, Lost, Overdue, Never, Thread, ThreadSoFar, Clean, Sets}
+use Rattle.mcs_ever_told.specs.declared.line.Line.TheVariants.{Repeats, Open, Miss, Lost, Overdue, Never, Thread, ThreadSoFar, Unsettled, Clean, Sets}
 use Rattle.mcs_ever_told.specs.declared.line.LineFormat.TheVariants as format
 use Rattle.mcs_ever_told.specs.declared.line.Often.TheVariants.{Forever, SoFar}
 use Rattle.mcs_ever_told.specs.Formats.{line_text, lines_text}
+use Rattle.mcs_ever_told.specs.Lines.{clean_lines, unsettled_lines}
 
 -- three cores, a thread T and a notification N
 system : System
@@ -147,6 +148,15 @@ none_so_far_object : line_text format.Json system (ThreadSoFar 0 None) ≡ codes
 unfolding system digits serde_json_on_literals
 none_so_far_object = refl
 
+unsettled : line_text format.Text system (Unsettled 0)
+    ≡ codes "unsettled T: no deadline is ever missed; whether a job is ever overdue is not known\n"
+unfolding system digits
+unsettled = refl
+
+unsettled_object : line_text format.Json system (Unsettled 0) ≡ codes "{\"kind\":\"unsettled\",\"thread\":\"T\"}\n"
+unfolding system digits serde_json_on_literals
+unsettled_object = refl
+
 clean : line_text format.Text system (Clean two) ≡ codes "nothing is ever found\n"
 unfolding system digits
 clean = refl
@@ -173,3 +183,26 @@ all : lines_text format.Text system (Repeats two 13 12 ∷ Clean two ∷ Sets (t
     ≡ codes "cores 0 2: repeats from 13 with period 12\nnothing is ever found\nsets 1 repeating 1 findings 0 threads 9 deadlines 7\n"
 unfolding system digits
 all = refl
+
+-- T has a line if it has a flag and core 0 is reported
+one_unsettled : unsettled_lines system two (true ∷ []) ≡ Unsettled 0 ∷ []
+unfolding system
+one_unsettled = refl
+
+all_settled : unsettled_lines system two (false ∷ []) ≡ []
+unfolding system
+all_settled = refl
+
+of_another_core : unsettled_lines system one (true ∷ []) ≡ []
+unfolding system
+of_another_core = refl
+
+-- a set is clean if it has no finding and each thread is settled
+settled_and_clean : clean_lines two ([] ++ []) ≡ Clean two ∷ []
+settled_and_clean = refl
+
+not_settled : clean_lines two ([] ++ Unsettled 0 ∷ []) ≡ []
+not_settled = refl
+
+found_and_settled : clean_lines two (Overdue 0 25 ∷ [] ++ []) ≡ []
+found_and_settled = refl

@@ -61,5 +61,6 @@ module _ (system : System) where
       ∷ (codes "throttled", throttled_value never_throttled) ∷ (codes "ends_no_round_from", known silent_from) ∷ []
   line_fields (line.ThreadSoFar thread greatest) =
       (codes "kind", name (codes "thread_so_far")) ∷ thread_field thread ∷ (codes "greatest", known greatest) ∷ []
+  line_fields (line.Unsettled thread) = (codes "kind", name (codes "unsettled")) ∷ thread_field thread ∷ []
   line_fields (line.Clean cores) = (codes "kind", name (codes "clean")) ∷ cores_field cores ∷ []
   line_fields (line.Sets totals) = totals_fields totals

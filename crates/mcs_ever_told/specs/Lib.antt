@@ -3,6 +3,7 @@ pub mod Fields
 pub mod Formats
 pub mod Sets
 pub mod Lines
+pub mod ForEver
 pub mod Outlook
 pub mod Progress
 pub mod stored

@@ -94,7 +94,15 @@ module _ (system : System) (own : List Bool) where
   abbrev pub threads_so_far : Course → List Line
   threads_so_far course = of_threads system (thread_so_far course)
 
--- the line `nothing is ever found`, if there are no lines of findings
+  -- the line of a thread that is not known to be settled
+  abbrev pub unsettled_line : List Bool → ℕ → Option Line
+  unsettled_line unsettled thread =
+      if is_own_thread thread && has unsettled thread then Some (line.Unsettled thread) else None
+
+  abbrev pub unsettled_lines : List Bool → List Line
+  unsettled_lines unsettled = of_threads system (unsettled_line unsettled)
+
+-- the line `nothing is ever found`, if there are no lines of findings and of unsettled threads
 abbrev pub clean_lines : List Bool → List Line → List Line
 clean_lines set [] = line.Clean set ∷ []
 clean_lines set (l ∷ lines) = []

@@ -59,5 +59,8 @@ words_text system (line.Thread thread greatest never_throttled silent_from) =
     ∷ (known_word greatest ++ throttled_text never_throttled ++ silent_text silent_from) ∷ [])
 words_text system (line.ThreadSoFar thread greatest) =
     line (codes "thread") (named (thread_name system thread) ∷ codes "greatest response" ∷ known_word greatest ∷ codes "so far" ∷ [])
+words_text system (line.Unsettled thread) =
+    line (codes "unsettled") (named (thread_name system thread)
+    ∷ codes "no deadline is ever missed; whether a job is ever overdue is not known" ∷ [])
 words_text system (line.Clean cores) = line (codes "nothing is ever found") []
 words_text system (line.Sets totals) = line (codes "sets") (totals_words totals)

@@ -94,6 +94,11 @@ pub enum Line {
         thread: ThreadId,
         greatest: Option<u64>,
     },
+    /// The thread has a deadline and never misses it, but it is not known whether a round of it is
+    /// ever overdue.
+    Unsettled {
+        thread: ThreadId,
+    },
     /// These cores have no finding at any horizon.
     Clean {
         cores: CoreSet,

@@ -27,6 +27,7 @@ overdue T at 25
 never T up to 25
 thread T: greatest response 4, throttled: never, ends no round from 13 on
 thread T: greatest response 9 so far
+unsettled T: no deadline is ever missed; whether a job is ever overdue is not known
 nothing is ever found
 sets 3 repeating 2 findings 0 threads 4 deadlines 1
 ";
@@ -39,6 +40,7 @@ const AS_OBJECTS: &str = r#"{"kind":"repeats","cores":"0 2","from":13,"period":1
 {"kind":"never","thread":"T","moment":25}
 {"kind":"thread","thread":"T","greatest":4,"throttled":"never","ends_no_round_from":13}
 {"kind":"thread_so_far","thread":"T","greatest":9}
+{"kind":"unsettled","thread":"T"}
 {"kind":"clean","cores":"0 2"}
 {"kind":"sets","sets":3,"repeating":2,"findings":0,"threads":4,"deadlines":1}
 "#;
@@ -53,7 +55,7 @@ fn cores() -> CoreSet {
 }
 
 /// A line of each kind.
-fn lines() -> [Line; 10] {
+fn lines() -> [Line; 11] {
     let cores = cores();
     let thread = ThreadId(0);
     let from = Tick::new(13).unwrap();
@@ -91,6 +93,7 @@ fn lines() -> [Line; 10] {
             thread,
             greatest: Some(9),
         },
+        Line::Unsettled { thread },
         Line::Clean { cores },
         Line::Sets {
             totals: Totals {

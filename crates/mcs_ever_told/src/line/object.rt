@@ -5,7 +5,7 @@ ghost use Rattle.mcs_ever_told.specs.declared.line.Line.TheVariants.{Repeats, Op
 ghost use Rattle.mcs_ever_told.specs.Fields.{line_fields, often_fields, totals_fields};
 
 use crate::line::cores::cores_text;
-use crate::line::thread::{put_so_far, put_thread};
+use crate::line::thread::{put_so_far, put_thread, put_unsettled};
 use crate::line::{Line, Often, Totals};
 use mcs_ever::CoreSet;
 use mcs_fields::{Cell, put_object};
@@ -45,6 +45,7 @@ pub(crate) fn put_fields(
             put_thread(alloc, text, name, greatest, never_throttled, silent_from)
         }
         Line::ThreadSoFar { thread, greatest } => put_so_far(alloc, text, system, thread, greatest),
+        Line::Unsettled { thread } => put_unsettled(alloc, text, system, thread),
         Line::Clean { cores } => put_clean(alloc, text, system, &cores),
         Line::Sets { totals } => put_sets(alloc, text, &totals),
     }

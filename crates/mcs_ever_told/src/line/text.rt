@@ -2,7 +2,7 @@
 ghost use Rattle.std.specs.Prelude.{◌≡◌, ◌++◌, ◌∷◌, [], OnOk, Some, codes, decimal};
 ghost use Rattle.std.specs.Io.{StartsWith};
 ghost use Rattle.mcs_text.specs.Text.{line};
-ghost use Rattle.mcs_ever_told.specs.declared.line.Line.TheVariants.{Repeats, Open, Miss, Lost, Overdue, Never, ThreadSoFar};
+ghost use Rattle.mcs_ever_told.specs.declared.line.Line.TheVariants.{Repeats, Open, Miss, Lost, Overdue, Never, ThreadSoFar, Unsettled};
 ghost use Rattle.mcs_ever_told.specs.Texts.{known_word, named, often_words, silent_text, throttled_text, totals_words, words_text};
 
 use crate::line::cores::cores_text;
@@ -45,6 +45,7 @@ pub(crate) fn append_told(
             append_thread(text, name, greatest, never_throttled, silent_from)
         }
         Line::ThreadSoFar { thread, greatest } => append_so_far(text, system, thread, greatest),
+        Line::Unsettled { thread } => append_unsettled(text, system, thread),
         Line::Clean { .. } => append_line(text, "nothing is ever found", &[]),
         Line::Sets { totals } => append_sets(text, &totals),
     }
@@ -257,6 +258,17 @@ fn append_so_far(
         Word::Plain("so far"),
     ];
     append_line(text, "thread", &words)
+}
+
+fn append_unsettled(text: &mut Vec<u8>, system: &System, thread: ThreadId) -> Result<(), NoMemory>
+    ensures ok { OnOk result (text.new.items ≡ text.old.items ++ words_text system.now (Unsettled thread)) }
+    ensures kept { StartsWith text.new.items text.old.items }
+{
+    let words = [
+        Word::Named(thread_name(system, thread)),
+        Word::Plain("no deadline is ever missed; whether a job is ever overdue is not known"),
+    ];
+    append_line(text, "unsettled", &words)
 }
 
 fn append_sets(text: &mut Vec<u8>, totals: &Totals) -> Result<(), NoMemory>

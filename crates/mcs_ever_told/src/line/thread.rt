@@ -1,7 +1,7 @@
 //! Lines about a thread as JSON objects.
 ghost use Rattle.std.specs.Prelude.{◌≡◌, ◌++◌, ◌∷◌, [], OnOk, OnErr, codes};
 ghost use Rattle.mcs_fields.specs.Fields.{name, object_text, value_of};
-ghost use Rattle.mcs_ever_told.specs.declared.line.Line.TheVariants.{ThreadSoFar};
+ghost use Rattle.mcs_ever_told.specs.declared.line.Line.TheVariants.{ThreadSoFar, Unsettled};
 ghost use Rattle.mcs_ever_told.specs.Fields.{known, line_fields, throttled_value};
 
 use mcs_fields::{Cell, put_object};
@@ -75,6 +75,22 @@ pub(crate) fn put_so_far(
         ("kind", Cell::Name("thread_so_far")),
         ("thread", Cell::Name(thread_name(system, thread))),
         ("greatest", known(greatest)),
+    ];
+    put_object(alloc, text, &fields)
+}
+
+pub(crate) fn put_unsettled(
+    alloc: Global,
+    text: &mut Vec<u8>,
+    system: &System,
+    thread: ThreadId,
+) -> Result<(), NoMemory>
+    ensures ok { OnOk result (text.new.items ≡ text.old.items ++ object_text (line_fields system.now (Unsettled thread))) }
+    ensures err { OnErr result (text.new.items ≡ text.old.items) }
+{
+    let fields = [
+        ("kind", Cell::Name("unsettled")),
+        ("thread", Cell::Name(thread_name(system, thread))),
     ];
     put_object(alloc, text, &fields)
 }

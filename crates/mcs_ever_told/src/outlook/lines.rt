@@ -4,7 +4,7 @@ ghost use Rattle.mcs_ticks.specs.declared.row.Row.{Row as TheRow};
 ghost use Rattle.mcs_verdict.specs.Findings.{UpTo};
 ghost use Rattle.mcs_verdict.specs.Misses.{unended};
 ghost use Rattle.mcs_verdict.specs.Watch.{watch_of};
-ghost use Rattle.mcs_ever_told.specs.Lines.{often_of, is_some, is_own_thread, of_threads, of_notes, miss_line, lost_line, count_lines, end_told, end_line, end_lines, silent_from, thread_line, thread_lines, thread_so_far, threads_so_far};
+ghost use Rattle.mcs_ever_told.specs.Lines.{often_of, is_some, is_own_thread, of_threads, of_notes, miss_line, lost_line, count_lines, end_told, end_line, end_lines, silent_from, thread_line, thread_lines, thread_so_far, threads_so_far, unsettled_line, unsettled_lines};
 ghost use Rattle.mcs_ever_told.specs.stored.Told.{if_some};
 
 use crate::line::{Line, Often};
@@ -172,6 +172,24 @@ fn thread_so_far(system: &System, own: &CoreSet, course: &Course, thread: Thread
     }
 }
 
+/// The line of a thread that is on one of these cores and has a flag.
+fn unsettled_line(
+    system: &System,
+    own: &CoreSet,
+    unsettled: &[bool],
+    thread: ThreadId,
+) -> Option<Line>
+    requires { thread < length system.now.threads }
+    ensures { result ≡ unsettled_line system.now own.now unsettled.now thread }
+{
+    let has_flag = thread.0 < unsettled.len() && unsettled[thread.0];
+    if is_own_thread(system, own, thread) && has_flag {
+        Some(Line::Unsettled { thread })
+    } else {
+        None
+    }
+}
+
 /// Appends the item, if there is one.
 pub(crate) fn push<T: Copy>(items: &mut Vec<T>, one: Option<T>) -> Result<(), NoMemory>
     ensures { OnOk result (items.new.items ≡ items.old.items ++ if_some one) }
@@ -263,6 +281,24 @@ pub(crate) fn push_so_far(
 {
     for thread in 0..system.parts().threads.len() {
         push(lines, thread_so_far(system, own, course, ThreadId(thread)))?;
+    }
+    Ok(())
+}
+
+/// Appends the lines of the threads with a flag, which are not settled.
+pub(crate) fn push_unsettled(
+    lines: &mut Vec<Line>,
+    system: &System,
+    own: &CoreSet,
+    unsettled: &[bool],
+) -> Result<(), NoMemory>
+    ensures { OnOk result (lines.new.items ≡ lines.old.items ++ unsettled_lines system.now own.now unsettled.now) }
+{
+    for thread in 0..system.parts().threads.len() {
+        push(
+            lines,
+            unsettled_line(system, own, unsettled, ThreadId(thread)),
+        )?;
     }
     Ok(())
 }

@@ -1,4 +1,3 @@
-use Rattle.std.proofs.Common.{◌-◌}
 use Rattle.mcs_ever_told.proofs.Since.{are-kept}
 use Rattle.mcs_ever_told.proofs.outlook.look.finds_again.Goals as goal
 

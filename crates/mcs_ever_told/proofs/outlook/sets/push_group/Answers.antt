@@ -1,4 +1,4 @@
-use Rattle.std.proofs.Common.{◌≡◌, ◌+◌, ◌-◌, Bool, true, cond, [], ◌∷◌, ◌++◌, sym, ap, ◌∙◌, rules}
+use Rattle.std.proofs.Common.{◌≡◌, Bool, true, cond, [], ◌∷◌, ◌++◌, sym, ap, ◌∙◌, rules}
 use Rattle.mcs_ever_told.specs.Sets.{is_first}
 use Rattle.mcs_ever_told.specs.stored.Groups.{group_of}
 use Rattle.mcs_ever_told.specs.declared.outlook.sets.Group.{Group}

@@ -1,4 +1,4 @@
-use Rattle.std.proofs.Common.{◌≡◌, ℕ, ◌-◌, true, below_more, rules}
+use Rattle.std.proofs.Common.{◌≡◌, ℕ, true, below_more, rules}
 use Rattle.mcs_ever_told.specs.Outlook.{NoteIsSettled}
 use Rattle.mcs_ever_told.specs.stored.Looks.{period_of}
 use Rattle.mcs_ever_told.proofs.outlook.settle.notes_are_settled.Goals as goal

@@ -1,4 +1,4 @@
-use Rattle.std.proofs.Common.{◌≡◌, ℕ, ◌-◌, true, below_more, rules}
+use Rattle.std.proofs.Common.{◌≡◌, ℕ, true, below_more, rules}
 use Rattle.mcs_ever_told.specs.Outlook.{ThreadIsSettled}
 use Rattle.mcs_ever_told.specs.stored.Looks.{period_of}
 use Rattle.mcs_ever_told.proofs.outlook.settle.threads_are_settled.Goals as goal
@@ -7,4 +7,4 @@ pub loop-thread-preserved : goal.loop-thread-preserved
 loop-thread-preserved c = λ recurred.
     let P : ℕ → Type 0 = λ k. ThreadIsSettled c.args.look.now.system.now c.args.group.now.own (period_of c.args.look.now.search.now c.args.by) k in
     let yes : c.thread_is_settled.result ≡ true = search rules in
-    below_more P c.loop-thread.thread (c.loop-thread.invariant recurred) (c.thread_is_settled.ensures yes recurred)
+    below_more P c.loop-thread.thread (c.loop-thread.invariant recurred) (c.thread_is_settled.ensures.settled yes recurred)

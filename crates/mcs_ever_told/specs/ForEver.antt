@@ -1,0 +1,61 @@
+-- What single lines of a set that recurs say of all horizons.
+use Rattle.std.specs.Prelude.{◌≡◌, ℕ, ◌+◌, ◌-◌, ◌*◌, ◌^◌, ◌<◌, ◌≤◌, Bool, true, false, List, [], map, Option, Some, None}
+use Rattle.std.specs.List.{AllByRecursion}
+use Rattle.mcs_ticks.specs.declared.row.Row.{Row}
+use Rattle.mcs_system.specs.System.{System}
+use Rattle.mcs_core.specs.Clock.{turn_of, schedule}
+use Rattle.mcs_verdict.specs.declared.job.Job.{Job}
+use Rattle.mcs_verdict.specs.Findings.{past_of}
+use Rattle.mcs_verdict.specs.Jobs.{jobs_in}
+use Rattle.mcs_ever.specs.Closed.{has}
+use Rattle.mcs_ever.specs.Later.{later_what}
+use Rattle.mcs_ever.specs.Recurs.{Shifts, shift_of}
+use Rattle.mcs_ever.specs.laws.Repeats.{EndsNoRound}
+use Rattle.mcs_ever_found.specs.Recurs.{past_before}
+use Rattle.mcs_ever_found.specs.Course.{greatest, was_spent}
+use Rattle.mcs_ever_found.specs.laws.Course.{is_at_most}
+use Rattle.mcs_ever_told.specs.declared.line.Often.{Often}
+use Rattle.mcs_ever_told.specs.declared.line.Often.TheVariants.{Forever, SoFar}
+use Rattle.mcs_ever_told.specs.declared.outlook.told.Period.{Period}
+
+module _ (system : System) where
+  -- each turn of these cores from this time on makes the rows that it made a period before, but
+  -- later
+  pub record RowsRepeat (cores : List Bool) (from period : ℕ) : Type 0 where
+    pub shifts : Shifts
+    pub by : shifts.by ≡ period
+    pub each : (t c : ℕ) → from ≤ t → c < system.cores → has cores c ≡ true →
+        (turn_of system c (t + period)).rows ≡ map (later_what (shift_of shifts c)) (turn_of system c t).rows
+
+  -- no job of the thread has a longer response up to any horizon; without a number it has no job
+  abbrev pub IsNeverLonger : ℕ → Option ℕ → Type 0
+  IsNeverLonger thread response =
+      (h : ℕ) → AllByRecursion (λ (job : Job). job.thread ≡ thread → is_at_most response job.response ≡ true) (jobs_in system [] (schedule system h))
+
+  -- no row stops the thread with its budget exhausted, up to any horizon
+  abbrev pub IsNeverThrottled : ℕ → Type 0
+  IsNeverThrottled thread = (h : ℕ) → was_spent thread (past_of [] (schedule system h)) ≡ false
+
+  -- no round of the thread ends from this time on, up to any horizon
+  abbrev pub IsSilentFrom : ℕ → Option ℕ → Type 0
+  IsSilentFrom thread None = Unit {0}
+  IsSilentFrom thread (Some from) = (h : ℕ) → EndsNoRound system thread from h
+
+  module _ (p : Period) where
+    -- a number of times before the first period, and a number in each period, however late it is
+    pub record Happens (count : List Row → ℕ) (before each_period : ℕ) : Type 0 where
+      pub first : count (past_before system p.from) ≡ before
+      pub each : (k : ℕ) → count (past_before system (p.from + (k + 1) * p.ticks)) ≡ count (past_before system (p.from + k * p.ticks)) + each_period
+
+    -- a check counts to 2^64 - 1, and stays there
+    abbrev pub IsOften : (List Row → ℕ) → Often → Type 0
+    IsOften count (Forever before each_period) = before + each_period < 2 ^ 64 - 1 → Happens count before each_period
+    IsOften count (SoFar times) = ⊥
+
+    -- the line of a thread. The response is the maximum up to each horizon from the end of the
+    -- first period on
+    pub record ThreadIsSo (thread : ℕ) (response : Option ℕ) (never_throttled : Bool) (silent_from : Option ℕ) : Type 0 where
+      pub longest : IsNeverLonger thread response
+      pub reached : (h : ℕ) → p.from + p.ticks ≤ h + 1 → greatest system thread (past_of [] (schedule system h)) ≡ response
+      pub throttled : never_throttled ≡ true → IsNeverThrottled thread
+      pub silent : IsSilentFrom thread silent_from
