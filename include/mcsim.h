@@ -16,7 +16,7 @@ extern "C" {
 /* The version of this interface. A new minor number adds calls or values, and a program that was
  * built with an earlier one still runs. The major number is that of libmcs.so.1. */
 #define MCS_VERSION_MAJOR 1
-#define MCS_VERSION_MINOR 1
+#define MCS_VERSION_MINOR 2
 #define MCS_VERSION (MCS_VERSION_MAJOR * 65536 + MCS_VERSION_MINOR)
 
 /* The maximum horizon, in ticks: 2^40. */
@@ -49,13 +49,14 @@ enum {
     MCS_LINES = 0,     /* the room begins with the lines, each with its line feed; or all rows, all
                           findings or the name are there. Of a check: nothing was found */
     MCS_FAULT = 1,     /* the text is not a system, or a name is unknown: the room begins with the
-                          line of the first fault, without a line feed */
+                          line of the first fault, without a line feed. Of mcs_why also: there is
+                          no such thread or round */
     MCS_ROOM = 2,      /* the room is too small: *length bytes, or *many findings, are needed */
     MCS_REFUSED = 3,   /* an argument is out of range */
     MCS_NO_MEMORY = 4, /* out of memory */
     MCS_FOUND = 5,     /* of a check: the room begins with the lines, and something was found */
     MCS_UNJUDGED = 6,  /* of a check: the room begins with the lines; nothing was found, and nothing
-                          was judged */
+                          was judged. Of mcs_forever: nothing was found so far */
     MCS_PART = 7       /* the array is full of the first rows */
 };
 
@@ -126,6 +127,60 @@ uint32_t mcs_version(void);
  * The call keeps no rows. */
 uint32_t mcs_check(const uint8_t *text, size_t text_bytes, uint64_t horizon, uint32_t part, uint32_t format, const uint8_t *allowed, size_t allowed_bytes, uint8_t *room, size_t room_bytes, size_t *length);
 
+/* Explains why a round of a thread took so long: what mcscheck --why prints.
+ *
+ *   text, text_bytes    The text, as above.
+ *   horizon             The last time of the run, in ticks: 0 to MCS_HORIZON_MAX.
+ *   thread,             The name of the thread, in UTF-8.
+ *   thread_bytes
+ *   round, round_bytes  The number of the round in digits, from 1: "3" is the third.
+ *   format              MCS_TEXT or MCS_JSON.
+ *   room, room_bytes    Memory for the output.
+ *   length              Receives the number of bytes of the output.
+ *
+ *   Result              *length                      Room
+ *   MCS_LINES           bytes of the lines           the lines: the rows of the round's core, its
+ *                                                    times, and who ran meanwhile
+ *   MCS_FAULT           bytes of the fault's line    the line, as mcscheck writes it: of the text,
+ *                                                    or of a thread or round that is not there
+ *   MCS_ROOM            bytes needed                 unchanged
+ *   MCS_REFUSED         0                            unchanged: horizon or format is out of range,
+ *                                                    format is MCS_CSV, or thread or round is not
+ *                                                    UTF-8
+ *   MCS_NO_MEMORY       0                            unchanged
+ *
+ * Bytes behind the output are unchanged. The duties are those of mcs_run, for thread and round as
+ * for text. The call makes the run twice and keeps no rows. */
+uint32_t mcs_why(const uint8_t *text, size_t text_bytes, uint64_t horizon, const uint8_t *thread, size_t thread_bytes, const uint8_t *round, size_t round_bytes, uint32_t format, uint8_t *room, size_t room_bytes, size_t *length);
+
+/* Checks the system that a text describes for all time: what mcscheck --forever prints. It searches
+ * for a repetition of each set of cores up to a horizon.
+ *
+ *   text, text_bytes    The text, as above.
+ *   horizon             The last time of the search, in ticks: 0 to MCS_HORIZON_MAX.
+ *   format              MCS_TEXT or MCS_JSON.
+ *   allowed,            The names of the notifications at which a lost signal is no finding, as for
+ *   allowed_bytes       mcs_check.
+ *   room, room_bytes    Memory for the output.
+ *   length              Receives the number of bytes of the output.
+ *
+ *   Result              *length                      Room
+ *   MCS_LINES           bytes of the lines           the lines; each set repeats, and nothing is
+ *                                                    ever found
+ *   MCS_FOUND           bytes of the lines           the lines; something was found
+ *   MCS_UNJUDGED        bytes of the lines           the lines; nothing was found, but a set was
+ *                                                    not found to repeat, or no thread has a
+ *                                                    deadline
+ *   MCS_FAULT           bytes of the fault's line    the line, as after mcs_check
+ *   MCS_ROOM            bytes needed                 unchanged
+ *   MCS_REFUSED         0                            unchanged: horizon or format is out of range,
+ *                                                    format is MCS_CSV, or allowed is not UTF-8
+ *   MCS_NO_MEMORY       0                            unchanged
+ *
+ * Bytes behind the output are unchanged. The duties are those of mcs_check. The call keeps no
+ * rows. */
+uint32_t mcs_forever(const uint8_t *text, size_t text_bytes, uint64_t horizon, uint32_t format, const uint8_t *allowed, size_t allowed_bytes, uint8_t *room, size_t room_bytes, size_t *length);
+
 /* The kinds of rows. */
 enum {
     MCS_RELEASE = 0,   /* the thread `part` leaves the release queue */
@@ -178,8 +233,9 @@ typedef struct mcs_row {
  *   MCS_NO_MEMORY       0                 0
  *
  * *many is the number of rows written. All rows before the time *whole_before are among them. Rows
- * of the array behind them are unchanged. The duties are those of mcs_run; calloc is enough. The
- * call makes the whole run, however small the array is. */
+ * of the array behind them are unchanged. The duties are those of mcs_run; calloc is enough. If the
+ * array is full, the run ends soon after the first row that is missing, however large the horizon
+ * is. */
 uint32_t mcs_rows(const uint8_t *text, size_t text_bytes, uint64_t horizon, mcs_row *rows, size_t rows_many, size_t *many, uint64_t *whole_before);
 
 /* The kinds of findings. */

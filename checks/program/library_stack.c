@@ -9,14 +9,17 @@
 #define HORIZON 2000
 #define STACK (1 << 18)
 #define ROOM (1 << 20)
-#define CALLS 7
+#define CALLS 9
 #define OLD 0xa5
 
-static const char *const NAMES[CALLS] = {"nothing", "mcs_run", "mcs_check findings", "mcs_check all", "mcs_rows", "mcs_findings", "mcs_name"};
+static const char *const NAMES[CALLS] = {"nothing", "mcs_run", "mcs_check findings", "mcs_check all", "mcs_rows", "mcs_findings", "mcs_name", "mcs_why",
+                                    "mcs_forever"};
 static uint8_t text[1 << 16];
 static _Alignas(4096) uint8_t stack[STACK];
 static _Alignas(uint64_t) uint8_t room[ROOM];
-static size_t text_bytes;
+static size_t text_bytes, name_bytes;
+/* the name of the first thread */
+static uint8_t name[32];
 
 static void *call(void *number)
 {
@@ -42,6 +45,12 @@ static void *call(void *number)
     case 6:
         mcs_name(text, text_bytes, MCS_THREAD, 0, room, ROOM, &length);
         break;
+    case 7:
+        mcs_why(text, text_bytes, HORIZON, name, name_bytes, (const uint8_t *)"2", 1, MCS_JSON, room, ROOM, &length);
+        break;
+    case 8:
+        mcs_forever(text, text_bytes, HORIZON, MCS_JSON, text, 0, room, ROOM, &length);
+        break;
     }
     return NULL;
 }
@@ -55,6 +64,8 @@ int main(int count, char **words)
         return 2;
     text_bytes = fread(text, 1, sizeof text, file);
     fclose(file);
+    if (mcs_name(text, text_bytes, MCS_THREAD, 0, name, sizeof name, &name_bytes) != MCS_LINES)
+        return 2;
     for (intptr_t number = 0; number < CALLS; number++) {
         pthread_t thread;
         pthread_attr_t own;

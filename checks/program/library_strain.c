@@ -1,5 +1,5 @@
 /* strain FILE: calls the library with allocations that fail, from 8 threads, and with damaged texts:
- * the simulation, each part of a check, the rows and the findings.
+ * the simulation, each part of a check, the rows, the findings, a round and all time.
  * A line tells what was tried, and one what is wrong.
  * malloc, realloc and free of the library are those below (-Wl,--wrap). */
 #include <mcsim.h>
@@ -52,13 +52,17 @@ void __wrap_free(void *at)
 
 static uint8_t text[1 << 16];
 static _Alignas(uint64_t) uint8_t wanted[ROOM];
-static size_t text_bytes, wanted_bytes;
+static size_t text_bytes, wanted_bytes, name_bytes;
+/* the name of the first thread */
+static uint8_t name[32];
 static uint32_t wanted_result;
 static atomic_int wrong;
 
-/* the call that is tried: 0 mcs_run, 1 to 4 mcs_check in each part, 5 mcs_rows, 6 mcs_findings */
+/* the call that is tried: 0 mcs_run, 1 to 4 mcs_check in each part, 5 mcs_rows, 6 mcs_findings,
+ * 7 mcs_rows with a short array, 8 mcs_why, 9 mcs_forever */
 static int tried;
-#define TRIED 7
+#define TRIED 10
+#define FEW 7
 
 static uint32_t call(const uint8_t *from, size_t bytes, uint8_t *room, size_t *length)
 {
@@ -69,13 +73,18 @@ static uint32_t call(const uint8_t *from, size_t bytes, uint8_t *room, size_t *l
     case 0:
         return mcs_run(from, bytes, HORIZON, MCS_BOTH, room, ROOM, length);
     case 5:
-        result = mcs_rows(from, bytes, HORIZON, (mcs_row *)room, ROOM / sizeof(mcs_row), length, &before);
+    case 7:
+        result = mcs_rows(from, bytes, HORIZON, (mcs_row *)room, tried == 7 ? FEW : ROOM / sizeof(mcs_row), length, &before);
         *length *= sizeof(mcs_row);
         return result;
     case 6:
         result = mcs_findings(from, bytes, HORIZON, (mcs_finding *)room, ROOM / sizeof(mcs_finding), length);
         *length *= sizeof(mcs_finding);
         return result;
+    case 8:
+        return mcs_why(from, bytes, HORIZON, name, name_bytes, (const uint8_t *)"1", 1, MCS_TEXT, room, ROOM, length);
+    case 9:
+        return mcs_forever(from, bytes, HORIZON, MCS_JSON, from, 0, room, ROOM, length);
     default:
         return mcs_check(from, bytes, HORIZON, (uint32_t)tried - 1, MCS_JSON, from, 0, room, ROOM, length);
     }
@@ -195,6 +204,8 @@ int main(int count, char **words)
         return 2;
     text_bytes = fread(text, 1, sizeof text, file);
     fclose(file);
+    if (mcs_name(text, text_bytes, MCS_THREAD, 0, name, sizeof name, &name_bytes) != MCS_LINES)
+        return 2;
     kept = 0;
     for (tried = 0; tried < TRIED; tried++) {
         wanted_result = call(text, text_bytes, wanted, &wanted_bytes);

@@ -1,7 +1,7 @@
 #!/usr/bin/env python3
 """Checks that the library for C bears what is hard, under sanitizers: each allocation that fails, calls from 8 threads, and damaged texts.
 
-checks/program/library_strain.c makes the calls: simulations, checks, rows and findings. After an allocation that fails a call gives the lines, or reports out of memory and leaves the room as it
+checks/program/library_strain.c makes the calls: simulations, checks, rows, findings, rounds and all time. After an allocation that fails a call gives the lines, or reports out of memory and leaves the room as it
 was, and it has freed all memory. It is built twice, with the sanitizers of addresses and undefined behaviour and with that of threads.
 
 It needs a C compiler (cc), and the library: that which was built here (crates/mcs_c/out/libmcs_c.a), or else bin/libmcs_c.a."""

@@ -6,17 +6,23 @@ the line of the fault, are those of the program, and the result says whether som
 mcsim, in an array that is too short, too. Findings in numbers are those of the JSON of mcscheck. Arguments that are out of range are refused, and no call
 takes more than 32 KB of stack.
 
+The same holds of the explanations of some rounds of each system (mcs_why), and of its checks for all time (mcs_forever); and of random systems, whose
+verdicts, rounds and outlooks are those of mcscheck. Rows are there at once if the array is short, however far the horizon is.
+
 It needs a C compiler (cc), and the library: that which was built here (crates/mcs_c/out/libmcs_c.a), or else bin/libmcs_c.a."""
 from __future__ import annotations
 
 import ctypes
+import functools
 import json
 import pathlib
+import random
 import shutil
 import sys
 import tempfile
+import time
 import tomllib
-from collections.abc import Iterator
+from collections.abc import Callable, Iterable, Iterator
 from typing import Any, NamedTuple
 
 sys.dont_write_bytecode = True
@@ -25,6 +31,7 @@ from checks import common
 from checks.common import TOP, Count, Ran
 from checks.program import library
 from checks.program.library import OLD, TOO_FAR, Answer, Run, old
+from checks.random_systems import random_text, text_of
 
 PARTS = ('findings', 'jobs', 'table', 'both')
 FORMATS = ('text', 'csv', 'json')
@@ -42,6 +49,8 @@ STACK = 32 * 1024
 FEW = 7
 # systems with more rows are tried with their lines alone
 MANY = 20_000
+# random systems
+RANDOM = 40
 
 
 class Row(ctypes.Structure):
@@ -76,17 +85,30 @@ class Library:
         size, number, time, text = ctypes.c_size_t, ctypes.c_uint32, ctypes.c_uint64, ctypes.c_char_p
         sized = ctypes.POINTER(size)
         self.calls.mcs_check.argtypes = [text, size, time, number, number, text, size, text, size, sized]
+        self.calls.mcs_why.argtypes = [text, size, time, text, size, text, size, number, text, size, sized]
+        self.calls.mcs_forever.argtypes = [text, size, time, number, text, size, text, size, sized]
         self.calls.mcs_rows.argtypes = [text, size, time, ctypes.POINTER(Row), size, sized, ctypes.POINTER(time)]
         self.calls.mcs_findings.argtypes = [text, size, time, ctypes.POINTER(Finding), size, sized]
         self.calls.mcs_name.argtypes = [text, size, number, time, text, size, sized]
-        for call in (self.calls.mcs_version, self.calls.mcs_check, self.calls.mcs_rows, self.calls.mcs_findings, self.calls.mcs_name):
-            call.restype = number
+        for name in ('version', 'check', 'why', 'forever', 'rows', 'findings', 'name'):
+            getattr(self.calls, f'mcs_{name}').restype = number
 
-    def check(self, text: bytes, horizon: int, part: int, how: int, allowed: bytes, room_bytes: int) -> Answer:
+    def written(self, name: str, room_bytes: int, *words: object) -> Answer:
+        """What a call writes to a room."""
+        # a byte more, since no pointer is null
         room = (ctypes.c_char * (room_bytes + 1)).from_buffer(bytearray([OLD]) * (room_bytes + 1))
         length = ctypes.c_size_t(OLD)
-        result = self.calls.mcs_check(text, len(text), horizon, part, how, allowed, len(allowed), room, room_bytes, length)
+        result = getattr(self.calls, f'mcs_{name}')(*words, room, room_bytes, length)
         return Answer(result, length.value, room.raw)
+
+    def check(self, text: bytes, horizon: int, part: int, how: int, allowed: bytes, room_bytes: int) -> Answer:
+        return self.written('check', room_bytes, text, len(text), horizon, part, how, allowed, len(allowed))
+
+    def why(self, text: bytes, horizon: int, thread: bytes, number: bytes, how: int, room_bytes: int) -> Answer:
+        return self.written('why', room_bytes, text, len(text), horizon, thread, len(thread), number, len(number), how)
+
+    def forever(self, text: bytes, horizon: int, how: int, allowed: bytes, room_bytes: int) -> Answer:
+        return self.written('forever', room_bytes, text, len(text), horizon, how, allowed, len(allowed))
 
     def rows(self, text: bytes, horizon: int, many: int) -> Told:
         rows, written, before = (Row * (many + 1))(), ctypes.c_size_t(OLD), ctypes.c_uint64(OLD)
@@ -99,10 +121,7 @@ class Library:
         return result, findings, written.value
 
     def name(self, text: bytes, kind: int, number: int, room_bytes: int = 32) -> Answer:
-        room = (ctypes.c_char * (room_bytes + 1)).from_buffer(bytearray([OLD]) * (room_bytes + 1))
-        length = ctypes.c_size_t(OLD)
-        result = self.calls.mcs_name(text, len(text), kind, number, room, room_bytes, length)
-        return Answer(result, length.value, room.raw)
+        return self.written('name', room_bytes, text, len(text), kind, number)
 
     def names(self, text: bytes) -> dict[int, list[str]]:
         """The names of the things of each kind."""
@@ -181,14 +200,56 @@ class Trial:
                 if (what, form) == ('both', 'csv'):
                     continue
                 ran = self.told(run, '--show', what, '--format', form, *(f'--allow-lost={name}' for name in allowed))
-                lines = ran.stdout if ran.status in RESULTS else ran.stderr.removesuffix(b'\n')
-                result = RESULTS.get(ran.status, FAULT)
-                for room, wanted in (
-                    (len(lines) - 1, Answer(ROOM, len(lines), old(len(lines) - 1))),
-                    (len(lines) + 9, Answer(result, len(lines), lines + old(9))),
-                ):
-                    got = self.library.check(text, run.horizon, part, how, names, room)
-                    self.count.expect(f'{run.name}: {what} as {form} in {room} bytes: {got.result}', got == wanted)
+                self.same(f'{run.name}: {what} as {form}', ran, functools.partial(self.library.check, text, run.horizon, part, how, names))
+
+    def same(self, what: str, ran: Ran, call: Callable[[int], Answer]) -> None:
+        """A call gives what mcscheck told, in a room that is too small and in one that is larger than needed."""
+        lines = ran.stdout if ran.status in RESULTS else ran.stderr.removesuffix(b'\n')
+        result = RESULTS.get(ran.status, FAULT)
+        for room, wanted in (
+            (len(lines) - 1, Answer(ROOM, len(lines), old(len(lines) - 1))),
+            (len(lines) + 9, Answer(result, len(lines), lines + old(9))),
+        ):
+            got = call(room)
+            self.count.expect(f'{what} in {room} bytes: {got.result}', got == wanted)
+
+    def try_rounds(self, run: Run, threads: Iterable[str]) -> None:
+        """Why rounds of some threads took so long: the first, the second, and what is no round."""
+        text = run.file.read_bytes()
+        for thread in (*threads, 'nobody'):
+            for number in ('1', '2', '99999999', 'x'):
+                for how, form in enumerate(FORMATS):
+                    if form != 'csv':
+                        ran = self.told(run, '--why', thread, number, '--format', form)
+                        call = functools.partial(self.library.why, text, run.horizon, thread.encode(), number.encode(), how)
+                        self.same(f'{run.name}: why {thread} {number} as {form}', ran, call)
+
+    def try_outlook(self, run: Run, allowed: tuple[str, ...] = ()) -> None:
+        """The check for all time."""
+        text, names = run.file.read_bytes(), '\n'.join(allowed).encode()
+        for how, form in enumerate(FORMATS):
+            if form != 'csv':
+                ran = self.told(run, '--forever', '--format', form, *(f'--allow-lost={name}' for name in allowed))
+                self.same(f'{run.name}: for ever as {form}', ran, functools.partial(self.library.forever, text, run.horizon, how, names))
+
+    def try_random(self, file: pathlib.Path, number: int) -> None:
+        """All that is asked of a random system."""
+        rng = random.Random(f'library {number}')
+        tables = tomllib.loads(random_text(rng))
+        file.write_text(text_of(tables))
+        run = Run(f'random {number}', file, rng.randrange(1, 3000), 'schedule')
+        self.try_lines(run)
+        self.try_rounds(run, [rng.choice(tables['thread'])['name']] if tables.get('thread') else [])
+        self.try_outlook(run, tuple(note['name'] for note in tables.get('note', []) if rng.random() < 0.3))
+
+    def try_far(self, run: Run) -> None:
+        """A short array is filled at once, however far the horizon is: a run up to 2^40 would take hours."""
+        text = run.file.read_bytes()
+        begun = time.process_time()
+        near, far = self.library.rows(text, 1000, FEW), self.library.rows(text, 2**40, FEW)
+        spent = time.process_time() - begun
+        same = near.result == far.result == PART and bytes(near.rows) == bytes(far.rows) and near.before == far.before
+        self.count.expect(f'a few rows of a run up to 2^40: {far.result}, {spent} s', same and spent < 1)
 
     def try_refusals(self, run: Run) -> None:
         """What is refused leaves the room as it was, and gives the length 0."""
@@ -198,6 +259,14 @@ class Trial:
         ):
             got = self.library.check(text, horizon, part, how, allowed, 100)
             self.count.expect(f'horizon {horizon}, part {part}, format {how}, allowed {allowed!r}: {got.result}', got == Answer(REFUSED, 0, old(100)))
+        for horizon, thread, digits, how in (
+            (TOO_FAR, b'Driver', b'1', 0), (2**64 - 1, b'Driver', b'1', 0), (9, b'Driver', b'1', 1), (9, b'Driver', b'1', 3), (9, b'\xff', b'1', 0), (9, b'Driver', b'\xff', 0),
+        ):
+            got = self.library.why(text, horizon, thread, digits, how, 100)
+            self.count.expect(f'why {thread!r} {digits!r} to {horizon}, format {how}: {got.result}', got == Answer(REFUSED, 0, old(100)))
+        for horizon, how, allowed in ((TOO_FAR, 0, b''), (2**64 - 1, 0, b''), (9, 1, b''), (9, 3, b''), (9, 2**32 - 1, b''), (9, 0, b'\xff')):
+            got = self.library.forever(text, horizon, how, allowed, 100)
+            self.count.expect(f'for ever to {horizon}, format {how}, allowed {allowed!r}: {got.result}', got == Answer(REFUSED, 0, old(100)))
         for kind, number in ((CHAIN + 1, 0), (THREAD, 2**64 - 1), (THREAD, 4096)):
             got = self.library.name(text, kind, number)
             self.count.expect(f'the name of kind {kind}, number {number}: {got.result}', got == Answer(REFUSED, 0, old(32)))
@@ -261,19 +330,25 @@ class Trial:
         for system in (TOP / 'examples' / 'systems' / 'network_driver.toml', common.DATA / 'worked' / 'ring_of_three_cores.toml'):
             ran = common.run([built, system])
             taken = [int(line.split()[-1]) for line in ran.stdout.splitlines()]
-            self.count.expect(f'{system.name}: {ran}', ran.status == 0 and len(taken) == 6 and max(taken) <= STACK)
+            self.count.expect(f'{system.name}: {ran}', ran.status == 0 and len(taken) == 8 and max(taken) <= STACK)
 
-    def all(self) -> None:
+    def all(self, folder: pathlib.Path) -> None:
         self.count.expect('the version of the library', self.library.calls.mcs_version() == header_version())
         found = {run.file: run for run in library.runs()}
         self.count.expect('the corpus has more than 40 systems', len(found) > 40)
         for run in found.values():
             self.try_lines(run)
             self.try_numbers(run)
+            self.try_rounds(run, self.library.names(run.file.read_bytes())[THREAD][:1])
+            self.try_outlook(run)
         allowing = library.Run('network_driver', TOP / 'examples' / 'systems' / 'network_driver.toml', 1000, 'schedule')
         for allowed in (('events',), ('events', 'events'), ('evnts',), ('events', 'nobody'), ('a"b',)):
             self.try_lines(allowing, allowed)
+            self.try_outlook(allowing, allowed)
         self.try_refusals(allowing)
+        self.try_far(allowing)
+        for number in range(RANDOM):
+            self.try_random(folder / 'random.toml', number)
 
 
 def header_version() -> int:
@@ -295,7 +370,7 @@ def main() -> None:
     with tempfile.TemporaryDirectory() as folder:
         made = library.Trial(program, archive.resolve(), pathlib.Path(folder))
         trial = Trial(program, common.beside(program, 'mcscheck'), made.shared)
-        trial.all()
+        trial.all(pathlib.Path(folder))
         trial.try_example(archive.resolve(), pathlib.Path(folder))
         trial.try_stack(archive.resolve(), pathlib.Path(folder))
     trial.count.end()

@@ -22,8 +22,8 @@ from checks.common import TOP, Count, Ran
 LAUNCHER, EXAMPLE, TEST = TOP / 'mcsim', TOP / 'examples' / 'c' / 'reports.c', TOP / 'examples' / 'c' / 'test_design.c'
 SYSTEM = TOP / 'examples' / 'systems' / 'network_driver.toml'
 HORIZON = '100'
-# bytes of the shared library: 600 KiB
-MOST = 600 * 1024
+# bytes of the shared library
+MOST = 600_000
 SANITIZED = ('-fsanitize=address,undefined',)
 STRICT = ('-Wall', '-Wextra', '-Wpedantic', '-Werror')
 # prints the reports of standard input
@@ -132,7 +132,7 @@ class Trial:
             return
         project = self.folder / 'project'
         project.mkdir()
-        for asked, is_there in ((version(), True), ('', True), ('2.0', False), ('1.99', False)):
+        for asked, is_there in ((version(), True), ('1.1', True), ('', True), ('2.0', False), ('1.99', False)):
             (project / 'CMakeLists.txt').write_text(IN_CMAKE.format(asked=asked, source=EXAMPLE))
             shutil.rmtree(project / 'out', ignore_errors=True)
             ran = self.run('cmake', '-S', project, '-B', project / 'out', f'-DCMAKE_PREFIX_PATH={self.prefix}')

@@ -3,7 +3,7 @@
 
 It is built of a copy, with the library that was built here if there is one: from the source by pip, and as a wheel by python3 -m build. Each is put into a
 virtual environment of its own. The unit tests of python/tests run with the wheel, where no command is on PATH. What a user writes (python/tests/typed_use.py)
-has no finding of mypy --strict.
+has no finding of mypy --strict. 1,000 checks of a small system take at most half a second of processor time.
 
 It takes the first Python with pip, setuptools, wheel and build, of the one that runs this and Debian's (python3-setuptools, python3-wheel, python3-build).
 If none has build, it takes the first with the others, and skips the wheel; without one, or without a C compiler, all is skipped. What needs mypy is
@@ -34,6 +34,18 @@ cells = runpy.run_path(sys.argv[1])
 jobs, figures = cells['jobs'], cells['figures']
 print(sorted(set(jobs[jobs.thread == 'Driver'].response), reverse=True), list(figures.missed))
 """
+# the processor seconds of 1,000 checks of the system that the page shows, at best
+SPEED = """
+import time
+def seconds():
+    begun = time.process_time()
+    for _ in range(1000):
+        system.check(100)
+    return time.process_time() - begun
+print(min(seconds() for _ in range(3)))
+"""
+# what these may take
+MOST_SECONDS = 0.5
 # what the package is built of, beside its own folder
 BELOW = ('bin', 'launcher', 'tools')
 # bytes of the wheel
@@ -126,6 +138,8 @@ class Trial:
         # the job of the tick at 0 begins when the wait ends, at 1, and ends at 4, a tick late; that of 10 ends at 13
         ran = self.run(inside, '-c', shown + 'print(system.check(14).counts.missed, len(same.threads))')
         self.count.expect(f'what the page shows: {ran}', ran.stdout == b'1 2\n')
+        ran = self.run(inside, '-c', shown + SPEED)
+        self.count.expect(f'1,000 checks of a small system: {ran}', ran.status == 0 and float(ran.stdout) <= MOST_SECONDS)
         if not has(str(inside), 'pandas'):
             self.count.skip('the notebook, since there is no pandas')
             return

@@ -11,7 +11,7 @@ from collections.abc import Callable
 from typing import Any, Union, cast
 
 import mcsim
-from mcsim import library, rows, verdict
+from mcsim import explained, forever, library, rows, verdict
 
 # A job of `H` takes 3 ticks and its wait 1. The tick at 0 is pending when `H` waits for the first time, from 0 to 1: its job is activated at 0, begins at 1
 # and ends at 4. `H` waits from 4 to 5, is woken at 10, computes until 13, and waits until 14.
@@ -155,6 +155,94 @@ class Checked(unittest.TestCase):
             verdict.verdict_of(b'{"moment":20,"core":0,"kind":"lost","note":"tick","word":1}\n')
 
 
+class Explained(unittest.TestCase):
+    def test_a_job_whose_thread_was_woken(self) -> None:
+        # the span begins when H stops to wait, at 5, and ends with the job, at 13; the core is idle until the tick at 10
+        found = TICKING.why('H', 2, horizon=14)
+        self.assertEqual(list(found.rows), [
+            rows.Stop(5, 0, 'H', 'wait', 5), rows.Interrupt(10, 0, 'clock', 'tick', 1), rows.Wake(10, 0, 'H', 'tick', 1), rows.Run(10, 0, 'H'),
+            rows.Round(13, 0, 'H', 2, 3),
+        ])
+        self.assertEqual((found.thread, found.number, found.begin, found.end, found.waited), ('H', 2, 5, 13, 5))
+        self.assertEqual((found.activated, found.begun, found.ended, found.ran, found.idle), (10, 10, 13, {'H': 3}, 5))
+
+    def test_a_job_that_has_not_ended(self) -> None:
+        found = TICKING.why('H', 1, horizon=3)
+        self.assertEqual((found.begin, found.end, found.waited, found.activated, found.begun, found.ended), (0, 3, 0, 0, 1, None))
+        self.assertEqual((found.ran, found.idle, found.rows[-1]), ({'H': 3}, 0, rows.Got(1, 0, 'H', 'tick', 1)))
+
+    def test_each_kind_of_row(self) -> None:
+        # B leaves the server at 4 and has ended at 4; the signal of A, made at 1, arrives at 5
+        system = mcsim.System(
+            cores=2, delay=4, contexts=[mcsim.Context('a', 0, 9, 99), mcsim.Context('b', 1, 9, 99), mcsim.Context('c', 1, 9, 99)], notes=[mcsim.Note('n', 1)],
+            servers=[mcsim.Server('v', 1, 9, ['compute 2'])],
+            threads=[
+                mcsim.Thread('A', 'a', 5, ['signal n 6'], rounds=1), mcsim.Thread('B', 'b', 5, ['call v 1'], rounds=1),
+                mcsim.Thread('C', 'c', 4, ['wait n', 'compute 1'], rounds=1),
+            ],
+            orders=[mcsim.Order(3, 1, 'c', 8, 99)],
+        )
+        for thread in ('A', 'B', 'C'):
+            core = 0 if thread == 'A' else 1
+            shown = system.why(thread, 1, horizon=20)
+            wanted = [row for row in system.simulate(20) if row.core == core and shown.begin <= row.moment <= shown.end]
+            self.assertEqual(list(shown.rows), wanted)
+
+    def test_what_is_not_there(self) -> None:
+        with self.assertRaisesRegex(ValueError, 'no thread is called "X": the nearest is H'):
+            TICKING.why('X', 1)
+        for number in (0, 9, -1, 2**64):
+            # at 14 the third job is not activated
+            with self.assertRaisesRegex(ValueError, f'no round "{number}" of H: there are rounds 1 to 3'):
+                TICKING.why('H', number, 14)
+
+    def test_an_explanation_that_was_cut_off(self) -> None:
+        with self.assertRaises(EOFError):
+            explained.explanation_of(b'{"moment":20,"core":0,"kind":"run","thread":"H"}\n')
+
+
+class Foretold(unittest.TestCase):
+    # a job and a wait take 4 of 10 ticks, and the budget is half of the time, in refills enough: it is never exhausted
+    granted = TICKING.put(mcsim.Context('own', core=0, budget=10, period=20, extra_refills=4))
+
+    def test_a_miss_before_all_periods(self) -> None:
+        # the job of the tick at 0 ends at 4, and each later one 3 ticks after its tick
+        found = self.granted.forever()
+        one, = found.sets
+        self.assertEqual((list(found), one.cores, one.is_clean), ([mcsim.Misses('H', each_period=0, before=1)], (0,), False))
+        self.assertEqual((one.begin is not None and one.begin > 4, one.period is not None and one.period % 10), (True, 0))
+        self.assertEqual(one.responses, (mcsim.Response('H', 4, throttled='never'),))
+        self.assertEqual((found.is_clean, found.is_judged, found.counts), (False, True, mcsim.Sets(1, 1, 1, 1, 1)))
+
+    def test_nothing_is_ever_found(self) -> None:
+        found = self.granted.put(dataclasses.replace(TICKING.thread('H'), deadline=4)).forever()
+        self.assertEqual((found.is_clean, found.is_judged, len(found), found.sets[0].is_clean), (True, True, 0, True))
+
+    def test_no_repetition_up_to_a_horizon(self) -> None:
+        found = TICKING.forever(5)
+        self.assertEqual(found.sets, (mcsim.CoreSet((0,), None, None, (mcsim.Misses('H', so_far=1),), (mcsim.Response('H', 4, is_so_far=True),), False),))
+        self.assertEqual((found.is_clean, found.is_judged, found.counts), (False, False, mcsim.Sets(1, 0, 1, 1, 1)))
+
+    def test_what_is_overdue_never_and_lost(self) -> None:
+        late = TICKING.put(dataclasses.replace(TICKING.thread('H'), start=25))
+        self.assertEqual(list(late.forever(24)), [mcsim.Losses('tick', so_far=2), mcsim.EndsOverdue('H', 24)])
+        self.assertEqual(list(late.forever(24, allow_lost=['tick'])), [mcsim.EndsOverdue('H', 24)])
+        silent = TICKING.put(dataclasses.replace(TICKING.source('clock'), start=50)).forever(24)
+        self.assertEqual(list(silent), [mcsim.EndsNever('H', 24)])
+
+    def test_two_sets_of_cores(self) -> None:
+        # nobody signals another core
+        system = mcsim.System(
+            cores=2, contexts=[mcsim.Context('a', 0, 2, 5), mcsim.Context('b', 1, 3, 5)],
+            threads=[mcsim.Thread('A', 'a', 5, ['compute 2']), mcsim.Thread('B', 'b', 5, ['compute 1'])],
+        )
+        self.assertEqual([one.cores for one in system.forever().sets], [(0,), (1,)])
+
+    def test_an_outlook_that_was_cut_off(self) -> None:
+        with self.assertRaises(EOFError):
+            forever.outlook_of(b'{"kind":"open","cores":"0","horizon":9}\n')
+
+
 class Files(unittest.TestCase):
     def test_a_file_that_was_written_is_read(self) -> None:
         with tempfile.TemporaryDirectory() as folder:
@@ -197,7 +285,9 @@ class Files(unittest.TestCase):
 class Refused(unittest.TestCase):
     def fault(self, system: mcsim.System) -> str:
         said = []
-        calls: list[Callable[[], object]] = [system.simulate, system.check, system.table, system.view]
+        calls: list[Callable[[], object]] = [
+            system.simulate, system.check, system.table, system.view, system.forever, lambda: system.why('H', 1),
+        ]
         for call in calls:
             with self.assertRaises(mcsim.Fault) as caught:
                 call()
@@ -223,7 +313,7 @@ class Refused(unittest.TestCase):
 
     def test_a_horizon_out_of_range(self) -> None:
         for horizon in (-1, 2**40 + 1, 2**64, cast(Any, 1.5), cast(Any, '9')):
-            calls: list[Callable[[int], object]] = [TICKING.simulate, TICKING.check, TICKING.table]
+            calls: list[Callable[[int], object]] = [TICKING.simulate, TICKING.check, TICKING.table, TICKING.forever, lambda last: TICKING.why('H', 1, last)]
             for call in calls:
                 with self.subTest(horizon=horizon), self.assertRaisesRegex(ValueError, 'a whole number of 0 to 2\\^40 is allowed'):
                     call(horizon)
@@ -242,6 +332,8 @@ class Refused(unittest.TestCase):
     def test_a_notification_that_is_not_there(self) -> None:
         with self.assertRaisesRegex(ValueError, 'no notification is called "tack": the nearest is tick'):
             TICKING.check(14, allow_lost=['tack'])
+        with self.assertRaisesRegex(ValueError, 'no notification is called "tack": the nearest is tick'):
+            TICKING.forever(14, allow_lost=['tack'])
         for name in ('', 'tick\ntick'):
             with self.assertRaisesRegex(ValueError, 'no notification is called'):
                 TICKING.check(14, allow_lost=[name])

@@ -23,6 +23,14 @@ def greatest(system: mcsim.System) -> dict[str, Optional[int]]:
     return {figures.thread: figures.greatest for figures in system.table(100)}
 
 
+def blamed(system: mcsim.System) -> dict[str, int]:
+    return {thread: ticks for thread, ticks in system.why('A', 1).ran.items() if thread != 'A'}
+
+
+def each_period(system: mcsim.System) -> list[Optional[int]]:
+    return [one.each_period for one in system.forever() if isinstance(one, mcsim.Misses)]
+
+
 def with_budget(system: mcsim.System, budget: int) -> mcsim.System:
     return system.put(dataclasses.replace(system.context('a'), budget=budget))
 
@@ -37,3 +45,6 @@ SYSTEM.context('a').budget = 3  # type: ignore[misc]
 greatest(SYSTEM)['A'] + 1  # type: ignore[operator]
 [row.response for row in SYSTEM.simulate(100)]  # type: ignore[union-attr]
 SYSTEM.put(mcsim.Order(1, 0, 'a', 2, 5))  # type: ignore[arg-type]
+SYSTEM.why('A', '1')  # type: ignore[arg-type]
+SYSTEM.why('A', 1).ended + 1  # type: ignore[operator]
+[one.thread for one in SYSTEM.forever(100)]  # type: ignore[union-attr]

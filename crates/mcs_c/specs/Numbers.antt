@@ -1,5 +1,5 @@
 -- The rows of a schedule as numbers.
-use Rattle.std.specs.Prelude.{◌≡◌, ℕ, ◌++◌, List, ◌∷◌, map, Option, Some, None}
+use Rattle.std.specs.Prelude.{◌≡◌, ◌≤◌, ℕ, ◌++◌, List, ◌∷◌, length, map, Option, Some, None}
 use Rattle.mcs_ticks.specs.declared.row.Row.{Row}
 use Rattle.mcs_ticks.specs.declared.row.What.{What}
 use Rattle.mcs_ticks.specs.declared.row.What.TheVariants as row
@@ -52,3 +52,9 @@ abbrev pub IsCutBefore : List Row → List NumberedRow → ℕ → Type 0
 IsCutBefore rows first time =
     (before : List Row) × (next : Row) × (rest : List Row)
     × (rows ≡ before ++ next ∷ rest) × (first ≡ map numbers_of before) × (time ≡ next.moment)
+
+-- the first rows, at most so many: all of them, or as many and the next one is of this time
+abbrev pub AreFirst : List Row → ℕ → List Row → Option ℕ → Type 0
+AreFirst rows most first None = (first ≡ rows) × (length first ≤ most)
+AreFirst rows most first (Some time) =
+    (length first ≡ most) × (next : Row) × (rest : List Row) × (rows ≡ first ++ next ∷ rest) × (time ≡ next.moment)

@@ -1,13 +1,13 @@
 //! A check of a text: the lines of its verdict, or the line of what is wrong with it.
-ghost use Rattle.std.specs.Prelude.{◌≡◌, ◌≢◌, ◌≤◌, ◌<◌, ◌^◌, ◌⊎◌, ℕ, List, IsUtf8, Ok, false, true, length, take, drop, IfOk, IfSome, string_bytes};
+ghost use Rattle.std.specs.Prelude.{◌≡◌, ◌≤◌, ◌<◌, ◌^◌, ◌⊎◌, ℕ, List, IsUtf8, Ok, false, true, length, take, drop};
 ghost use Rattle.mcs_cli.specs.Run.{loaded};
 ghost use Rattle.mcs_check_lines.specs.Formats.{is_mixed};
 ghost use Rattle.mcs_check.specs.Check.{names_of};
-ghost use Rattle.mcs_check.specs.Fault.{check_fault_text};
-ghost use Rattle.mcs_c.specs.Check.{format_of, names_in, part_of, HasLines, IsCoded, IsFaultLine, IsGiven, IsTold, IsVerdict, IsVerdictText};
+ghost use Rattle.mcs_c.specs.Check.{format_of, names_in, part_of, IsFaultLine, IsVerdictText};
+ghost use Rattle.mcs_c.specs.Verdict.{HasLines, IsCoded, IsVerdict};
 
 use crate::options::{format_of, names_in, options_of, part_of};
-use crate::room::handed;
+use crate::verdict::{Verdict, hand_out, told};
 use mcs_check::{CheckFault, check_alone};
 use mcs_check_lines::is_mixed;
 use mcs_check_words::Options;
@@ -15,41 +15,14 @@ use mcs_cli::RunFault;
 use mcs_load::{FaultKind, load};
 use mcs_system::System;
 use mcs_ticks::Tick;
-use std::alloc::{AllocError, Global};
-
-/// The verdict on a text.
-#[derive(Drop)]
-pub(crate) enum Verdict {
-    /// The lines, and the exit code of `mcscheck` that comes with them.
-    Lines(Vec<u8>, u32),
-    /// The line of what is wrong with the text or the names.
-    Fault(String),
-    /// Out of memory.
-    NoMemory,
-}
-
-/// The line of a fault, without a line feed.
-fn line_of(alloc: Global, fault: &CheckFault) -> Result<String, AllocError>
-    ensures { IfOk result (λ line. IfSome (check_fault_text fault.now) (λ said. string_bytes line ≡ said)) }
-{
-    format!(in alloc; "{fault}")
-}
-
-/// The verdict that says what is wrong.
-fn told(alloc: Global, fault: &CheckFault) -> Verdict
-    ensures { IsTold fault.now result }
-{
-    match line_of(alloc, fault) {
-        Ok(line) => Verdict::Fault(line),
-        Err(_) => Verdict::NoMemory,
-    }
-}
+use std::alloc::Global;
 
 /// Checks a system.
 fn verdict_of(alloc: Global, system: System, options: &Options) -> Verdict
     requires { is_mixed options.now.format options.now.show ≡ false }
     ensures verdict { (text : List ℕ) → loaded text ≡ Ok system
-        → IsVerdict text (names_of options.now) options.now.horizon options.now.format options.now.show result }
+        → IsVerdict (IsVerdictText text (names_of options.now) options.now.horizon options.now.format options.now.show)
+        (IsFaultLine text (names_of options.now)) result }
     ensures code { IsCoded result }
 {
     match check_alone(alloc, system, options) {
@@ -62,33 +35,14 @@ fn verdict_of(alloc: Global, system: System, options: &Options) -> Verdict
 /// Checks the system that a text describes.
 pub(crate) fn verdict_on(alloc: Global, text: &[u8], options: &Options) -> Verdict
     requires { is_mixed options.now.format options.now.show ≡ false }
-    ensures verdict { IsVerdict text.now (names_of options.now) options.now.horizon options.now.format options.now.show result }
+    ensures verdict { IsVerdict (IsVerdictText text.now (names_of options.now) options.now.horizon options.now.format options.now.show)
+        (IsFaultLine text.now (names_of options.now)) result }
     ensures code { IsCoded result }
 {
     match load(alloc, text) {
         Ok(system) => verdict_of(alloc, system, options),
         Err(fault) if fault.kind == FaultKind::NoMemory => Verdict::NoMemory,
         Err(fault) => told(alloc, &CheckFault::Run(RunFault::Load(fault))),
-    }
-}
-
-/// Hands a verdict to the caller.
-fn hand_out(verdict: &Verdict, room: &mut [u8], length_of: &mut usize) -> u32
-    requires zero { length_of.old ≡ 0 }
-    requires coded { IsCoded verdict.now }
-    ensures given { IsGiven verdict.now result (take length_of.new room.new) }
-    ensures fits { (HasLines result ⊎ (result ≡ 1)) → length_of.new ≤ length room.new }
-    ensures needs { result ≡ 2 → length room.new < length_of.new }
-    ensures codes { (result ≤ 6) × (result ≢ 3) }
-    ensures behind { (HasLines result ⊎ (result ≡ 1)) → drop length_of.new room.new ≡ drop length_of.new room.old }
-    ensures unchanged { ((result ≡ 2) ⊎ (result ≡ 4)) → room.new ≡ room.old }
-    ensures nothing { result ≡ 4 → length_of.new ≡ 0 }
-    ensures room { length room.new ≡ length room.old }
-{
-    match verdict {
-        Verdict::Lines(lines, code) => handed(lines.as_slice(), room, length_of, *code),
-        Verdict::Fault(line) => handed(line.as_bytes(), room, length_of, 1),
-        Verdict::NoMemory => 4,
     }
 }
 
@@ -125,8 +79,7 @@ pub extern "C" fn mcs_check(
 ) -> u32
     ensures lines { HasLines result
         → IsVerdictText text.now (names_in allowed.now) horizon (format_of format) (part_of show) (take length_of.new room.new) result }
-    ensures fault { result ≡ 1
-        → IsFaultLine text.now (names_in allowed.now) horizon (format_of format) (part_of show) (take length_of.new room.new) }
+    ensures fault { result ≡ 1 → IsFaultLine text.now (names_in allowed.now) (take length_of.new room.new) }
     ensures fits { (HasLines result ⊎ (result ≡ 1)) → length_of.new ≤ length room.new }
     ensures needs { result ≡ 2 → length room.new < length_of.new }
     ensures wrong { ((2 ^ 40 < horizon) ⊎ ((3 < show) ⊎ ((2 < format) ⊎ (is_mixed (format_of format) (part_of show) ≡ true)))) → result ≡ 3 }

@@ -14,29 +14,35 @@ ghost use Rattle.mcs_c.specs.Output.{IsLengthOf, show_of};
 mod answer;
 mod check;
 mod findings;
+mod first;
+mod forever;
 mod name;
 mod numbers;
 mod options;
 mod output;
 mod room;
+mod verdict;
+mod why;
 
 use answer::{Answer, answer_to};
 pub use check::mcs_check;
 pub use findings::{NumberedFinding, NumberedStood, mcs_findings};
+pub use forever::mcs_forever;
 use mcs_cli::Show;
 use mcs_ticks::Tick;
 pub use name::mcs_name;
 pub use numbers::{NumberedRow, mcs_rows};
 use room::handed;
 use std::alloc::Global;
+pub use why::mcs_why;
 
 /// The version of the interface: 65,536 times the major number, and the minor number.
-const VERSION: u32 = 65_536 + 1;
+const VERSION: u32 = 65_536 + 2;
 
 /// Returns the version of the library, which is that of the header that it was built with.
 #[unsafe(no_mangle)]
 pub extern "C" fn mcs_version() -> u32
-    ensures { result ≡ 65537 }
+    ensures { result ≡ 65538 }
 {
     VERSION
 }

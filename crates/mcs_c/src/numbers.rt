@@ -1,18 +1,15 @@
 //! The rows of a schedule as numbers, in an array of the caller.
 ghost use Rattle.std.specs.Prelude.{◌≡◌, ◌≤◌, ◌<◌, ◌+◌, ◌^◌, ◌⊎◌, ◌↔◌, IfOk, Ok, Err, length, map, take, drop};
-ghost use Rattle.std.specs.Arc.{arc_value};
 ghost use Rattle.mcs_core.specs.Clock.{schedule};
 ghost use Rattle.mcs_load.specs.declared.fault.LoadFault.{LoadFault};
 ghost use Rattle.mcs_cli.specs.Run.{loaded};
 ghost use Rattle.mcs_system.specs.System.{System as TheSystem};
 ghost use Rattle.mcs_c.specs.Numbers.{numbers_of, number_or_none, reason, IsCutBefore};
 
+use crate::first::first_rows;
 use mcs_load::{FaultKind, load};
-use mcs_system::System;
-use mcs_team::simulate_alone;
-use mcs_ticks::{NoMemory, NoteId, Row, Sequence, ThreadId, Tick, What, Why};
+use mcs_ticks::{NoteId, Row, ThreadId, Tick, What, Why};
 use std::alloc::Global;
-use std::sync::Arc;
 
 /// Stands for a number that a row does not have.
 pub(crate) const NONE: u64 = u64::MAX;
@@ -157,36 +154,9 @@ fn fill(all: &[Row], rows: &mut [NumberedRow])
     }
 }
 
-/// Fills an array with the first rows. Returns the time of the next one.
-fn fill_up(all: &[Row], rows: &mut [NumberedRow]) -> u64
-    requires { length rows.old < length all.now }
-    ensures { IsCutBefore all.now rows.new result }
-{
-    let many = rows.len();
-    let next = all[many].moment;
-    fill(&all[..many], rows);
-    next.get()
-}
-
-/// All rows of a system's schedule, made on this thread.
-pub(crate) fn rows_of(
-    alloc: Global,
-    system: System,
-    horizon: Tick,
-) -> Result<Sequence<Row>, NoMemory>
-    requires { horizon ≤ 2 ^ 40 }
-    ensures { IfOk result (λ rows. rows ≡ schedule system horizon) }
-{
-    let system = Arc::new(alloc, system)?;
-    match simulate_alone(alloc, system, horizon) {
-        Ok(whole) => Ok(whole.rows),
-        Err(_) => Err(NoMemory),
-    }
-}
-
 /// Simulates the system that a text describes, up to a horizon of at most 2^40 ticks, on the
 /// calling thread only, and writes the first rows of its schedule to the start of an array, as many
-/// as fit.
+/// as fit. If they do not all fit, the simulation ends soon after the first one that does not.
 ///
 /// `many_of` is the number of rows written. All rows before the time `whole_before` are among them.
 /// Later rows of the array stay as they were. The result is one of these codes:
@@ -229,17 +199,19 @@ pub extern "C" fn mcs_rows(
         Err(fault) if fault.kind == FaultKind::NoMemory => return 4,
         Err(_) => return 1,
     };
-    let Ok(all) = rows_of(alloc, system, until) else {
+    let Ok(first) = first_rows(alloc, system, until, rows.len()) else {
         return 4;
     };
-    let all = all.as_slice();
-    if rows.len() < all.len() {
-        *many_of = rows.len();
-        *whole_before = fill_up(all, rows);
-        return 7;
+    *many_of = first.rows.len();
+    fill(first.rows.as_slice(), rows);
+    match first.next {
+        Some(next) => {
+            *whole_before = next.get();
+            7
+        }
+        None => {
+            *whole_before = horizon + 1;
+            0
+        }
     }
-    *many_of = all.len();
-    *whole_before = horizon + 1;
-    fill(all, rows);
-    0
 }

@@ -1,5 +1,5 @@
 -- The bytes that a check for all time reads and writes.
-use Rattle.std.specs.Prelude.{Result, Ok, Err, Option, Some, ◌≡◌, ◌≢◌, ◌⊎◌, List, ℕ, Bool, true, false, ◌||◌, is_some, not}
+use Rattle.std.specs.Prelude.{Result, Ok, Err, Option, Some, ◌≡◌, ◌≢◌, ◌⊎◌, List, ℕ, Bool, true, false, ◌||◌, is_some, ⊤}
 use Rattle.std.specs.Io.KnownBytes.{Appends, Keeps}
 use Rattle.mcs_system.specs.System.{System}
 use Rattle.mcs_load.specs.Memory.{no_memory}
@@ -54,3 +54,13 @@ module _ (write_old write_new : Option (List ℕ)) (write_failed : Bool) (option
         Keeps write_old write_new × (f ≢ no_memory → IsFaultOfInput read_old read_new given_old given_new f)
     IsForetelling result = (is_mixed options ≡ false)
         × (system : System) × IsRead read_old read_new given_old given_new system × IsTold system result
+
+-- why a system is not checked for all time: an option does not go with it, a name is unknown, or
+-- memory ran out
+abbrev pub IsUnforetold : Options → System → ForeverFault → Type 0
+IsUnforetold options system Mixed = is_mixed options ≡ true
+IsUnforetold options system (Check (Unknown name nearest)) =
+    (asked : List ℕ) × (first_unknown (notifications system) (names_of options) ≡ Some asked)
+    × IsUnknownFault (notifications system) asked (Unknown name nearest)
+IsUnforetold options system (Check (Run (run.Sim f))) = ⊤
+IsUnforetold options system (Check fault) = ⊥

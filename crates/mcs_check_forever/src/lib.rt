@@ -8,5 +8,5 @@ mod told;
 mod verdict;
 
 pub use forever_fault::ForeverFault;
-pub use run::{foretell, foretell_with};
+pub use run::{foretell, foretell_alone, foretell_with};
 pub use verdict::Verdict;

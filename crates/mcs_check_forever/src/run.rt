@@ -1,18 +1,19 @@
 //! The check for all time, from the bytes read to the bytes written.
-ghost use Rattle.std.specs.Prelude.{◌≡◌, ◌^◌, ◌≤◌, ℕ, List, Bool, Option, None, Err, true, false, IfOk, IfSome};
+ghost use Rattle.std.specs.Prelude.{◌≡◌, ◌^◌, ◌≤◌, ℕ, List, Bool, Option, None, Err, true, false, IfErr, IfOk, IfSome, OnOk};
 ghost use Rattle.std.specs.Arc.{arc_value};
 ghost use Rattle.mcs_cli.specs.declared.fault.RunFault.TheVariants as fault;
 ghost use Rattle.mcs_team.specs.declared.run.SimFault.TheVariants as memory;
+ghost use Rattle.mcs_check.specs.Allowed.{first_unknown, notifications};
 ghost use Rattle.mcs_check.specs.Check.{names_of};
 ghost use Rattle.mcs_check.specs.declared.fault.CheckFault.TheVariants as check;
 ghost use Rattle.mcs_ever_told.specs.Outlook.{AreTold};
-ghost use Rattle.mcs_check_forever.specs.Foretold.{IsForetelling, IsTold, is_mixed};
+ghost use Rattle.mcs_check_forever.specs.Foretold.{IsForetelling, IsTold, IsUnforetold, is_mixed};
 ghost use Rattle.mcs_check_forever.specs.Verdict.{IsForetold};
 ghost use Rattle.mcs_check_forever.specs.declared.forever_fault.ForeverFault.TheVariants.{Check};
 
 use crate::told::{text_of, verdict_of};
 use crate::{ForeverFault, Verdict};
-use mcs_check::{CheckFault, Progress, flags_of, refuse_unknown};
+use mcs_check::{CheckFault, Progress, Quiet, flags_of, refuse_unknown};
 use mcs_check_words::{Format, Options};
 use mcs_cli::{FromRead, RunFault, Source, Target, read_system, write_text};
 use mcs_ever_told::{Outlook, Told};
@@ -90,6 +91,31 @@ pub fn foretell<S: Source, T: Target, P: Progress>(
     }
     let system = read_system(alloc, source)?;
     tell(alloc, target, system, options, progress)
+}
+
+/// Checks a system for all time on this thread, and returns the verdict and the text
+/// that `foretell` may write of it. Needs no device.
+///
+/// Errors: `Mixed` and `Unknown` as `foretell` has them; `Sim` if an allocation failed.
+pub fn foretell_alone(
+    alloc: Global,
+    system: System,
+    options: &Options,
+) -> Result<(Verdict, Vec<u8>), ForeverFault>
+    ensures text { IfOk result
+        (λ told. IsForetold (names_of options.now) system options.now.horizon options.now.format told.0 told.1.items) }
+    ensures matched { OnOk result (is_mixed options.now ≡ false) }
+    ensures known { OnOk result (first_unknown (notifications system) (names_of options.now) ≡ None) }
+    ensures fault { IfErr result (IsUnforetold options.now system) }
+{
+    if is_mixed(options) {
+        return Err(ForeverFault::Mixed);
+    }
+    refuse_unknown(alloc, system.parts(), options.allowed.as_slice())?;
+    match foretold(alloc, system, options, &mut Quiet) {
+        Ok(told) => Ok(told),
+        Err(NoMemory) => Err(no_memory()),
+    }
 }
 
 /// Whether an option is given that does not go with it.

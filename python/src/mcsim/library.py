@@ -4,6 +4,7 @@ from __future__ import annotations
 import ctypes
 import functools
 from collections.abc import Callable, Sequence
+from typing import NamedTuple
 
 from . import places
 from .faults import Fault
@@ -16,21 +17,37 @@ JSON = 2
 LINES, FAULT, ROOM, REFUSED, NO_MEMORY, FOUND, UNJUDGED = range(7)
 # bytes of the room of a first call, in which most short runs fit
 FIRST = 65_536
-OF_WORDS = 'mcscheck: --allow-lost: '
+# how the line of a name or a round that is not there begins
+OF_WORDS = ('--allow-lost: ', '--why: ')
 
 Call = Callable[..., int]
 
 
+class Calls(NamedTuple):
+    """The calls of the shared library that write lines."""
+
+    run: Call
+    check: Call
+    why: Call
+    forever: Call
+
+
 @functools.cache
-def calls() -> tuple[Call, Call]:
-    """The calls mcs_run and mcs_check of the shared library."""
+def calls() -> Calls:
+    """The calls, with the types of their arguments."""
     library = ctypes.CDLL(places.of(places.LIBRARY))
-    size, number, text = ctypes.c_size_t, ctypes.c_uint32, ctypes.c_char_p
-    room = (text, size, ctypes.POINTER(size))
-    library.mcs_run.argtypes = [text, size, ctypes.c_uint64, number, *room]
-    library.mcs_check.argtypes = [text, size, ctypes.c_uint64, number, number, text, size, *room]
-    library.mcs_run.restype = library.mcs_check.restype = number
-    return library.mcs_run, library.mcs_check
+    size, number = ctypes.c_size_t, ctypes.c_uint32
+    text = (ctypes.c_char_p, size)
+    words = {
+        'run': (number,), 'check': (number, number, *text), 'why': (*text, *text, number), 'forever': (number, *text),
+    }
+    found = []
+    for name in Calls._fields:
+        call = getattr(library, f'mcs_{name}')
+        call.argtypes = [*text, ctypes.c_uint64, *words[name], *text, ctypes.POINTER(size)]
+        call.restype = number
+        found.append(call)
+    return Calls(*found)
 
 
 def need_horizon(horizon: int) -> None:
@@ -52,7 +69,7 @@ def answer(call: Call, *words: object) -> tuple[int, bytes]:
 def run(text: bytes, horizon: int, show: int) -> bytes:
     """The lines that mcsim prints of a system."""
     need_horizon(horizon)
-    result, written = answer(calls()[0], text, len(text), horizon, show)
+    result, written = answer(calls().run, text, len(text), horizon, show)
     if result == FAULT:
         raise Fault(written.decode().removeprefix('mcsim: '))
     if result != LINES:
@@ -63,15 +80,39 @@ def run(text: bytes, horizon: int, show: int) -> bytes:
 def check(text: bytes, horizon: int, part: str, allow_lost: Sequence[str] = ()) -> bytes:
     """The objects that mcscheck writes of a system, one a line."""
     need_horizon(horizon)
-    if unfit := [note for note in allow_lost if not note or '\n' in note]:
+    allowed = names_of(allow_lost)
+    return lines_of(answer(calls().check, text, len(text), horizon, PARTS[part], JSON, allowed, len(allowed)), horizon)
+
+
+def forever(text: bytes, horizon: int, allow_lost: Sequence[str] = ()) -> bytes:
+    """The objects that mcscheck --forever writes of a system, one a line."""
+    need_horizon(horizon)
+    allowed = names_of(allow_lost)
+    return lines_of(answer(calls().forever, text, len(text), horizon, JSON, allowed, len(allowed)), horizon)
+
+
+def why(text: bytes, horizon: int, thread: str, number: int) -> bytes:
+    """The objects that mcscheck --why writes of a round, one a line."""
+    need_horizon(horizon)
+    name, digits = thread.encode(), str(number).encode()
+    return lines_of(answer(calls().why, text, len(text), horizon, name, len(name), digits, len(digits), JSON), horizon)
+
+
+def names_of(notes: Sequence[str]) -> bytes:
+    """The names of notifications, one a line."""
+    if unfit := [note for note in notes if not note or '\n' in note]:
         raise ValueError(f'--allow-lost: no notification is called {unfit[0]!r}')
-    allowed = '\n'.join(allow_lost).encode()
-    result, written = answer(calls()[1], text, len(text), horizon, PARTS[part], JSON, allowed, len(allowed))
+    return '\n'.join(notes).encode()
+
+
+def lines_of(answered: tuple[int, bytes], horizon: int) -> bytes:
+    """The lines that a call of the checker answered; a name or a round that is not there is a ValueError, and a fault of the text a Fault."""
+    result, written = answered
     if result in (LINES, FOUND, UNJUDGED):
         return written
-    said = written.decode()
+    said = written.decode().removeprefix('mcscheck: ')
     if result == FAULT and said.startswith(OF_WORDS):
-        raise ValueError(said.removeprefix('mcscheck: '))
+        raise ValueError(said)
     if result == FAULT:
-        raise Fault(said.removeprefix('mcscheck: '))
+        raise Fault(said)
     raise MemoryError(f'no memory for a check to {horizon}')

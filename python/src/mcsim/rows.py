@@ -3,7 +3,7 @@ from __future__ import annotations
 
 from collections.abc import Callable, Iterator
 from dataclasses import dataclass
-from typing import Literal, Optional, Union, get_args
+from typing import Any, Literal, Optional, Union, get_args
 
 Why = Literal['spent', 'yield', 'wait', 'call', 'done', 'preempt', 'order']
 WHYS: dict[str, Why] = {why: why for why in get_args(Why)}
@@ -171,3 +171,15 @@ def rows_of(lines: bytes) -> Iterator[Row]:
         words = lines[at:end].decode().split(' ')
         yield READERS[words[2]](int(words[0]), int(words[1]), words)
         at = end + 1
+
+
+# the class of a row for each kind of object that mcscheck --why writes
+KINDS: dict[str, type[Row]] = {
+    'release': Release, 'run': Run, 'stop': Stop, 'signal': Signal, 'arrive': Arrive, 'wake': Wake, 'hold': Hold, 'got': Got, 'round': Round, 'order': Ordered,
+    'interrupt': Interrupt, 'enter': Enter, 'leave': Leave,
+}
+
+
+def row_of(kind: str, values: dict[str, Any]) -> Row:
+    """The row of an object: its values have the names of the row's fields, but for the core that a signal comes from."""
+    return KINDS[kind](**{'maker' if name == 'from' else name: value for name, value in values.items()})

@@ -10,11 +10,13 @@ from collections.abc import Iterator, Mapping, Sequence
 from dataclasses import dataclass
 from typing import Any, Optional, TypeVar, Union
 
-from . import library, rows, verdict, views
+from . import explained, forever, library, rows, verdict, views
 from .parts import Chain, Context, Link, Named, Note, Order, Part, Server, Source, Thread
 
 # the last time of a run, where none is given
 HORIZON = 1000
+# the last time of a search for a repetition, where none is given
+SEARCH = 10_000_000
 # the field of a system for each list of a file, in the order of a file, and what its rows are
 LISTS: Mapping[str, tuple[str, type[Part]]] = {
     'context': ('contexts', Context), 'note': ('notes', Note), 'server': ('servers', Server), 'thread': ('threads', Thread), 'source': ('sources', Source),
@@ -125,6 +127,14 @@ class System:
     def jobs(self, horizon: int = HORIZON) -> Iterator[verdict.Job]:
         """The jobs that ended up to a horizon, by their ends."""
         return verdict.jobs_of(library.check(self.data(), horizon, 'jobs'))
+
+    def why(self, thread: str, round: int, horizon: int = HORIZON) -> explained.Explanation:
+        """Why the job of this number, from 1, of a thread took so long in the schedule up to a horizon. A thread or a job that is not there is a ValueError."""
+        return explained.explanation_of(library.why(self.data(), horizon, thread, round))
+
+    def forever(self, horizon: int = SEARCH, allow_lost: Sequence[str] = ()) -> forever.Outlook:
+        """What is wrong with the schedule for all time: a repetition is searched for up to a horizon."""
+        return forever.outlook_of(library.forever(self.data(), horizon, allow_lost))
 
     def view(self, horizon: int = HORIZON, begin: int = 0, end: Optional[int] = None, width: int = 1000) -> views.View:
         """A picture of the schedule up to a horizon, from begin to end."""

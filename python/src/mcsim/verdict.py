@@ -204,11 +204,6 @@ class Figures:
 
 
 FINDINGS: Mapping[str, type[Union[Miss, Overdue, Lost, Never]]] = {'miss': Miss, 'overdue': Overdue, 'lost': Lost, 'never': Never}
-# the names of the values that each class has
-NAMES: Mapping[type[Any], frozenset[str]] = {
-    kind: frozenset(field.name for field in dataclasses.fields(kind)) for kind in (Miss, Overdue, Lost, Never, Unjudged, Hint, Counts, Job, Figures)
-}
-
 
 def objects_of(lines: bytes) -> Iterator[tuple[str, dict[str, Any]]]:
     """The objects of the lines that mcscheck writes: the kind of each, and its other values. No object has a line feed in it."""
@@ -217,9 +212,20 @@ def objects_of(lines: bytes) -> Iterator[tuple[str, dict[str, Any]]]:
         yield values.pop('kind'), values
 
 
+# the names of the values that each class has, once it was used
+NAMES: dict[type[Any], frozenset[str]] = {}
+
+
+def names_of(of: type[Any]) -> frozenset[str]:
+    """The names of the values that a class has."""
+    if of not in NAMES:
+        NAMES[of] = frozenset(field.name for field in dataclasses.fields(of))
+    return NAMES[of]
+
+
 def made(of: type[Any], values: dict[str, Any]) -> Any:
     """An object of the values that its class has; a later library may write more."""
-    names = NAMES[of]
+    names = names_of(of)
     return of(**values) if names.issuperset(values) else of(**{name: value for name, value in values.items() if name in names})
 
 

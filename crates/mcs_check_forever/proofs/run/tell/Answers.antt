@@ -2,7 +2,6 @@ use Rattle.std.proofs.Common.{rules, ◌≡◌, IfSome, IsSome, List, ℕ, ap, m
 use Rattle.std.specs.Prelude.{Err}
 use Rattle.std.specs.Io.KnownBytes.{Appends}
 use Rattle.mcs_cli.specs.Devices.{AppendsPrefix}
-use Rattle.mcs_cli.specs.declared.fault.RunFault.TheVariants as run
 use Rattle.mcs_team.specs.declared.run.SimFault.TheVariants as memory
 use Rattle.mcs_check.specs.Allowed.{IsUnknownFault, first_unknown, notifications}
 use Rattle.mcs_check.specs.Check.{names_of}

@@ -1,0 +1,141 @@
+"""What is found for all time. The names are those of the JSON of mcscheck --forever (docs/CHECK.md); `begin` is its `from`."""
+from __future__ import annotations
+
+from collections.abc import Iterator, Mapping, Sequence
+from dataclasses import dataclass
+from typing import Any, Optional, Union
+
+from .verdict import made, objects_of
+
+
+@dataclass(frozen=True)
+class Misses:
+    """How many jobs of the thread miss their deadline: in each period and before the first, or so far if no repetition was found."""
+
+    thread: str
+    each_period: Optional[int] = None
+    before: Optional[int] = None
+    so_far: Optional[int] = None
+
+
+@dataclass(frozen=True)
+class Losses:
+    """How many signals and interrupts are lost at the notification, likewise."""
+
+    note: str
+    each_period: Optional[int] = None
+    before: Optional[int] = None
+    so_far: Optional[int] = None
+
+
+@dataclass(frozen=True)
+class EndsOverdue:
+    """A job of the thread is overdue at the last time of the first period, or at the horizon."""
+
+    thread: str
+    moment: int
+
+
+@dataclass(frozen=True)
+class EndsNever:
+    """The thread has a deadline, and no job of it was activated up to that time."""
+
+    thread: str
+    moment: int
+
+
+@dataclass(frozen=True)
+class Response:
+    """The greatest response of the jobs of a thread that ever end, None if none does; of those up to the horizon if `is_so_far`.
+
+    `throttled` is 'never' if the thread never exhausts its budget. No job of it ends from the time `ends_no_round_from` on, if that is not None."""
+
+    thread: str
+    greatest: Optional[int] = None
+    throttled: Optional[str] = None
+    ends_no_round_from: Optional[int] = None
+    is_so_far: bool = False
+
+
+EverFinding = Union[Misses, Losses, EndsOverdue, EndsNever]
+FINDINGS: Mapping[str, type[EverFinding]] = {'miss': Misses, 'lost': Losses, 'overdue': EndsOverdue, 'never': EndsNever}
+
+
+@dataclass(frozen=True)
+class CoreSet:
+    """A set of cores that no core outside signals. From `begin` on all that they do repeats each `period` ticks, for ever; both are None if no repetition was
+    found. `is_clean` is that nothing is ever found."""
+
+    cores: Sequence[int]
+    begin: Optional[int]
+    period: Optional[int]
+    findings: Sequence[EverFinding]
+    responses: Sequence[Response]
+    is_clean: bool
+
+
+@dataclass(frozen=True)
+class Sets:
+    """How many sets of cores there are, how many repeat, and how many findings there are; then how many threads and deadlines the file has."""
+
+    sets: int
+    repeating: int
+    findings: int
+    threads: int
+    deadlines: int
+
+
+@dataclass(frozen=True)
+class Outlook:
+    """The sets of cores with their findings, and the counts."""
+
+    sets: Sequence[CoreSet]
+    counts: Sets
+
+    @property
+    def findings(self) -> Sequence[EverFinding]:
+        """The findings of all sets."""
+        return tuple(found for one in self.sets for found in one.findings)
+
+    @property
+    def is_clean(self) -> bool:
+        """Whether nothing was found, which says nothing of all time unless `is_judged`."""
+        return self.counts.findings == 0
+
+    @property
+    def is_judged(self) -> bool:
+        """Whether each set repeats and a thread has a deadline."""
+        return self.counts.repeating == self.counts.sets and self.counts.deadlines > 0
+
+    def __iter__(self) -> Iterator[EverFinding]:
+        return iter(self.findings)
+
+    def __len__(self) -> int:
+        return len(self.findings)
+
+
+def response_of(kind: str, values: dict[str, Any]) -> Response:
+    return Response(values['thread'], values.get('greatest'), values.get('throttled'), values.get('ends_no_round_from'), kind == 'thread_so_far')
+
+
+def set_of(values: dict[str, Any], told: Sequence[tuple[str, dict[str, Any]]]) -> CoreSet:
+    """A set of cores, of the object that begins it and those that follow."""
+    return CoreSet(
+        tuple(map(int, values['cores'].split())), values.get('from'), values.get('period'),
+        tuple(made(FINDINGS[kind], found) for kind, found in told if kind in FINDINGS),
+        tuple(response_of(kind, found) for kind, found in told if kind in ('thread', 'thread_so_far')),
+        any(kind == 'clean' for kind, _ in told),
+    )
+
+
+def outlook_of(lines: bytes) -> Outlook:
+    """The outlook that these lines tell."""
+    sets: list[tuple[dict[str, Any], list[tuple[str, dict[str, Any]]]]] = []
+    for kind, values in objects_of(lines):
+        if kind in ('repeats', 'open'):
+            sets.append((values, []))
+        elif kind == 'sets':
+            return Outlook(tuple(set_of(*one) for one in sets), made(Sets, values))
+        else:
+            sets[-1][1].append((kind, values))
+    raise EOFError('the outlook has no line of counts')
