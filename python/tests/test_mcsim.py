@@ -143,11 +143,26 @@ class Checked(unittest.TestCase):
         self.assertEqual((first.number, first.activated, first.begun, first.moment, first.response, first.queued), (1, 0, 1, 4, 4, 1))
         self.assertEqual((second.number, second.activated, second.begun, second.moment, second.response, second.queued), (2, 10, 10, 13, 3, 0))
 
+    def test_a_chain_of_two_cores(self) -> None:
+        # D waits from 1 on, is woken at 3, computes to 5, signals at 6; the signal arrives at 8, and C computes to 12
+        system = mcsim.System(
+            cores=2, delay=2,
+            contexts=[mcsim.Context('d', 0, 5, 20), mcsim.Context('c', 1, 9, 20)],
+            notes=[mcsim.Note('n', 0), mcsim.Note('p', 1)],
+            sources=[mcsim.Source('s', 'n', 1, 20, start=3)],
+            threads=[mcsim.Thread('D', 'd', 5, ['wait n', 'compute 2', 'signal p 1']), mcsim.Thread('C', 'c', 5, ['wait p', 'compute 4'])],
+            chains=[mcsim.Chain('way', source='s', thread='C', deadline=8)],
+        )
+        self.assertEqual(list(system.answers(20)), [mcsim.Answer(12, 1, 'C', 1, 'way', 9, 3, 8)])
+        found = system.check(31)
+        self.assertEqual(list(found), [mcsim.Slow(12, 1, 'way', 9, 8, 3), mcsim.Unanswered(31, 1, 'way', 8, 23)])
+        self.assertEqual((found.counts.slow, found.counts.unanswered), (1, 1))
+
     def test_a_kind_of_finding_that_is_not_known(self) -> None:
         counts = b'{"kind":"counts","missed":0,"overdue":0,"lost":0,"never":0,"merged":0,"allowed":0,"unjudged":0,"hints":0,"threads":1,' \
             b'"deadlines":0,"judged":0,"new":1}\n'
-        found = verdict.verdict_of(b'{"moment":3,"core":1,"kind":"slow","chain":"way","latency":9}\n' + counts)
-        self.assertEqual(list(found), [mcsim.Other(3, 1, 'slow', {'moment': 3, 'core': 1, 'chain': 'way', 'latency': 9})])
+        found = verdict.verdict_of(b'{"moment":3,"core":1,"kind":"early","chain":"way","latency":9}\n' + counts)
+        self.assertEqual(list(found), [mcsim.Other(3, 1, 'early', {'moment': 3, 'core': 1, 'chain': 'way', 'latency': 9})])
         self.assertFalse(found.is_clean)
 
     def test_a_verdict_that_was_cut_off(self) -> None:
@@ -237,6 +252,18 @@ class Foretold(unittest.TestCase):
             threads=[mcsim.Thread('A', 'a', 5, ['compute 2']), mcsim.Thread('B', 'b', 5, ['compute 1'])],
         )
         self.assertEqual([one.cores for one in system.forever().sets], [(0,), (1,)])
+
+    def test_workers_that_share_a_notification_are_unsettled(self) -> None:
+        # each word begins a job of one worker, which takes a tick for its wait and one for its work
+        system = mcsim.System(
+            contexts=[mcsim.Context('a', 0, 3, 10), mcsim.Context('b', 0, 3, 10)],
+            notes=[mcsim.Note('work', 0)],
+            sources=[mcsim.Source('clock', 'work', 1, 10, start=5)],
+            threads=[mcsim.Thread(name, name.lower(), 8, ['wait work', 'compute 1'], deadline=9) for name in ('A', 'B')],
+        )
+        found = system.forever()
+        self.assertEqual([(one.unsettled, one.is_clean) for one in found.sets], [(('A', 'B'), False)])
+        self.assertEqual((found.is_clean, found.is_judged), (True, False))
 
     def test_an_outlook_that_was_cut_off(self) -> None:
         with self.assertRaises(EOFError):

@@ -4,12 +4,12 @@ from .faults import Fault
 from .forever import CoreSet, EndsNever, EndsOverdue, EverFinding, Losses, Misses, Outlook, Response, Sets
 from .parts import Chain, Context, Link, Note, Order, Server, Source, Thread
 from .system import System
-from .verdict import Counts, Figures, Finding, Hint, Job, Lost, Miss, Never, Other, Overdue, Unjudged, Verdict
+from .verdict import Answer, Counts, Figures, Finding, Hint, Job, Lost, Miss, Never, Other, Overdue, Slow, Unanswered, Unjudged, Verdict
 from .views import View
 
 __version__ = '1.2'
 __all__ = [
-    'Chain', 'Context', 'CoreSet', 'Counts', 'EndsNever', 'EndsOverdue', 'EverFinding', 'Explanation', 'Fault', 'Figures', 'Finding', 'Hint', 'Job', 'Link',
-    'Losses', 'Lost', 'Misses', 'Miss', 'Never', 'Note', 'Order', 'Other', 'Outlook', 'Overdue', 'Response', 'Server', 'Sets', 'Source', 'System', 'Thread',
-    'Unjudged', 'Verdict', 'View',
+    'Answer', 'Chain', 'Context', 'CoreSet', 'Counts', 'EndsNever', 'EndsOverdue', 'EverFinding', 'Explanation', 'Fault', 'Figures', 'Finding', 'Hint',
+    'Job', 'Link', 'Losses', 'Lost', 'Miss', 'Misses', 'Never', 'Note', 'Order', 'Other', 'Outlook', 'Overdue', 'Response', 'Server', 'Sets', 'Slow',
+    'Source', 'System', 'Thread', 'Unanswered', 'Unjudged', 'Verdict', 'View',
 ]

@@ -64,13 +64,14 @@ FINDINGS: Mapping[str, type[EverFinding]] = {'miss': Misses, 'lost': Losses, 'ov
 @dataclass(frozen=True)
 class CoreSet:
     """A set of cores that no core outside signals. From `begin` on all that they do repeats each `period` ticks, for ever; both are None if no repetition was
-    found. `is_clean` is that nothing is ever found."""
+    found. `unsettled` has the threads that never miss a deadline, but of which a job may be overdue at some time. `is_clean` is that nothing is ever found."""
 
     cores: Sequence[int]
     begin: Optional[int]
     period: Optional[int]
     findings: Sequence[EverFinding]
     responses: Sequence[Response]
+    unsettled: Sequence[str]
     is_clean: bool
 
 
@@ -104,8 +105,9 @@ class Outlook:
 
     @property
     def is_judged(self) -> bool:
-        """Whether each set repeats and a thread has a deadline."""
-        return self.counts.repeating == self.counts.sets and self.counts.deadlines > 0
+        """Whether each set repeats, each thread is settled and a thread has a deadline."""
+        is_settled = not any(one.unsettled for one in self.sets)
+        return self.counts.repeating == self.counts.sets and is_settled and self.counts.deadlines > 0
 
     def __iter__(self) -> Iterator[EverFinding]:
         return iter(self.findings)
@@ -124,6 +126,7 @@ def set_of(values: dict[str, Any], told: Sequence[tuple[str, dict[str, Any]]]) -
         tuple(map(int, values['cores'].split())), values.get('from'), values.get('period'),
         tuple(made(FINDINGS[kind], found) for kind, found in told if kind in FINDINGS),
         tuple(response_of(kind, found) for kind, found in told if kind in ('thread', 'thread_so_far')),
+        tuple(found['thread'] for kind, found in told if kind == 'unsettled'),
         any(kind == 'clean' for kind, _ in told),
     )
 

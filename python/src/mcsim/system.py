@@ -128,6 +128,10 @@ class System:
         """The jobs that ended up to a horizon, by their ends."""
         return verdict.jobs_of(library.check(self.data(), horizon, 'jobs'))
 
+    def answers(self, horizon: int = HORIZON) -> Iterator[verdict.Answer]:
+        """The answers of all chains up to a horizon, each with its latency, by their times."""
+        return verdict.answers_of(library.check(self.data(), horizon, 'jobs'))
+
     def why(self, thread: str, round: int, horizon: int = HORIZON) -> explained.Explanation:
         """Why the job of this number, from 1, of a thread took so long in the schedule up to a horizon. A thread or a job that is not there is a ValueError."""
         return explained.explanation_of(library.why(self.data(), horizon, thread, round))

@@ -76,6 +76,29 @@ class Unjudged:
 
 
 @dataclass(frozen=True)
+class Slow:
+    """An answer of a chain that came later than the chain's deadline after the interrupt at `origin`."""
+
+    moment: int
+    core: int
+    chain: str
+    latency: int
+    deadline: int
+    origin: int
+
+
+@dataclass(frozen=True)
+class Unanswered:
+    """An interrupt of a chain, at `origin`, that has no answer at the horizon, a deadline later."""
+
+    moment: int
+    core: int
+    chain: str
+    deadline: int
+    origin: int
+
+
+@dataclass(frozen=True)
 class Other:
     """A finding of a kind that this package does not know, with all of its values."""
 
@@ -85,7 +108,7 @@ class Other:
     values: Mapping[str, Union[int, str]]
 
 
-Finding = Union[Miss, Overdue, Lost, Never, Other]
+Finding = Union[Miss, Overdue, Lost, Never, Slow, Unanswered, Other]
 
 
 @dataclass(frozen=True)
@@ -111,7 +134,7 @@ class Hint:
 @dataclass(frozen=True)
 class Counts:
     """How many findings there are of each kind. Merged and allowed ones are none, nor are unjudged threads and hints. Then how many threads and deadlines
-    the file has, and how many jobs and answers with a deadline ended or are overdue."""
+    the file has, and how many jobs and answers with a deadline ended or are overdue. The last two are 0 in a file without a chain."""
 
     missed: int
     overdue: int
@@ -124,6 +147,8 @@ class Counts:
     threads: int
     deadlines: int
     judged: int
+    slow: int = 0
+    unanswered: int = 0
 
 
 @dataclass(frozen=True)
@@ -173,6 +198,20 @@ class Job:
 
 
 @dataclass(frozen=True)
+class Answer:
+    """An answer of a chain: the end of the thread's job of this number. The latency counts from the interrupt at `origin`."""
+
+    moment: int
+    core: int
+    thread: str
+    number: int
+    chain: str
+    latency: int
+    origin: int
+    deadline: Optional[int] = None
+
+
+@dataclass(frozen=True)
 class Figures:
     """The figures of a thread. Shares are in millionths; None stands where there is no such number."""
 
@@ -203,7 +242,9 @@ class Figures:
     ticks_done: int = 0
 
 
-FINDINGS: Mapping[str, type[Union[Miss, Overdue, Lost, Never]]] = {'miss': Miss, 'overdue': Overdue, 'lost': Lost, 'never': Never}
+FINDINGS: Mapping[str, type[Union[Miss, Overdue, Lost, Never, Slow, Unanswered]]] = {
+    'miss': Miss, 'overdue': Overdue, 'lost': Lost, 'never': Never, 'slow': Slow, 'unanswered': Unanswered,
+}
 
 def objects_of(lines: bytes) -> Iterator[tuple[str, dict[str, Any]]]:
     """The objects of the lines that mcscheck writes: the kind of each, and its other values. No object has a line feed in it."""
@@ -257,6 +298,12 @@ def jobs_of(lines: bytes) -> Iterator[Job]:
     for kind, values in objects_of(lines):
         if kind == 'job':
             yield made(Job, values)
+
+
+def answers_of(lines: bytes) -> Iterator[Answer]:
+    for kind, values in objects_of(lines):
+        if kind == 'answer':
+            yield made(Answer, values)
 
 
 def table_of(lines: bytes) -> list[Figures]:
