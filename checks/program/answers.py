@@ -125,10 +125,9 @@ def object_of(values: Values) -> str:
 
 
 def words_of(values: Values) -> str:
-    """A line of text: of `why` each value behind its name, of others the values alone."""
-    if values['kind'] == 'why':
-        return f'why {values["thread"]} ' + line_of({name: value for name, value in values.items() if name != 'thread'})
-    return ' '.join(map(str, values.values()))
+    """A line of text: its kind, the name of the thread if it is about one, and each other value behind its name."""
+    owner = f' {values["thread"]}' if 'thread' in values else ''
+    return f'{values["kind"]}{owner} ' + line_of({name: value for name, value in values.items() if name != 'thread'})
 
 
 def wanted(found: Reading, thread: str, number: str, form: str = 'text') -> Ran:

@@ -198,7 +198,7 @@ class ChainReading:
             if deadline and answer.latency > deadline:
                 first.setdefault((answer.moment, answer.core, answer.number), answer)
         return [
-            f'{answer.moment} {answer.core} slow {self.chain["name"]} {answer.latency} deadline {deadline} origin {answer.origin}'
+            f'{answer.moment} {answer.core} slow {self.chain["name"]} latency {answer.latency} deadline {deadline} origin {answer.origin}'
             for answer in first.values()
         ]
 

@@ -62,7 +62,7 @@ class Chained(Reading):
         """The line of each round that ended, and behind it those of what it answers, chain by chain."""
         for line in super().jobs():
             yield line
-            _, _, _, thread, number, *_ = line.split()
+            _, _, _, thread, _, number, *_ = line.split()
             for chain in self.chains:
                 if chain.chain['thread'] == thread:
                     yield from (answer_line(chain, answer) for answer in chain.answers if answer.number == int(number))

@@ -62,12 +62,12 @@ chain = [
 '''
 # of one time what rows show comes first, and then chains in the order of the file; at 22 an interrupt from 3 is 19 ticks old. Deadlines are those of Z and C
 # and of all chains but near. Two jobs of C are judged, two answers of each of f, e and g, and the interrupt of z
-TWO_CORES_FOUND = '''12 1 miss C 1 4 deadline 3 activated 8 queued 0 ready 0 running 4 throttled 0 blocked 0 woken 0
-12 1 slow f 9 deadline 7 origin 3
-12 1 slow e 9 deadline 8 origin 3
-22 1 miss C 2 4 deadline 3 activated 18 queued 0 ready 0 running 4 throttled 0 blocked 0 woken 0
-22 1 slow f 9 deadline 7 origin 13
-22 1 slow e 9 deadline 8 origin 13
+TWO_CORES_FOUND = '''12 1 miss C round 1 response 4 deadline 3 activated 8 queued 0 ready 0 running 4 throttled 0 blocked 0 woken 0
+12 1 slow f latency 9 deadline 7 origin 3
+12 1 slow e latency 9 deadline 8 origin 3
+22 1 miss C round 2 response 4 deadline 3 activated 18 queued 0 ready 0 running 4 throttled 0 blocked 0 woken 0
+22 1 slow f latency 9 deadline 7 origin 13
+22 1 slow e latency 9 deadline 8 origin 13
 22 0 never Z deadline 5
 22 0 unanswered z deadline 19 origin 3
 hint note q is waited on and no script signals it
@@ -101,9 +101,9 @@ chain = [{ name = "c", source = "s", thread = "L", deadline = 20 }]
 LOOP_TABLE = '''chain c interrupts 6 answers 3 least 20 greatest 31 total 72 p50 21 p90 31 p99 31 deadline 20 margin -11
 missed 0 overdue 0 lost 2 never 0 merged 0 allowed 0 unjudged 0 hints 0 threads 1 deadlines 1 judged 4 slow 1 unanswered 1
 '''
-LOOP_JOBS = '''22 0 job L 1 activated 2 begun 2 response 20 queued 0 preemptions 0 ready 0 running 20 throttled 0 blocked 0 woken 0
+LOOP_JOBS = '''22 0 job L round 1 activated 2 begun 2 response 20 queued 0 preemptions 0 ready 0 running 20 throttled 0 blocked 0 woken 0
 22 0 answer c round 1 origin 2 latency 20 deadline 20
-43 0 job L 2 activated 12 begun 23 response 31 queued 11 preemptions 0 ready 0 running 20 throttled 0 blocked 0 woken 0
+43 0 job L round 2 activated 12 begun 23 response 31 queued 11 preemptions 0 ready 0 running 20 throttled 0 blocked 0 woken 0
 43 0 answer c round 2 origin 12 latency 31 deadline 20
 43 0 answer c round 2 origin 22 latency 21 deadline 20
 missed 0 overdue 0 lost 2 never 0 merged 0 allowed 0 unjudged 0 hints 0 threads 1 deadlines 1 judged 4 slow 1 unanswered 1

@@ -30,7 +30,7 @@ from mcsim_tools.reading import LOST, MERGED, STANDINGS, Listener, Post, Reading
 from mcsim_tools.system import System, Thread
 
 # of a line of a finding how many words are compared: those behind them are sums of standings
-COMPARED = {'miss': 10, 'overdue': 8, 'never': 6, 'lost': 4, 'slow': 9, 'unanswered': 8}
+COMPARED = {'miss': 12, 'overdue': 8, 'never': 6, 'lost': 4, 'slow': 10, 'unanswered': 8}
 # of the line of a chain's figures how many words are compared: the tools have no percentiles
 FIGURES = 12
 # what mcscheck tells apart, and the tools do not
@@ -57,7 +57,7 @@ class Found(Listener):
         thread = ended.thread
         if ended.is_missed:
             how = f'deadline {thread.deadline} activated {ended.activated}'
-            self.lines[f'{ended.end} {thread.core} miss {thread.name} {ended.number} {ended.response} {how}'] += 1
+            self.lines[f'{ended.end} {thread.core} miss {thread.name} round {ended.number} response {ended.response} {how}'] += 1
 
     def round_open(self, open_round: Round) -> None:
         thread = open_round.thread
@@ -76,7 +76,7 @@ class Found(Listener):
         chain = answer.chain
         if answer.is_first and answer.is_slow:
             core = self.system.threads[chain.thread].core
-            self.lines[f'{answer.moment} {core} slow {chain.name} {answer.latency} deadline {chain.deadline} origin {answer.origin}'] += 1
+            self.lines[f'{answer.moment} {core} slow {chain.name} latency {answer.latency} deadline {chain.deadline} origin {answer.origin}'] += 1
 
     def at_end(self, chains: Chains) -> None:
         """What the tools find of chains at the horizon, and their figures."""

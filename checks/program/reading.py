@@ -33,13 +33,10 @@ OF_CHAINS = ('slow', 'unanswered')
 FOUND = (*KINDS[:4], *OF_CHAINS)
 # what is no finding, unless doubts count
 DOUBTFUL = ('unjudged', 'hints')
-# the words of a line before those that have their name before them
-FIRST = {
-    'miss': ('thread', 'number', 'response'), 'overdue': ('thread',), 'lost': ('note', 'word'), 'never': ('thread',), 'unjudged': ('thread',), 'job': ('thread', 'number'),
-    'slow': ('chain', 'latency'), 'unanswered': ('chain',),
-}
-# the values that are names
-NAMES = ('thread', 'note', 'chain')
+# whose name a line has before its other values, if it is no thread's
+NAMED = {'lost': 'note', **dict.fromkeys(OF_CHAINS, 'chain')}
+# the labels in lines of text of values that have another name as CSV and JSON
+LABELS = {'round': 'number'}
 COLUMNS = {
     'findings': ('moment', 'core', 'kind', 'thread', 'note', 'word', 'number', 'response', 'deadline', 'activated', 'queued', *PARTS),
     'jobs': ('moment', 'core', 'kind', 'thread', 'number', 'activated', 'begun', 'response', 'queued', 'preemptions', *PARTS),
@@ -318,14 +315,14 @@ class Reading:
         if row.kind == 'hold':
             before, word = self.past(row).word(row.what[1])[0], int(row.what[2])
             if before == word:
-                return 'lost', f'{row.moment} {row.core} lost {row.what[1]} {word}'
+                return 'lost', f'{row.moment} {row.core} lost {row.what[1]} word {word}'
             return ('merged', '') if before else None
         if row.kind == 'round':
             _, thread, number, _ = row.what
             ended = self.ended_by(row)
             response = row.moment - ended.since
             if 0 < self.deadline(thread) < response:
-                return 'missed', f'{row.moment} {row.core} miss {thread} {number} {response} {self.late(thread, ended)}'
+                return 'missed', f'{row.moment} {row.core} miss {thread} round {number} response {response} {self.late(thread, ended)}'
         return None
 
     def open_round(self, thread: str) -> Optional[Round]:
@@ -405,7 +402,7 @@ class Reading:
                 _, thread, number, _ = row.what
                 job = self.ended_by(row)
                 times = f'activated {job.activated} begun {job.begun} response {row.moment - job.since} queued {job.queued}'
-                yield f'{row.moment} {row.core} job {thread} {number} {times} preemptions {job.preemptions} {job.parts}'
+                yield f'{row.moment} {row.core} job {thread} round {number} {times} preemptions {job.preemptions} {job.parts}'
 
     def signals(self, note: Optional[str]) -> dict[str, Optional[int]]:
         """How many signals of the notification, if there is one, were lost, and how many merged."""
@@ -511,11 +508,9 @@ def line_of(values: Values) -> str:
 
 def values_of(line: str) -> dict[str, int | str]:
     """The values of a line of a finding or a job, by their names."""
-    moment, core, kind, *words = line.split()
-    first = FIRST[kind]
-    pairs = [*zip(first, words), *zip(words[len(first)::2], words[len(first) + 1::2])]
-    numbers: dict[str, int | str] = {name: word if name in NAMES else int(word) for name, word in pairs}
-    return {'moment': int(moment), 'core': int(core), 'kind': kind, **numbers}
+    moment, core, kind, name, *words = line.split()
+    numbers = {LABELS.get(label, label): int(word) for label, word in zip(words[::2], words[1::2], strict=True)}
+    return {'moment': int(moment), 'core': int(core), 'kind': kind, NAMED.get(kind, 'thread'): name, **numbers}
 
 
 def values_of_hint(line: str) -> dict[str, int | str]:

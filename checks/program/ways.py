@@ -102,7 +102,7 @@ class Trial:
         pairs += [(f'{name} interrupts', moments, second.interrupts)]
         slow = [f'{answer.moment} {answer.latency} {answer.origin}' for answer in answers if answer.is_first and answer.is_slow]
         lines = [line.split() for line in second.slow()]
-        pairs += [(f'{name} slow', slow, [f'{line[0]} {line[4]} {line[8]}' for line in lines])]
+        pairs += [(f'{name} slow', slow, [f'{line[0]} {line[5]} {line[9]}' for line in lines])]
         left, found = second.left(horizon), figures.unanswered(moments, horizon)
         pairs += [(f'{name} unanswered', found, int(left.split()[-1]) if left else None)]
         own = [figures.answered, figures.least, figures.greatest, figures.total, figures.slow]

@@ -93,7 +93,7 @@ class TwoCores(unittest.TestCase):
         self.assertEqual(latencies(TWO_CORES, 'd', OVER_TWO_CORES), [3])
 
     def test_an_answer_is_slow_above_its_deadline_alone(self) -> None:
-        self.assertEqual(reading_of(TWO_CORES, 'e', OVER_TWO_CORES).slow(), ['12 1 slow e 9 deadline 8 origin 3'])
+        self.assertEqual(reading_of(TWO_CORES, 'e', OVER_TWO_CORES).slow(), ['12 1 slow e latency 9 deadline 8 origin 3'])
         self.assertEqual(reading_of(TWO_CORES, 'f', OVER_TWO_CORES).slow(), [])
 
     def test_an_origin_whose_deadline_passes_is_unanswered(self) -> None:
@@ -124,7 +124,7 @@ class Overload(unittest.TestCase):
         self.assertEqual(reading_of(LOOP, 'c', OVERLOAD).unanswered, [44])
 
     def test_the_earliest_origin_of_a_row_is_found(self) -> None:
-        self.assertEqual(reading_of(LOOP, 'c', OVERLOAD).slow(), ['43 0 slow c 31 deadline 20 origin 12'])
+        self.assertEqual(reading_of(LOOP, 'c', OVERLOAD).slow(), ['43 0 slow c latency 31 deadline 20 origin 12'])
 
 
 if __name__ == '__main__':

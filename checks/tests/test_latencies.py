@@ -159,7 +159,7 @@ class WrongCheckers(unittest.TestCase):
 
     def test_lines_that_are_not_there(self) -> None:
         # as text: of findings and of both
-        self.assertEqual(self.replaced('43 0 slow c 31 deadline 20 origin 12\n', ''), 2)
+        self.assertEqual(self.replaced('43 0 slow c latency 31 deadline 20 origin 12\n', ''), 2)
         self.assertEqual(self.replaced('52 0 unanswered c deadline 20 origin 32\n', ''), 2)
 
     def test_another_origin_of_a_row(self) -> None:

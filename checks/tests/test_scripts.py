@@ -309,11 +309,11 @@ class Rules(unittest.TestCase):
         text = (common.DATA / 'events' / 'handlers.toml').read_text().replace('priority = 5', 'priority = 5\ndeadline = 5')
         rows = (common.DATA / 'events' / 'handlers' / 'schedule.stdout').read_bytes()
         # the second round was activated at 2 and ended at 8; D ran from 0 to 1 and from 2 to 9, and was blocked else
-        miss = '8 0 miss D 2 6 deadline 5 activated 2 queued 3 ready 0 running 3 throttled 0 blocked 0 woken 0\n'
+        miss = '8 0 miss D round 2 response 6 deadline 5 activated 2 queued 3 ready 0 running 3 throttled 0 blocked 0 woken 0\n'
         stood = ' '.join(f'ticks_{what} {ticks}' for what, ticks in (('pending', 0), ('ready', 0), ('running', 8), ('throttled', 0), ('blocked', 4), ('woken', 0), ('done', 0)))
         good = f'{miss}thread D core 0 {stood}\ncontext d unused 1\nmissed 1 overdue 0 lost 0 never 0 merged 0 allowed 0 ' \
             'unjudged 0 hints 0 threads 1 deadlines 1 judged 1\n'
-        for told, failed in ((good, 0), (good.replace(' 6 deadline', ' 3 deadline'), 1), (good.replace(miss, ''), 1), (good + '5 0 lost n 1\n', 1),
+        for told, failed in ((good, 0), (good.replace(' 6 deadline', ' 3 deadline'), 1), (good.replace(miss, ''), 1), (good + '5 0 lost n word 1\n', 1),
                              (good.replace('merged 0', 'merged 1'), 1), (good.replace('running 8', 'running 7'), 1), (good.replace('ticks_ready 0', 'ticks_ready 1'), 1)):
             trial = readers.Trial(pathlib.Path('mcsim'), pathlib.Path('mcscheck'))
             answers = iter([common.Ran(0, rows, b''), common.Ran(5, told.encode(), b'')])

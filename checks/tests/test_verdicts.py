@@ -44,12 +44,12 @@ ROWS = '''0 0 release A
 8 0 round A 1 7
 8 0 got A x 3
 '''
-FOUND = '''5 0 lost x 1
-8 0 miss A 1 7 deadline 5 activated 1 queued 0 ready 1 running 3 throttled 3 blocked 0 woken 0
+FOUND = '''5 0 lost x word 1
+8 0 miss A round 1 response 7 deadline 5 activated 1 queued 0 ready 1 running 3 throttled 3 blocked 0 woken 0
 9 0 overdue A deadline 5 activated 3 queued 5 ready 0 running 1 throttled 0 blocked 0 woken 0
 9 1 never C deadline 3
 '''
-JOBS = '''8 0 job A 1 activated 1 begun 1 response 7 queued 0 preemptions 0 ready 1 running 3 throttled 3 blocked 0 woken 0
+JOBS = '''8 0 job A round 1 activated 1 begun 1 response 7 queued 0 preemptions 0 ready 1 running 3 throttled 3 blocked 0 woken 0
 '''
 # A is preempted before its word is taken, then in its first round, at its beginning and later, and after it; its second round has no preemption
 PREEMPTS = '''0 0 release A
@@ -105,10 +105,10 @@ BUSY_ROWS = '''0 0 release D
 12 0 hold n 1
 13 0 round D 2 5
 '''
-BUSY_FOUND = '''6 0 lost n 5
-10 0 lost n 1
-12 0 lost n 1
-13 0 miss D 2 9 deadline 8 activated 4 queued 4 ready 0 running 5 throttled 0 blocked 0 woken 0
+BUSY_FOUND = '''6 0 lost n word 5
+10 0 lost n word 1
+12 0 lost n word 1
+13 0 miss D round 2 response 9 deadline 8 activated 4 queued 4 ready 0 running 5 throttled 0 blocked 0 woken 0
 hint source k interrupts on n with badge 4 and no handler takes it
 missed 1 overdue 0 lost 3 never 0 merged 1 allowed 0 unjudged 0 hints 1 threads 1 deadlines 1 judged 2
 '''
@@ -242,7 +242,7 @@ class Judging(unittest.TestCase):
     def test_a_round_that_still_has_time_is_unjudged(self) -> None:
         # A was woken at 1, and its deadline is 5: at 5 nothing is known, and at 6 it can only be late
         self.assertEqual(self.lines(TEXT, self.up_to(5), 5), [
-            '5 0 lost x 1', '5 1 never C deadline 3', '5 0 unjudged A deadline 5 activated 1', *HINTS.splitlines(),
+            '5 0 lost x word 1', '5 1 never C deadline 3', '5 0 unjudged A deadline 5 activated 1', *HINTS.splitlines(),
             'missed 0 overdue 0 lost 1 never 1 merged 0 allowed 0 unjudged 1 hints 2 threads 2 deadlines 2 judged 0',
         ])
         self.assertEqual(self.lines(TEXT, self.up_to(6), 6)[1:2], ['6 0 overdue A deadline 5 activated 1 queued 0 ready 1 running 2 throttled 2 blocked 0 woken 0'])
@@ -325,7 +325,7 @@ class NewReadings(unittest.TestCase):
         self.assertEqual([job and (job.begun, job.activated) for job in found.ended.values()], [(1, 0)])
         held = reading.Reading(tomllib.loads(BUSY.replace('core = 0 }]\nthread', 'core = 0, word = 1 }]\nthread')), '3 0 hold n 1\n', 8)
         self.assertEqual(held.wanted().text.splitlines()[:2], [
-            '3 0 lost n 1', '8 0 overdue D deadline 8 activated 0 queued 8 ready 0 running 0 throttled 0 blocked 0 woken 0',
+            '3 0 lost n word 1', '8 0 overdue D deadline 8 activated 0 queued 8 ready 0 running 0 throttled 0 blocked 0 woken 0',
         ])
 
     def test_a_call_of_a_server_that_is_taken_blocks(self) -> None:
@@ -522,11 +522,11 @@ class Answers(unittest.TestCase):
     def test_a_round_that_waited(self) -> None:
         lines = answers.wanted(self.found, 'A', '1').stdout.decode().splitlines()
         self.assertEqual(lines[:2], ['1 0 stop A wait 1', '1 0 run B'])
-        self.assertEqual(lines[-4:], ['why A number 1 from 1 to 4 waited 1 activated 2 begun 2 ended 4', 'ran A 2', 'ran B 1', 'idle 0'])
+        self.assertEqual(lines[-4:], ['why A number 1 from 1 to 4 waited 1 activated 2 begun 2 ended 4', 'ran A ticks 2', 'ran B ticks 1', 'idle ticks 0'])
 
     def test_a_round_that_waits(self) -> None:
         lines = answers.wanted(self.found, 'A', '2').stdout.decode().splitlines()
-        self.assertEqual(lines, ['5 0 stop A wait 3', 'why A number 2 from 5 to 7 waited 2 activated - begun - ended -', 'idle 2'])
+        self.assertEqual(lines, ['5 0 stop A wait 3', 'why A number 2 from 5 to 7 waited 2 activated - begun - ended -', 'idle ticks 2'])
 
     def test_rounds_that_are_not_there(self) -> None:
         for thread, number, said in (('A', '3', 'there are rounds 1 to 2'), ('B', '0', 'there is round 1')):

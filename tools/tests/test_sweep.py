@@ -50,9 +50,9 @@ source = [{ name = "s", note = "n", badge = 1, period = 10 }, { name = "k", note
 chain = [{ name = "e", source = "s", thread = "A", deadline = 8 }, { name = "f", source = "s", thread = "B" }]
 '''
 # what is found of chains: the earliest origin of an answer that came late, and one that has none
-CHAINED = ['12 0 slow e 9 deadline 8 origin 3', '22 0 slow e 9 deadline 8 origin 13', '30 0 unanswered f deadline 8 origin 4']
-MISS = '11 0 miss A 1 11 deadline 10 activated 0 queued 0 ready 0 running 5 throttled 6 blocked 0 woken 0'
-LOST = '12 0 lost n 1'
+CHAINED = ['12 0 slow e latency 9 deadline 8 origin 3', '22 0 slow e latency 9 deadline 8 origin 13', '30 0 unanswered f deadline 8 origin 4']
+MISS = '11 0 miss A round 1 response 11 deadline 10 activated 0 queued 0 ready 0 running 5 throttled 6 blocked 0 woken 0'
+LOST = '12 0 lost n word 1'
 OTHER = '20 1 overdue B deadline 5 activated 0 queued 0 ready 20 running 0 throttled 0 blocked 0 woken 0'
 COUNTS = 'missed 0 overdue 0 lost 0 never 0 merged 0 allowed 0 unjudged 0 hints 1 threads 2 deadlines 1 judged 1'
 NOTHING_JUDGED = COUNTS.replace('judged 1', 'judged 0')
@@ -202,7 +202,7 @@ class Lines(Case):
 
     def test_a_name_of_a_thread_and_of_a_chain_means_both(self) -> None:
         self.file.write_text(NEW_SYSTEM.replace('name = "e", source', 'name = "B", source'))
-        lines = ['12 0 slow B 9 deadline 8 origin 3', CHAINED[2], f'{COUNTS} slow 1 unanswered 1']
+        lines = ['12 0 slow B latency 9 deadline 8 origin 3', CHAINED[2], f'{COUNTS} slow 1 unanswered 1']
         (self.programs / '1.out').write_text(''.join(f'{line}\n' for line in lines))
         # the chain B ends with A, and f with the thread B
         self.assertEqual(self.ran(self.file, '--set', 'context.a.budget=1', '--of', 'B').stdout.splitlines()[1], '1,5,,0,0,0,0,1,1,7')

@@ -50,7 +50,7 @@ found moment core finding = record { moment = moment; core = core; finding = fin
 
 -- The round runs in [0, 2), [5, 7) and [10, 11): with a deadline of 10 it misses it by one tick ..
 whole_text : check_text [] (system 10) 20 format.Text show.Findings
-    ≡ codes "11 0 miss A 1 11 deadline 10 activated 0 queued 0 ready 0 running 5 throttled 6 blocked 0 woken 0\n"
+    ≡ codes "11 0 miss A round 1 response 11 deadline 10 activated 0 queued 0 ready 0 running 5 throttled 6 blocked 0 woken 0\n"
     ++ codes "missed 1 overdue 0 lost 0 never 0 merged 0 allowed 0 unjudged 0 hints 0 threads 1 deadlines 1 judged 1\n"
 unfolding row_lines system digits
 whole_text = refl
@@ -85,13 +85,13 @@ code_in_time = refl
 
 -- as a job the round is shown whether it is in time or not, and is counted as before
 as_a_job : check_text [] (system 10) 20 format.Text show.Jobs
-    ≡ codes "11 0 job A 1 activated 0 begun 0 response 11 queued 0 preemptions 0 ready 0 running 5 throttled 6 blocked 0 woken 0\n"
+    ≡ codes "11 0 job A round 1 activated 0 begun 0 response 11 queued 0 preemptions 0 ready 0 running 5 throttled 6 blocked 0 woken 0\n"
     ++ codes "missed 1 overdue 0 lost 0 never 0 merged 0 allowed 0 unjudged 0 hints 0 threads 1 deadlines 1 judged 1\n"
 unfolding system digits
 as_a_job = refl
 
 in_time_as_a_job : check_text [] (system 11) 20 format.Text show.Jobs
-    ≡ codes "11 0 job A 1 activated 0 begun 0 response 11 queued 0 preemptions 0 ready 0 running 5 throttled 6 blocked 0 woken 0\n"
+    ≡ codes "11 0 job A round 1 activated 0 begun 0 response 11 queued 0 preemptions 0 ready 0 running 5 throttled 6 blocked 0 woken 0\n"
     ++ codes "missed 0 overdue 0 lost 0 never 0 merged 0 allowed 0 unjudged 0 hints 0 threads 1 deadlines 1 judged 1\n"
 unfolding system digits
 in_time_as_a_job = refl
@@ -130,7 +130,7 @@ two_lost = found 5 0 (Lost 0 1) ∷ found 6 0 (Lost 1 1) ∷ []
 abbrev flags : List (List ℕ) → List Bool
 flags names = flags_of names (note (codes "tick") ∷ note (codes "tock") ∷ [])
 
-one_is_told : found_lines format.Text (system 0) (flags (codes "tick" ∷ [])) two_lost ≡ codes "6 0 lost tock 1\n"
+one_is_told : found_lines format.Text (system 0) (flags (codes "tick" ∷ [])) two_lost ≡ codes "6 0 lost tock word 1\n"
 unfolding system digits
 one_is_told = refl
 

@@ -43,7 +43,7 @@ abbrev found : ℕ → ℕ → Finding → Found
 found moment core finding = record { moment = moment; core = core; chain = 0; finding = finding }
 
 -- an interrupt of 3 is answered at 12, a tick too late ..
-slow_text : chain_found_line format.Text system (found 12 1 (Slow 9 8 3)) ≡ codes "12 1 slow e 9 deadline 8 origin 3\n"
+slow_text : chain_found_line format.Text system (found 12 1 (Slow 9 8 3)) ≡ codes "12 1 slow e latency 9 deadline 8 origin 3\n"
 unfolding system digits
 slow_text = refl
 

@@ -90,11 +90,11 @@ called = record {
 }
 
 job_line : job_text (system 0) called
-    ≡ codes "50 0 job A 3 activated 30 begun 34 response 20 queued 4 preemptions 2 ready 1 running 2 throttled 3 blocked 10 woken 0\n"
+    ≡ codes "50 0 job A round 3 activated 30 begun 34 response 20 queued 4 preemptions 2 ready 1 running 2 throttled 3 blocked 10 woken 0\n"
 unfolding system digits
 job_line = refl
 
-lost_line : found_text (system 0) (found 12 3 (Lost 1 6)) ≡ codes "12 3 lost tock 6\n"
+lost_line : found_text (system 0) (found 12 3 (Lost 1 6)) ≡ codes "12 3 lost tock word 6\n"
 unfolding system digits
 lost_line = refl
 

@@ -1,10 +1,10 @@
 -- The account of a round: its times, and who ran meanwhile.
-use Rattle.std.specs.Prelude.{ℕ, suc, ◌-◌, ◌==◌, if◌then◌else◌, List, [], ◌∷◌, ◌++◌, codes, decimal, unwrap_or}
+use Rattle.std.specs.Prelude.{ℕ, suc, ◌-◌, ◌==◌, if◌then◌else◌, List, [], ◌∷◌, ◌++◌, codes, unwrap_or}
 use Rattle.mcs_ticks.specs.declared.row.Row.{Row}
 use Rattle.mcs_fields.specs.Fields.{Text, Value, amount, empty, name}
 use Rattle.mcs_system.specs.declared.part.ThreadPart.{ThreadPart}
 use Rattle.mcs_system.specs.System.{System}
-use Rattle.mcs_text.specs.Text.{line, thread_name}
+use Rattle.mcs_text.specs.Text.{counted, line, thread_name}
 use Rattle.mcs_why.specs.declared.span.Span.{Span}
 use Rattle.mcs_why.specs.Running.{idle_in, ran_in}
 use Rattle.mcs_check_words.specs.declared.asked.Format.{Format}
@@ -36,6 +36,10 @@ span_text system span = line (codes "why") (thread_name system span.thread ∷ p
 abbrev pub span_line : Format → System → Span → Text
 span_line how system span = written how (span_text system span) (span_fields system span)
 
+-- a number of ticks
+abbrev pub tick_words : ℕ → List Text
+tick_words ticks = counted ((codes "ticks", ticks) ∷ [])
+
 -- how long a thread ran
 abbrev pub ran_fields : System → ℕ → ℕ → Fields
 ran_fields system thread ticks =
@@ -43,7 +47,7 @@ ran_fields system thread ticks =
 
 abbrev pub told_ran : Format → System → ℕ → ℕ → Text
 told_ran how system thread ticks =
-    written how (line (codes "ran") (thread_name system thread ∷ decimal ticks ∷ [])) (ran_fields system thread ticks)
+    written how (line (codes "ran") (thread_name system thread ∷ tick_words ticks)) (ran_fields system thread ticks)
 
 abbrev pub ran_line : Format → System → ℕ → ℕ → Text
 ran_line how system thread ticks = if ticks == 0 then [] else told_ran how system thread ticks
@@ -59,7 +63,7 @@ abbrev pub idle_fields : ℕ → Fields
 idle_fields ticks = (codes "kind", name (codes "idle")) ∷ (codes "ticks", amount ticks) ∷ []
 
 abbrev pub idle_line : Format → ℕ → Text
-idle_line how ticks = written how (line (codes "idle") (decimal ticks ∷ [])) (idle_fields ticks)
+idle_line how ticks = written how (line (codes "idle") (tick_words ticks)) (idle_fields ticks)
 
 -- the round's times, how long each thread ran meanwhile, and how long the core was idle
 abbrev pub account_lines : Format → System → Span → List Row → Text

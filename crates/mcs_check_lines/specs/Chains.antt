@@ -27,7 +27,7 @@ due_words deadline origin = counted ((codes "deadline", deadline) ∷ (codes "or
 
 abbrev pub chain_words : System → ℕ → Finding → List Text
 chain_words system n (Slow latency deadline origin) =
-    codes "slow" ∷ chain_name system n ∷ decimal latency ∷ due_words deadline origin
+    codes "slow" ∷ chain_name system n ∷ counted ((codes "latency", latency) ∷ []) ++ due_words deadline origin
 chain_words system n (Unanswered deadline origin) = codes "unanswered" ∷ chain_name system n ∷ due_words deadline origin
 
 -- the line of a finding: its time, its core and the finding

@@ -26,28 +26,32 @@ abbrev pub late_words : ℕ → ℕ → ℕ → Stood → List (List ℕ)
 late_words deadline activated queued stood =
     counted ((codes "deadline", deadline) ∷ (codes "activated", activated) ∷ (codes "queued", queued) ∷ ways stood)
 
+-- the number of a round and its response
+abbrev pub response_words : ℕ → ℕ → List (List ℕ)
+response_words number response = counted ((codes "round", number) ∷ (codes "response", response) ∷ [])
+
 -- a finding and its numbers
 abbrev pub found_words : System → Finding → List (List ℕ)
 found_words system (Miss thread number response deadline activated queued stood) =
-    codes "miss" ∷ thread_name system thread ∷ decimal number ∷ decimal response ∷ late_words deadline activated queued stood
+    codes "miss" ∷ thread_name system thread ∷ response_words number response ++ late_words deadline activated queued stood
 found_words system (Overdue thread deadline activated queued stood) =
     codes "overdue" ∷ thread_name system thread ∷ late_words deadline activated queued stood
-found_words system (Lost note word) = codes "lost" ∷ note_name system note ∷ decimal word ∷ []
+found_words system (Lost note word) = codes "lost" ∷ note_name system note ∷ counted ((codes "word", word) ∷ [])
 found_words system (Never thread deadline) = codes "never" ∷ thread_name system thread ∷ counted ((codes "deadline", deadline) ∷ [])
 
 -- the line of a finding: its time, its core and the finding
 abbrev pub found_text : System → Found → List ℕ
 found_text system found = line (decimal found.moment) (decimal found.core ∷ found_words system found.finding)
 
--- the times of a job: activation, beginning, response and parts, with its preemptions
+-- the number of a job and its times: activation, beginning, response and parts, with its preemptions
 abbrev pub job_times : Job → List (List ℕ)
 job_times job =
-    counted ((codes "activated", job.activated) ∷ (codes "begun", job.begun) ∷ (codes "response", job.response)
+    counted ((codes "round", job.number) ∷ (codes "activated", job.activated) ∷ (codes "begun", job.begun) ∷ (codes "response", job.response)
     ∷ (codes "queued", job.queued) ∷ (codes "preemptions", job.preemptions) ∷ ways job.stood)
 
 -- a job: its thread, its number and these times
 abbrev pub job_words : System → Job → List (List ℕ)
-job_words system job = codes "job" ∷ thread_name system job.thread ∷ decimal job.number ∷ job_times job
+job_words system job = codes "job" ∷ thread_name system job.thread ∷ job_times job
 
 -- the line of a job: its end, its thread's core and the job
 abbrev pub job_text : System → Job → List ℕ

@@ -1,8 +1,8 @@
 //! The lines of the findings of chains.
-ghost use Rattle.std.specs.Prelude.{◌≡◌, ◌++◌, ◌∷◌, OnOk, OnErr, codes, decimal, map};
+ghost use Rattle.std.specs.Prelude.{◌≡◌, ◌++◌, ◌∷◌, [], OnOk, OnErr, codes, map};
 ghost use Rattle.std.specs.Io.{StartsWith};
 ghost use Rattle.mcs_fields.specs.Fields.{field_of, value_of};
-ghost use Rattle.mcs_text.specs.Text.{after};
+ghost use Rattle.mcs_text.specs.Text.{after, counted};
 ghost use Rattle.mcs_check_lines.specs.Chains.{chain_deadline, chain_found_fields, chain_found_line, chain_found_lines, chain_found_text, chain_kind, chain_name, chain_words, due_words, latency_of, origin_of};
 
 use crate::line::{append_digits, append_named};
@@ -72,11 +72,11 @@ fn append_slow(
     origin: Tick,
 ) -> Result<(), NoMemory>
     ensures ok { OnOk result (text.new.items ≡ text.old.items
-        ++ after (codes "slow" ∷ name.now ∷ decimal latency ∷ due_words deadline origin)) }
+        ++ after (codes "slow" ∷ name.now ∷ counted ((codes "latency", latency) ∷ []) ++ due_words deadline origin)) }
     ensures kept { StartsWith text.new.items text.old.items }
 {
     append_named(text, "slow", name)?;
-    append_number(text, latency)?;
+    append_counts(text, &[("latency", latency)])?;
     append_due(text, deadline, origin)
 }
 

@@ -3,7 +3,7 @@ ghost use Rattle.std.specs.Prelude.{◌≡◌, ◌≤◌, ◌+◌, ◌++◌, ◌
 ghost use Rattle.std.specs.Io.{StartsWith};
 ghost use Rattle.mcs_system.specs.System.{core_of, thread_part};
 ghost use Rattle.mcs_text.specs.Text.{after, counted};
-ghost use Rattle.mcs_check_lines.specs.Lines.{chain_count_words, checked_text, counts_words, found_text, found_words, job_text, job_times, job_words, late_words, ways};
+ghost use Rattle.mcs_check_lines.specs.Lines.{chain_count_words, checked_text, counts_words, found_text, found_words, job_text, job_times, job_words, late_words, response_words, ways};
 
 use crate::{ChainCounts, Checked, Counts, Scope};
 use itoa::Buffer;
@@ -17,7 +17,7 @@ use mcs_verdict::{Finding, Found, Job, Stood};
 
 /// Bytes of the longest line of a finding: twelve numbers of 20 digits, a name of 32 bytes, its
 /// words, spaces and line feed.
-const FOUND: usize = 354;
+const FOUND: usize = 369;
 
 /// Appends the line of a finding: `<moment> <core>` and the finding, with the system's names. If
 /// memory runs out the text is unchanged.
@@ -33,8 +33,8 @@ pub fn put_found(text: &mut Vec<u8>, system: &System, found: &Found) -> Result<(
 
 /// Writes the line of a finding and returns its end.
 fn write_found(line: &mut [u8], system: &System, found: &Found) -> usize
-    requires { 354 ≤ length line.old }
-    ensures short { result ≤ 354 }
+    requires { 369 ≤ length line.old }
+    ensures short { result ≤ 369 }
     ensures written { take result line.new ≡ found_text system.now found.now }
 {
     let core = write_decimal(line, 0, found.moment.get());
@@ -56,8 +56,8 @@ pub(crate) fn append_digits(text: &mut Vec<u8>, number: u64) -> Result<(), NoMem
 
 /// Writes a finding from `at` on, without its time and core, and returns its end.
 fn write_finding(line: &mut [u8], at: usize, system: &System, finding: &Finding) -> usize
-    requires { at + 312 ≤ length line.old }
-    ensures short { result ≤ at + 312 }
+    requires { at + 327 ≤ length line.old }
+    ensures short { result ≤ at + 327 }
     ensures written { take result line.new ≡ take at line.old ++ after (found_words system.now finding.now) }
 {
     match *finding {
@@ -71,8 +71,7 @@ fn write_finding(line: &mut [u8], at: usize, system: &System, finding: &Finding)
             stood,
         } => {
             let name = write_named(line, at, "miss", thread_name(system, thread));
-            let round = write_number(line, name, number);
-            let times = write_number(line, round, response);
+            let times = write_response(line, name, number, response);
             write_late(line, times, deadline, activated, queued, &stood)
         }
         Finding::Overdue {
@@ -87,7 +86,7 @@ fn write_finding(line: &mut [u8], at: usize, system: &System, finding: &Finding)
         }
         Finding::Lost { note, word } => {
             let bits = write_named(line, at, "lost", note_name(system, note));
-            write_number(line, bits, u64::from(word))
+            write_counted(line, bits, "word", u64::from(word))
         }
         Finding::Never { thread, deadline } => {
             let time = write_named(line, at, "never", thread_name(system, thread));
@@ -105,6 +104,17 @@ fn write_named(line: &mut [u8], at: usize, word: &str, name: &str) -> usize
 {
     let end = write_word(line, at, word);
     write_word(line, end, name)
+}
+
+/// Writes the number of a round and its response.
+#[inline(always)]
+fn write_response(line: &mut [u8], at: usize, number: u64, response: u64) -> usize
+    requires { at + 57 ≤ length line.old }
+    ensures short { result ≤ at + 57 }
+    ensures written { take result line.new ≡ take at line.old ++ after (response_words number response) }
+{
+    let end = write_counted(line, at, "round", number);
+    write_counted(line, end, "response", response)
 }
 
 /// Writes the deadline of a round, when it was activated, and its parts.
@@ -192,11 +202,10 @@ fn append_round(text: &mut Vec<u8>, system: &System, job: &Job) -> Result<(), No
     ensures kept { StartsWith text.new.items text.old.items }
 {
     append_named(text, "job", thread_name(system, job.thread))?;
-    append_number(text, job.number)?;
     append_times(text, job)
 }
 
-/// Appends the times of a job, its response and its parts.
+/// Appends the number of a job, its times, its response and its parts.
 fn append_times(text: &mut Vec<u8>, job: &Job) -> Result<(), NoMemory>
     ensures ok { OnOk result (text.new.items ≡ text.old.items ++ after (job_times job.now)) }
     ensures kept { StartsWith text.new.items text.old.items }
@@ -210,6 +219,7 @@ fn append_times(text: &mut Vec<u8>, job: &Job) -> Result<(), NoMemory>
         ..
     } = job.stood;
     let numbers = [
+        ("round", job.number),
         ("activated", job.activated.get()),
         ("begun", job.begun.get()),
         ("response", job.response),

@@ -1,17 +1,17 @@
 //! The account of a round that `--why` asks about: its times, and who ran meanwhile.
-ghost use Rattle.std.specs.Prelude.{◌≡◌, ◌++◌, ◌∷◌, [], ℕ, List, OnOk, codes, decimal, length, map};
+ghost use Rattle.std.specs.Prelude.{◌≡◌, ◌++◌, ◌∷◌, ℕ, List, OnOk, codes, length, map};
 ghost use Rattle.mcs_ticks.specs.declared.row.Row.{Row as TheRow};
 ghost use Rattle.mcs_fields.specs.Fields.{field_of, value_of};
 ghost use Rattle.mcs_text.specs.Text.{line};
 ghost use Rattle.mcs_why.specs.Account.{account_of};
 ghost use Rattle.mcs_check_lines.specs.Figures.{known};
-ghost use Rattle.mcs_check_lines.specs.Account.{account_lines, ended_of, idle_fields, idle_line, ran_fields, ran_line, ran_lines, span_fields, span_line, span_text, told_ran, waited};
+ghost use Rattle.mcs_check_lines.specs.Account.{account_lines, ended_of, idle_fields, idle_line, ran_fields, ran_line, ran_lines, span_fields, span_line, span_text, tick_words, told_ran, waited};
 
 use crate::pairs::{behind_two, put_line};
 use mcs_check_words::Format;
 use mcs_fields::{Cell, Field, put_object, put_row};
 use mcs_system::System;
-use mcs_text::{append_number, append_word, thread_name};
+use mcs_text::{append_counts, append_word, thread_name};
 use mcs_ticks::{NoMemory, ThreadId, Tick};
 use mcs_why::{Account, Span};
 use std::alloc::Global;
@@ -110,20 +110,20 @@ fn put_span(
 }
 
 fn append_ran(text: &mut Vec<u8>, name: &str, ticks: u64) -> Result<(), NoMemory>
-    ensures { OnOk result (text.new.items ≡ text.old.items ++ line (codes "ran") (name.now ∷ decimal ticks ∷ [])) }
+    ensures { OnOk result (text.new.items ≡ text.old.items ++ line (codes "ran") (name.now ∷ tick_words ticks)) }
 {
     text.extend_from_slice(b"ran")?;
     append_word(text, name)?;
-    append_number(text, ticks)?;
+    append_counts(text, &[("ticks", ticks)])?;
     text.push(b'\n')?;
     Ok(())
 }
 
 fn append_idle(text: &mut Vec<u8>, ticks: u64) -> Result<(), NoMemory>
-    ensures { OnOk result (text.new.items ≡ text.old.items ++ line (codes "idle") (decimal ticks ∷ [])) }
+    ensures { OnOk result (text.new.items ≡ text.old.items ++ line (codes "idle") (tick_words ticks)) }
 {
     text.extend_from_slice(b"idle")?;
-    append_number(text, ticks)?;
+    append_counts(text, &[("ticks", ticks)])?;
     text.push(b'\n')?;
     Ok(())
 }

@@ -48,12 +48,12 @@ chain = [{ name = "c", source = "s", thread = "L", deadline = 20 }]
 "#;
 
 const TWO_CORES_FOUND: &str = "\
-12 1 miss C 1 4 deadline 3 activated 8 queued 0 ready 0 running 4 throttled 0 blocked 0 woken 0
-12 1 slow f 9 deadline 7 origin 3
-12 1 slow e 9 deadline 8 origin 3
-22 1 miss C 2 4 deadline 3 activated 18 queued 0 ready 0 running 4 throttled 0 blocked 0 woken 0
-22 1 slow f 9 deadline 7 origin 13
-22 1 slow e 9 deadline 8 origin 13
+12 1 miss C round 1 response 4 deadline 3 activated 8 queued 0 ready 0 running 4 throttled 0 blocked 0 woken 0
+12 1 slow f latency 9 deadline 7 origin 3
+12 1 slow e latency 9 deadline 8 origin 3
+22 1 miss C round 2 response 4 deadline 3 activated 18 queued 0 ready 0 running 4 throttled 0 blocked 0 woken 0
+22 1 slow f latency 9 deadline 7 origin 13
+22 1 slow e latency 9 deadline 8 origin 13
 22 0 never Z deadline 5
 22 0 unanswered z deadline 19 origin 3
 hint note q is waited on and no script signals it
@@ -71,9 +71,9 @@ fn chains_follow_the_findings_of_their_time(rt: HostRuntime) -> Result<(), Fail>
 }
 
 const LOOP_FOUND: &str = "\
-22 0 lost n 1
-42 0 lost n 1
-43 0 slow c 31 deadline 20 origin 12
+22 0 lost n word 1
+42 0 lost n word 1
+43 0 slow c latency 31 deadline 20 origin 12
 52 0 unanswered c deadline 20 origin 32
 missed 0 overdue 0 lost 2 never 0 merged 0 allowed 0 unjudged 0 hints 0 threads 1 deadlines 1 judged 4 slow 1 unanswered 1
 ";
@@ -114,9 +114,9 @@ chain,,,,,,,,,,,,,,,,,,,,,,,,,,c,6,3,20,31,72,21,31,31,20,-11
 ";
 
 const LOOP_JOBS: &str = "\
-22 0 job L 1 activated 2 begun 2 response 20 queued 0 preemptions 0 ready 0 running 20 throttled 0 blocked 0 woken 0
+22 0 job L round 1 activated 2 begun 2 response 20 queued 0 preemptions 0 ready 0 running 20 throttled 0 blocked 0 woken 0
 22 0 answer c round 1 origin 2 latency 20 deadline 20
-43 0 job L 2 activated 12 begun 23 response 31 queued 11 preemptions 0 ready 0 running 20 throttled 0 blocked 0 woken 0
+43 0 job L round 2 activated 12 begun 23 response 31 queued 11 preemptions 0 ready 0 running 20 throttled 0 blocked 0 woken 0
 43 0 answer c round 2 origin 12 latency 31 deadline 20
 43 0 answer c round 2 origin 22 latency 21 deadline 20
 missed 0 overdue 0 lost 2 never 0 merged 0 allowed 0 unjudged 0 hints 0 threads 1 deadlines 1 judged 4 slow 1 unanswered 1
@@ -145,9 +145,9 @@ const LOOP_JOB_OBJECTS: &str = "\
 
 /// The jobs of D answer the chain near, which has no deadline; those of C answer three chains.
 const TWO_CORES_JOBS: &str = "\
-6 0 job D 1 activated 3 begun 3 response 3 queued 0 preemptions 0 ready 0 running 3 throttled 0 blocked 0 woken 0
+6 0 job D round 1 activated 3 begun 3 response 3 queued 0 preemptions 0 ready 0 running 3 throttled 0 blocked 0 woken 0
 6 0 answer near round 1 origin 3 latency 3
-12 1 job C 1 activated 8 begun 8 response 4 queued 0 preemptions 0 ready 0 running 4 throttled 0 blocked 0 woken 0
+12 1 job C round 1 activated 8 begun 8 response 4 queued 0 preemptions 0 ready 0 running 4 throttled 0 blocked 0 woken 0
 12 1 answer f round 1 origin 3 latency 9 deadline 7
 12 1 answer e round 1 origin 3 latency 9 deadline 8
 12 1 answer g round 1 origin 3 latency 9 deadline 9

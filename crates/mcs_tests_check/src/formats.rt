@@ -89,7 +89,7 @@ fn findings_and_figures_are_written(rt: HostRuntime) -> Result<(), Fail> {
     let want = LATE_TABLE;
     assert!(rt;
         text.as_str()
-            .starts_with("11 0 miss A 1 11 deadline 10 activated 0 "),
+            .starts_with("11 0 miss A round 1 response 11 deadline 10 activated 0 "),
         "{text}"
     );
     assert!(rt; text.as_str().ends_with(want), "{text}");

@@ -14,7 +14,7 @@ use std::thread::Threads;
 /// There is room for the first line and a part of the next.
 #[test]
 fn a_target_that_is_full_has_failed(rt: HostRuntime) -> Result<(), Fail> {
-    let mut room = [b'-'; 20];
+    let mut room = [b'-'; 25];
     let mut source = FromRead::new(SIGNALS.as_bytes());
     let mut target = IntoWrite::new(room.as_mut_slice());
     let ended = check(
@@ -26,7 +26,7 @@ fn a_target_that_is_full_has_failed(rt: HostRuntime) -> Result<(), Fail> {
         &mut Quiet,
     );
     assert_eq!(rt; ended, Err(CheckFault::Run(RunFault::Write)));
-    assert_eq!(rt; room.as_slice(), b"3 0 lost tick 1\n5 0 ".as_slice());
+    assert_eq!(rt; room.as_slice(), b"3 0 lost tick word 1\n5 0 ".as_slice());
     Ok(())
 }
 

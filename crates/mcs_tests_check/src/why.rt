@@ -52,10 +52,10 @@ const WHY_HIGH: &str = "\
 32 0 round High 1 3
 32 0 stop High done 3
 why High number 1 from 5 to 32 waited 24 activated 29 begun 29 ended 32
-ran Low 4
-ran Mid 20
-ran High 3
-idle 0
+ran Low ticks 4
+ran Mid ticks 20
+ran High ticks 3
+idle ticks 0
 ";
 
 /// Up to 6 the round has not begun.
@@ -86,8 +86,8 @@ thread = [
 const WHY_STARVED: &str = "\
 3 0 release T
 why T number 1 from 3 to 10 waited 7 activated - begun - ended -
-ran Busy 7
-idle 0
+ran Busy ticks 7
+idle ticks 0
 ";
 
 const NOT_SO: &str = "mcscheck: --why: not with --show, --strict, --allow-lost or --format csv";

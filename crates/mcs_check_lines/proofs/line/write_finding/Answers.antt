@@ -1,7 +1,7 @@
-use Rattle.std.proofs.Common.{◌∷◌, [], codes, decimal}
+use Rattle.std.proofs.Common.{◌∷◌, [], codes}
 use Rattle.mcs_text.specs.Text.{thread_name}
-use Rattle.mcs_check_lines.specs.Lines.{late_words}
-use Rattle.mcs_check_lines.proofs.Words.{then-word, then-words}
+use Rattle.mcs_check_lines.specs.Lines.{late_words, response_words}
+use Rattle.mcs_check_lines.proofs.Words.{then-words}
 use Rattle.mcs_check_lines.proofs.line.write_finding.Goals as goal
 
 pub returns-in-Miss-clause-written : goal.returns-in-Miss-clause-written
@@ -9,10 +9,9 @@ returns-in-Miss-clause-written c =
     let m = c.in-Miss in
     let name = thread_name c.args.system.now m.thread in
     let named = rw (c.thread_name.ensures.name) at c.write_named-name.ensures.written in
-    let numbered = then-word _ _ _ (decimal m.number) (codes "miss" ∷ name ∷ []) named c.write_number-round.ensures.written in
-    let answered = then-word _ _ _ (decimal m.response) (codes "miss" ∷ name ∷ decimal m.number ∷ []) numbered c.write_number-times.ensures.written in
-    rw m.is (then-words _ _ _ (codes "miss" ∷ name ∷ decimal m.number ∷ decimal m.response ∷ []) (late_words m.deadline m.activated m.queued m.stood) answered
-    c.write_late.ensures.written)
+    let round = response_words m.number m.response in
+    let answered = then-words _ _ _ (codes "miss" ∷ name ∷ []) round named c.write_response-times.ensures.written in
+    rw m.is (then-words _ _ _ (codes "miss" ∷ name ∷ round) (late_words m.deadline m.activated m.queued m.stood) answered c.write_late.ensures.written)
 
 pub returns-in-Overdue-clause-written : goal.returns-in-Overdue-clause-written
 returns-in-Overdue-clause-written c =
