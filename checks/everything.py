@@ -91,6 +91,7 @@ CHECKS = (
     Check('proofs', 'believe', tries_program=False),
     Check('proofs', 'comments', tries_program=False),
     Check('proofs', 'unused', 3, tries_program=False),
+    Check('proofs', 'edits_table', tries_program=False),
     Check('program', 'faults'),
     Check('program', 'checker', 5),
     Check('program', 'progress', 15),
@@ -106,7 +107,7 @@ CHECKS = (
 )
 # what no gate runs
 BY_HAND = (
-    ('proofs', 'edits'), ('proofs', 'edits_table'), ('proofs', 'take'), ('proofs', 'quick'), ('proofs', 'gate'), ('proofs', 'archive'), ('program', 'refused_tests'), ('program', 'same'), ('program', 'widths'),
+    ('proofs', 'edits'), ('proofs', 'take'), ('proofs', 'quick'), ('proofs', 'gate'), ('proofs', 'archive'), ('program', 'refused_tests'), ('program', 'same'), ('program', 'widths'),
     ('program', 'forever_model'), ('measure', 'performance'), ('measure', 'costs'), ('measure', 'checker_costs'), ('measure', 'forever_table'),
     ('measure', 'beside'), ('measure', 'gains'),
 )
