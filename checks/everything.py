@@ -317,7 +317,7 @@ def run_all(words: argparse.Namespace, times: pathlib.Path) -> int:
 def try_edits(shard: str | None) -> int:
     """Tries all edits for the table, and then holds the table to the sources."""
     part = ['--shard', shard] if shard else []
-    given: dict[str, list[str]] = {'edits': ['--table', '--all', *part], 'edits_table': []}
+    given: dict[str, list[str]] = {'edits': ['--table', '--all', '--together', *part], 'edits_table': []}
     total = Tally()
     for name in given:
         total = total.plus(counted([sys.executable, str(HERE / 'proofs' / f'{name}.py'), *given[name]], name))

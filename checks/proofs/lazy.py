@@ -20,7 +20,6 @@ from __future__ import annotations
 import argparse
 import contextlib
 import csv
-import importlib.machinery
 import io
 import os
 import pathlib
@@ -29,7 +28,6 @@ import shutil
 import sys
 import tempfile
 import time
-import types
 from collections.abc import Iterable, Iterator, Mapping, Sequence
 from typing import Any, NamedTuple
 
@@ -95,12 +93,7 @@ def loaded() -> Kit:
     rt = edits.kit()
     if edits.keeps(rt):
         rt.share_work(False)
-    path = os.path.join(os.path.dirname(os.path.realpath(shutil.which('rt') or 'rt')), 'rt-plant')
-    plant = types.ModuleType('rt_plant')
-    plant.__file__ = path
-    importlib.machinery.SourceFileLoader('rt_plant', path).exec_module(plant)
-    setattr(plant, 'rt', rt.rtlib)
-    return Kit(rt, plant)
+    return Kit(rt, edits.plant_of(rt))
 
 
 def crates_of(crates: str) -> list[str]:
