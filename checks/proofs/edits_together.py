@@ -15,8 +15,8 @@ from typing import Any, NamedTuple
 
 # a line that tells of a place, as the kit reads it
 PLACED = re.compile(r'(?:note: )?(?:\./)?(\S+?):(\d+):\d+:')
-# what a proof file says that names what the edit took away, as the kit reads it
-NAMES = re.compile(r'(note: )?(\./)?proofs/.*(has no field|is not in scope|has no `|was not admitted)')
+# what a proof file says that names what the edit took away, as the kit reads it; and that a place of the proof has other facts
+NAMES = re.compile(r'(note: )?(\./)?proofs/.*(has no field|is not in scope|has no `|was not admitted|record `[^`]*` \(nearest: )')
 LIMIT = re.compile('gave up at one of its (own )?limits')
 FAILED = ('not proved', 'no proof')
 
