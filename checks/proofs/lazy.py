@@ -146,13 +146,19 @@ def judge(kit: Kit, copy: Any, plants: Sequence[Any]) -> None:
 
 
 def functions_of(kit: Kit, crate: Any, source: Any, copy: Any, only: Sequence[str]) -> list[Any]:
-    """The public functions with a contract, or those of these paths. A method of a trait is told by a check of the crate as it stands."""
-    said = '' if only else copy.check([]) or ''
-    lines = dict(re.findall(rf'(?m)^fn ({crate.name}::\S+): (.*)', said))
-    with contextlib.redirect_stdout(io.StringIO()):
-        functions, _ = kit.plant.chosen(crate, source, lines, '')
-    # (a function that gives nothing and changes nothing is a law: its contract is all that it is)
-    return [it for it in functions if (path_of(it) in only if only else it.ret or it.mutates)]
+    """The public functions with a contract, or those of these paths. A method of a trait is told by a check of its module as it stands."""
+
+    def chosen(said: str) -> list[Any]:
+        lines = dict(re.findall(rf'(?m)^fn ({crate.name}::\S+): (.*)', said))
+        with contextlib.redirect_stdout(io.StringIO()):
+            functions, _ = kit.plant.chosen(crate, source, lines, '')
+        # (a function that gives nothing and changes nothing is a law: its contract is all that it is)
+        return [it for it in functions if (path_of(it) in only if only else it.ret or it.mutates)]
+
+    functions = chosen('')
+    modules = sorted({'::'.join(it.module) for it in functions if it.in_trait})
+    # (without a name all of the crate is checked)
+    return chosen(copy.check(modules if all(modules) else []) or '') if modules and not only else functions
 
 
 def rows_of(crate: str, digest: str, plants: Iterable[tuple[Any, lazy_bodies.Lazy]]) -> list[Row]:
