@@ -13,7 +13,7 @@ refused there, and tells of each edit its share of the CPU seconds. It wants the
 Each edit is tried by the kit's own means, on a copy of the crate, over what a check of the crate as it stands proved. A line for each says
 what came of it, in how many CPU seconds, and the first words of the refusal. It passes where the prover refuses it for a goal; not
 where it is still proved, cannot be applied or read, is refused only since a proof names what it took away, or meets a limit of the whole check.
-'gave up' is a refusal for a goal at which a search met a limit of its own: such an edit costs more and tells less, so it has no place in must-fail.
+'gave up' is a refusal at each goal of which a search met a limit of its own: such an edit costs more and tells less, so it has no place in must-fail.
 
 The last line is 'N passed, M failed', and the status is 0 where M is 0."""
 from __future__ import annotations
@@ -128,7 +128,8 @@ def verdict_of(kind: str, said: str, output: str = '') -> tuple[str, str]:
     if kind == 'refused':
         if first.startswith('(only because a proof file names'):
             return WEAK, first
-        return (GAVE_UP if re.search('gave up at one of its (own )?limits', output) else REFUSED), first
+        goals = edits_together.goals_of(output.split('\n'))
+        return (GAVE_UP, first) if goals and goals[0] else (REFUSED, goals[1] if goals else first)
     return {'limit': LIMIT, 'missed': STANDS, 'bad': BAD}.get(kind, UNKNOWN), first
 
 

@@ -30,7 +30,7 @@ class Planted(NamedTuple):
 
 
 class Found(NamedTuple):
-    """A refusal for a goal: whether a search met a limit of its own, and the first line that tells of it."""
+    """A refusal for a goal: whether a search met a limit of its own at each such goal, and the line that tells of one."""
 
     is_at_limit: bool
     why: str
@@ -97,6 +97,15 @@ def symbols(crate: str, function: Any, known: Iterable[str]) -> list[str]:
     return [name for name, (of, *rest) in parts.items() if rest == [function.name] and function.block.fits(of)]
 
 
+def goals_of(lines: Iterable[str]) -> tuple[bool, str] | None:
+    """Whether a search met a limit of its own at each goal that these lines tell of, and the first goal where none did, or else the first. None if they tell
+    of no goal."""
+    told = [it for it in lines if PLACED.match(it) and (': error' in it or it.startswith('note: '))]
+    goals = [it for it in told if not NAMES.match(it)]
+    plain = [it for it in goals if not LIMIT.search(it)]
+    return (not plain, (plain or goals)[0]) if goals else None
+
+
 def lines_of(said: str, each: Planted, lines: range, symbol: str) -> Iterator[str]:
     """The lines of a check that tell of a place in a function, or in its proof."""
     proof = 'proofs/' + '/'.join(symbol.split('::')[1:]) + '/'
@@ -112,12 +121,8 @@ def found(crate: str, said: str, each: Planted, lines: range) -> Found | None:
     names = symbols(crate, each.function, functions)
     if len(names) != 1 or not functions.get(names[0], '').startswith(FAILED):
         return None
-    told = list(lines_of(said, each, lines, names[0]))
-    told = [it for it in told if ': error' in it or it.startswith('note: ')]
-    goals = [it for it in told if not NAMES.match(it)]
-    if not goals:
-        return None
-    return Found(any(LIMIT.search(it) for it in [*told, functions[names[0]]]), goals[0])
+    goals = goals_of(lines_of(said, each, lines, names[0]))
+    return Found(*goals) if goals else None
 
 
 def only(function: Any) -> list[str]:

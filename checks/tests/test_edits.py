@@ -72,6 +72,11 @@ class Verdicts(unittest.TestCase):
         self.assertEqual(verdict, edits.GAVE_UP)
         self.assertTrue(edits.Tried('low/a', verdict, 1.0, '').passed)
 
+    def test_one_goal_without_a_limit_is_enough(self) -> None:
+        lines = ['note: src/tick.rt:9:5: `returns` is not proved; `search` gave up at one of its limits', 'note: src/tick.rt:9:5: `invariant` is not proved']
+        found = edits.verdict_of('refused', f'must-fail low/a.edit: refused, as it must be: {lines[0]}', '\n'.join(lines))
+        self.assertEqual(found, (edits.REFUSED, lines[1]))
+
     def test_a_proof_that_names_what_is_gone_shows_nothing(self) -> None:
         said = 'must-fail low/a.edit: refused, as it must be (only because a proof file names what the edit took away, so this says little): proofs/A.antt:1:1'
         self.assertEqual(edits.verdict_of('refused', said)[0], edits.WEAK)
