@@ -239,8 +239,11 @@ def standing(rows: Iterable[Row], now: Mapping[str, str]) -> str:
 
 
 def is_there(test: str, top: pathlib.Path = TOP) -> bool:
-    """Whether the test that the table names stands in the sources: a function of a crate, a command of a page, or the reason why a body is right."""
+    """Whether the test that the table names is in the sources: a function of a crate, a worked system of mcs_corpus, a command of a page, or the reason why
+    a body is right."""
     place, _, what = test.partition(': ')
+    if what.startswith('data/'):
+        return (top / place / what).is_dir()
     if place.startswith('crates/'):
         begins = re.compile(rf'\bfn {re.escape(what.rpartition("::")[2])}\b')
         return any(begins.search(file.read_text(encoding='utf-8')) for file in (top / place / 'src').rglob('*.rt'))

@@ -185,11 +185,12 @@ class Table(unittest.TestCase):
             top = pathlib.Path(folder)
             (top / 'crates' / 'mcs_tests_low' / 'src').mkdir(parents=True)
             (top / 'crates' / 'mcs_tests_low' / 'src' / 'runs.rt').write_text('#[test]\nfn a_run_ends() {}\n')
+            (top / 'crates' / 'mcs_corpus' / 'data' / 'turns' / 'close').mkdir(parents=True)
             (top / 'page.md').write_text('```sh\n./mcsim a.toml --horizon 9\n```\n')
             for test, is_there in (
                 ('crates/mcs_tests_low: runs::a_run_ends', True), ('crates/mcs_tests_low: runs::a_run', False), ('crates/mcs_tests_high: runs::a_run_ends', False),
                 ('checks/pages/pages.py: page.md: ./mcsim a.toml --horizon 9', True), ('checks/pages/pages.py: page.md: ./mcsim b.toml', False),
-                ('right: it is the body in other words', True), ('', False), (lazy.NO_TEST, False),
+                ('crates/mcs_corpus: data/turns/close', True), ('crates/mcs_corpus: data/turns/far', False), ('right: it is the body in other words', True), ('', False), (lazy.NO_TEST, False),
             ):
                 tally = lazy.named([self.row('a', test=test), self.row('b', came='refused')], top).tally
                 self.assertEqual((tally.passed, tally.failed), (1, 0) if is_there else (0, 1), test)
