@@ -16,14 +16,13 @@ from typing import NamedTuple
 
 sys.dont_write_bytecode = True
 sys.path[0] = str(pathlib.Path(__file__).resolve().parents[2])
-from checks import common
+from checks import common, tool
 from checks.common import TOP, Count, Ran
 from checks.pages import pages
 
 PAGE = TOP / 'docs' / 'FAULTS.md'
 # the file of which a diff is, unless it has a whole one
 BASE = TOP / 'docs' / 'every_table.toml'
-EXPLAIN = TOP / 'tools' / 'explain'
 CRATES = TOP / 'crates'
 FILES = CRATES / 'mcs_load' / 'src' / 'fault.rt'
 RUNS = CRATES / 'mcs_cli' / 'src' / 'fault.rt'
@@ -109,7 +108,7 @@ def explained(program: pathlib.Path, folder: pathlib.Path, text: str) -> Ran:
     """What tools/explain says of a file."""
     file = folder / 'system.toml'
     file.write_text(text)
-    return common.run([sys.executable, EXPLAIN, file.name], cwd=folder, env={**os.environ, 'MCSIM': str(program)})
+    return tool.run('explain', file.name, cwd=folder, env={**os.environ, 'MCSIM': str(program)})
 
 
 def lines_of(written: bytes) -> list[str]:

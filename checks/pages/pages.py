@@ -29,7 +29,7 @@ try:
     HAS_YAML = True
 except ImportError:
     HAS_YAML = False
-from checks import common
+from checks import common, tool
 from checks.common import TOP, Count, Ran
 
 PROGRAM = './mcsim'
@@ -98,7 +98,9 @@ def questions_in(text: str) -> Iterator[tuple[str, list[str]]]:
 def ran(program: pathlib.Path, block: str) -> Ran:
     """What a block of commands comes to, with this program in place of ./mcsim, its mcscheck in place of ./mcscheck, and both for the tools.
     A block with options that the launcher reads is run as it stands."""
-    environment, is_typed = {**os.environ, 'MCSIM': str(program)}, any(word in block for word in TYPED)
+    # a Python with packages keeps what it has compiled of them
+    given = dict(os.environ) if wants_pandas(block) else tool.environment()
+    environment, is_typed = {**given, 'MCSIM': str(program)}, any(word in block for word in TYPED)
     block = block if is_typed else block.replace(PROGRAM, shlex.quote(str(program)))
     if checker := common.checker_of(program):
         block = block if is_typed else block.replace(CHECKER, shlex.quote(str(checker)))
@@ -300,9 +302,13 @@ def try_jobs(program: pathlib.Path, count: Count) -> None:
 
 
 def main() -> None:
-    program = common.built_program(common.asking_program(__doc__).parse_args().program)
-    count = Count()
-    for page in (*sorted((TOP / 'examples').glob('*.md')), TOP / 'README.md', *GUIDES):
+    pages = (*sorted((TOP / 'examples').glob('*.md')), TOP / 'README.md', *GUIDES)
+    parser = common.asking_program(__doc__)
+    names = [str(page.relative_to(TOP)) for page in pages]
+    parser.add_argument('--page', action='append', choices=names, metavar='PAGE', help='of the pages only this one, as docs/CHECK.md; may be given several times')
+    words = parser.parse_args()
+    program, count = common.built_program(words.program), Count()
+    for page in (page for page, name in zip(pages, names) if not words.page or name in words.page):
         try_files(page, count)
         try_questions(program, page, count)
         try_page(program, page, count)

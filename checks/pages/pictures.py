@@ -6,7 +6,6 @@ elsewhere, and what it draws has to be the file, byte for byte. With --write the
 run too, beside the repository: each ends with status 0 and says nothing. Those that open a window or a page are left out."""
 from __future__ import annotations
 
-import os
 import pathlib
 import re
 import shlex
@@ -16,7 +15,7 @@ import xml.etree.ElementTree as ElementTree
 
 sys.dont_write_bytecode = True
 sys.path[0] = str(pathlib.Path(__file__).resolve().parents[2])
-from checks import common
+from checks import common, tool
 from checks.common import TOP, Count
 
 DOCS = TOP / 'docs'
@@ -39,7 +38,7 @@ def images_of(page: pathlib.Path) -> set[pathlib.Path]:
 
 
 def environment(program: pathlib.Path) -> dict[str, str]:
-    return {**os.environ, 'MCSIM': str(program), 'PYTHONDONTWRITEBYTECODE': '1'}
+    return {**tool.environment(), 'MCSIM': str(program)}
 
 
 def try_commands(page: pathlib.Path, program: pathlib.Path, count: Count) -> None:
@@ -55,11 +54,11 @@ def try_commands(page: pathlib.Path, program: pathlib.Path, count: Count) -> Non
 
 def drawn(program: pathlib.Path, command: str) -> common.Ran | bytes:
     """What a command draws, or how it ended where it drew nothing."""
-    words = shlex.split(command)
+    name, *words = shlex.split(command)
     with tempfile.TemporaryDirectory() as folder:
         target = pathlib.Path(folder, 'picture.svg')
         words[words.index('-o') + 1] = str(target)
-        ran = common.run([sys.executable, *words], cwd=TOP, env=environment(program))
+        ran = tool.run(pathlib.Path(name).name, *words, cwd=TOP, env=environment(program))
         return target.read_bytes() if ran == (0, b'', b'') and target.exists() else ran
 
 

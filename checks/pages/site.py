@@ -53,6 +53,27 @@ html_sidebars = {'**': ['searchbox.html', 'globaltoc.html']}
 html_show_sourcelink = False
 html_copy_source = False
 html_title = 'mcsim'
+
+contents = {}
+
+
+def share_contents(app, name, template, context, doctree):
+    # contents beside a page mark it, if they have it. Those of files and folders have none of them, and are alike in one folder.
+    if 'orphan' not in app.env.metadata.get(name, {}):
+        return
+    made, folder = context['toctree'], name.rpartition('/')[0]
+
+    def toctree(**words):
+        key = folder, *sorted(words.items())
+        if key not in contents:
+            contents[key] = made(**words)
+        return contents[key]
+
+    context['toctree'] = toctree
+
+
+def setup(app):
+    app.connect('html-page-context', share_contents)
 '''
 
 

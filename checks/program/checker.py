@@ -337,11 +337,11 @@ def try_progress(program: pathlib.Path, folder: pathlib.Path, count: Count) -> N
     wanted = b'hint no thread has a deadline\n' + clean(hints=1, threads=8)
     good = long.status == 6 and command.is_progress(long) and out.read_bytes() == wanted
     count.expect(f'progress up to {long.horizon}: {long.shown[:60]!r}..{long.shown[-60:]!r}', good)
-    long = command.long_run(pathlib.Path('/dev/full'))
-    good = long.status == 3 and command.is_progress(long, 'mcscheck: write failed\r\n')
-    count.expect(f'progress up to {long.horizon} of a run that cannot write: {long.shown[-80:]!r}', good)
-    try_progress_among_findings(program, folder, long.horizon, count)
-    count.expect('a pipe sees progress', common.run(command.line(2 * long.horizon), seconds=PATIENCE) == Ran(6, wanted, b''))
+    lost = command.long_run(pathlib.Path('/dev/full'), long)
+    good = lost.status == 3 and command.is_progress(lost, 'mcscheck: write failed\r\n')
+    count.expect(f'progress up to {lost.horizon} of a run that cannot write: {lost.shown[-80:]!r}', good)
+    try_progress_among_findings(program, folder, min(long.horizon, lost.horizon), count)
+    count.expect('a pipe sees progress', common.run(command.line(long.horizon), seconds=PATIENCE) == Ran(6, wanted, b''))
 
 
 def main() -> None:

@@ -85,9 +85,9 @@ class Command(NamedTuple):
             status = subprocess.run(self.line(horizon), stdin=subprocess.DEVNULL, stdout=target, stderr=theirs).returncode
         return status, seen.decode()
 
-    def long_run(self, target: pathlib.Path) -> Long:
-        """A run to a horizon so far that it shows how far it is, with this target for what it writes."""
-        horizon = SHORT
+    def long_run(self, target: pathlib.Path, before: Long | None = None) -> Long:
+        """A run to a horizon so far that it shows how far it is, with this target for what it writes. It begins near the horizon of the one before."""
+        horizon = max(SHORT, before.horizon // 2) if before else SHORT
         while True:
             with open(target, 'wb') as device:
                 status, shown = self.on_terminal(horizon, device)
@@ -99,27 +99,28 @@ class Command(NamedTuple):
         return is_progress(self.program.name, long.horizon, long.shown, after)
 
 
-def try_run(command: Command, target: pathlib.Path, count: Count) -> Long:
+def try_run(command: Command, target: pathlib.Path, count: Count, before: Long | None) -> Long:
     """A short run shows nothing, and a long one how far it is."""
     name = ' '.join(command.words)
     with open(target, 'wb') as device:
         count.expect(f'{name}: a short run shows something', command.on_terminal(1000, device) == (0, ''))
-    long = command.long_run(target)
+    long = command.long_run(target, before)
     good = long.status == 0 and command.is_progress(long)
     count.expect(f'{name}: progress up to {long.horizon}: {long.shown[:60]!r}..{long.shown[-60:]!r}', good)
     return long
 
 
-def try_reports(command: Command, target: pathlib.Path, count: Count) -> None:
+def try_reports(command: Command, target: pathlib.Path, count: Count, before: Long | None) -> Long:
     """The reports are the same, whether it is shown how far the run is or not."""
-    long = try_run(command, target, count)
+    long = try_run(command, target, count, before)
     ran = common.run(command.line(long.horizon), seconds=PATIENCE)
     count.expect(f'{" ".join(command.words)}: what is written up to {long.horizon}', ran == Ran(0, target.read_bytes(), b''))
+    return long
 
 
-def try_full_device(command: Command, count: Count) -> None:
+def try_full_device(command: Command, count: Count, before: Long | None) -> None:
     """A run that cannot write ends with its one line, behind what was wiped."""
-    long = command.long_run(pathlib.Path('/dev/full'))
+    long = command.long_run(pathlib.Path('/dev/full'), before)
     good = long.status == 3 and command.is_progress(long, f'{command.program.name}: write failed\r\n')
     count.expect(f'progress up to {long.horizon} of a run that cannot write: {long.shown[-80:]!r}', good)
 
@@ -138,11 +139,12 @@ def main() -> None:
         one.write_text(performance.crowd(1, 8))
         four.write_text(performance.crowd(4, 8))
         reports = Command(program, one, ('--show', 'reports'))
-        for command in (reports, Command(program, four, ('--show', 'reports', '--workers', '4'))):
-            try_reports(command, out, count)
+        long = try_reports(reports, out, count, None)
+        try_reports(Command(program, four, ('--show', 'reports', '--workers', '4')), out, count, None)
+        found = None
         for workers in ('1', '4'):
-            try_run(Command(program, four, ('--show', 'schedule', '--workers', workers)), pathlib.Path(os.devnull), count)
-        try_full_device(reports, count)
+            found = try_run(Command(program, four, ('--show', 'schedule', '--workers', workers)), pathlib.Path(os.devnull), count, found)
+        try_full_device(reports, count, long)
         try_schedule_on_terminal(Command(program, one), 2**20, count)
     count.end()
 

@@ -157,13 +157,15 @@ class Past:
         """How the thread stands in each tick of [begin, end)."""
         telling = [row for row in self.of_thread(thread) if row.tells]
         moments = [row.moment for row in telling]
-
-        def at(tick: int) -> str:
+        found: list[str] = []
+        while begin + len(found) < end:
+            # the rows up to this tick, and the next one behind it, before which nothing changes
+            tick = begin + len(found)
             place = bisect.bisect_right(moments, tick)
             following = telling[place] if place < len(telling) else None
-            return standing_after(telling[place - 1], following) if place else 'pending'
-
-        return [at(tick) for tick in range(begin, end)]
+            standing = standing_after(telling[place - 1], following) if place else 'pending'
+            found += [standing] * (min(end, following.moment if following else end) - tick)
+        return found
 
     def is_done(self, thread: str) -> bool:
         return any(row.kind == 'stop' and row.what[2] == 'done' for row in self.of_thread(thread))

@@ -19,8 +19,8 @@ from typing import Any
 
 sys.dont_write_bytecode = True
 sys.path[0] = str(pathlib.Path(__file__).resolve().parents[2])
-from checks import common, random_systems
-from checks.common import DATA, TOP, Count, Word
+from checks import common, random_systems, tool
+from checks.common import DATA, Count
 
 NEEDED = {
     'X': {'name', 'cat', 'pid', 'tid', 'ts', 'dur'}, 'M': {'name', 'pid', 'tid', 'args'}, 's': {'name', 'cat', 'id', 'pid', 'tid', 'ts'},
@@ -119,8 +119,7 @@ def with_orders(rng: random.Random, system: random_systems.System) -> str:
 
 
 def try_system(program: pathlib.Path, file: pathlib.Path, horizon: int, count: Count) -> None:
-    words: list[Word] = [sys.executable, TOP / 'tools' / 'trace', file, '--horizon', str(horizon), '--tick-ns', str(TICK_NS), '--budgets']
-    ran = common.run(words, env={**os.environ, 'MCSIM': str(program), 'PYTHONDONTWRITEBYTECODE': '1'})
+    ran = tool.run('trace', file, '--horizon', str(horizon), '--tick-ns', str(TICK_NS), '--budgets', env={**os.environ, 'MCSIM': str(program)})
     if ran.status:
         if common.run([program, '--horizon', '0'], file.read_bytes()).status == 1:
             # the program refuses this system, and so the tool does

@@ -22,7 +22,7 @@ from typing import Any, Optional
 
 sys.dont_write_bytecode = True
 sys.path[0] = str(pathlib.Path(__file__).resolve().parents[2])
-from checks import common, random_systems
+from checks import common, random_systems, tool
 from checks.common import DATA, TOP, Count, Word
 from checks.program import browser, large, reading
 from checks.program.browser import Browser
@@ -484,8 +484,8 @@ class Trial:
         self.checker = common.checker_of(program)
 
     def drawn(self, system: pathlib.Path, horizon: int) -> common.Ran:
-        words: list[Word] = [sys.executable, TOP / 'tools' / 'view', system, '--horizon', str(horizon), '-o', self.folder / 'page.html']
-        return common.run(words, env={**os.environ, 'MCSIM': str(self.program), 'PYTHONDONTWRITEBYTECODE': '1'})
+        words: list[Word] = [system, '--horizon', str(horizon), '-o', self.folder / 'page.html']
+        return tool.run('view', *words, env={**os.environ, 'MCSIM': str(self.program)})
 
     def look(self, system: pathlib.Path, horizon: int) -> None:
         text = common.run([self.program, system, '--horizon', str(horizon)])

@@ -15,7 +15,7 @@ from typing import NamedTuple
 
 sys.dont_write_bytecode = True
 sys.path[0] = str(pathlib.Path(__file__).resolve().parents[2])
-from checks import common
+from checks import common, tool
 from checks.common import DATA, TOP, Count
 
 # the changes of a wave: pairs of the moment (-1 before the first) and the value
@@ -120,7 +120,7 @@ def made(system: pathlib.Path, rows: str) -> tuple[bytes, str]:
     """The dump of rows, and the view that is saved beside it."""
     with tempfile.TemporaryDirectory() as folder:
         view = pathlib.Path(folder, 'view.gtkw')
-        dump = common.run([sys.executable, TOP / 'tools' / 'waves', system, '--rows', '-', '--save', view], rows.encode()).stdout
+        dump = tool.run('waves', system, '--rows', '-', '--save', view, stdin=rows.encode()).stdout
         return dump, view.read_text() if view.exists() else ''
 
 

@@ -13,6 +13,9 @@ There are three kinds of systems:
   the others: a second random search of as many runs as the first finds less in more of the systems.
   So the search has to find less in no more systems than the second random search does.
 
+A plain random search asks the library for C, in this process; in some runs mcscheck has to say the
+same. Without the library or a compiler it asks mcscheck.
+
 The script also writes in how many sets a search finds the worst case that does not begin at the
 critical instant, which is no failure."""
 from __future__ import annotations
@@ -20,8 +23,9 @@ from __future__ import annotations
 import contextlib
 import functools
 import random
-import sys
 import pathlib
+import sys
+import tempfile
 from collections.abc import Callable, Iterator
 from typing import Any, NamedTuple, Optional, TypeVar
 
@@ -29,6 +33,8 @@ sys.dont_write_bytecode = True
 sys.path[0] = str(pathlib.Path(__file__).resolve().parents[2])
 from checks import common
 from checks.common import TOP, Count
+from checks.program import called
+from checks.program.called import Called
 
 sys.path.insert(0, str(TOP / 'tools'))
 from mcsim_tools import climbing, guiding, ranges, tasks, workers, worst
@@ -47,6 +53,8 @@ FEW = 200
 TIMES, MOSTLY = 10, 0.8
 # systems with servers, at least
 SERVERS = 10
+# runs of a system with servers in which the library and mcscheck are compared
+ALIKE = 20
 # combinations of a small set
 SMALL = 1500
 BLIND = 'found from random points alone'
@@ -54,10 +62,11 @@ Done = TypeVar('Done')
 
 
 class Tried(NamedTuple):
-    """The programs: mcscheck, and mcsim."""
+    """The programs: mcscheck, and mcsim; and the call of the library, if there is one."""
 
     checker: str
     program: str
+    call: Any = None
 
 
 class Trial(NamedTuple):
@@ -83,9 +92,15 @@ def climb(tried: Tried, trial: Trial, runs: int, seed: int) -> climbing.Batches:
     return worst.climb(trial.space, runs, seed, guide).run()
 
 
-def searched(tried: Tried, trial: Trial, batches: climbing.Batches) -> Found:
-    """Runs a search until it finds the bound, if there is one, or to its end."""
-    question = Responses(tried.checker, trial.thread, trial.horizon)
+def plainly(tried: Tried, trial: Trial) -> Responses:
+    """What a plain search asks: the library, or else mcscheck."""
+    asked = tried.checker, trial.thread, trial.horizon
+    return Called(*asked, call=tried.call) if tried.call else Responses(*asked)
+
+
+def searched(tried: Tried, trial: Trial, batches: climbing.Batches, asked: Optional[Responses] = None) -> Found:
+    """Runs a search until it finds the bound, if there is one, or to its end; mcscheck is asked, or what is given."""
+    question = asked or Responses(tried.checker, trial.thread, trial.horizon)
     best = runs = 0
 
     def values(batch: list[Point]) -> list[climbing.Value]:
@@ -138,7 +153,7 @@ def try_tasks(tried: Tried, seed: str, number: int) -> tuple[Found, Found, Optio
     trial = set_of(rng, number % 2 == 1, (3, 7), (10, 300))
     found = searched(tried, trial, climb(tried, trial, RUNS, number))
     drawn = tuple(rng.randrange(size) for size in trial.space.sizes)
-    blind = searched(tried, trial, Climb(trial.space.sizes, [drawn], RUNS, number).run())
+    blind = searched(tried, trial, Climb(trial.space.sizes, [drawn], RUNS, number).run(), plainly(tried, trial))
     return found, blind, trial.bound, worst.bound_of(trial.space, trial.thread)[0]
 
 
@@ -178,8 +193,21 @@ def system_with_servers(rng: random.Random) -> dict[str, Any]:
     return tables
 
 
-def try_servers(runs: int, tried: Tried, seed: str, number: int) -> tuple[Found, Found, Found]:
-    """What the search finds, and what two plain random searches of ten times as many runs find."""
+def drawn_from(rng: random.Random, space: Space, many: int) -> Iterator[Point]:
+    """Points at random."""
+    return (tuple(rng.randrange(size) for size in space.sizes) for _ in range(many))
+
+
+def are_alike(tried: Tried, trial: Trial) -> bool:
+    """Whether the library and mcscheck see the same in some runs."""
+    rng = random.Random(trial.horizon)
+    points = [trial.space.tables_of(point) for point in drawn_from(rng, trial.space, ALIKE)]
+    program = Responses(tried.checker, trial.thread, trial.horizon)
+    return all(plainly(tried, trial).seen(tables) == program.seen(tables) for tables in points)
+
+
+def try_servers(runs: int, tried: Tried, seed: str, number: int) -> tuple[Found, Found, Found, bool]:
+    """What the search finds, what two plain random searches of ten times as many runs find, and whether these see what mcscheck sees."""
     rng = random.Random(f'{seed} servers {number}')
     tables = system_with_servers(rng)
     texts = [*ranges.phases_of(tables), *ranges.times_of(tables, 50)]
@@ -190,10 +218,9 @@ def try_servers(runs: int, tried: Tried, seed: str, number: int) -> tuple[Found,
     found = searched(tried, trial, climb(tried, trial, runs, number))
 
     def at_random() -> Found:
-        drawn = (tuple(rng.randrange(size) for size in space.sizes) for _ in range(TIMES * runs))
-        return searched(tried, trial, climbing.exhaust(drawn))
+        return searched(tried, trial, climbing.exhaust(drawn_from(rng, space, TIMES * runs)), plainly(tried, trial))
 
-    return found, at_random(), at_random()
+    return found, at_random(), at_random(), are_alike(tried, trial)
 
 
 # ---- all of them
@@ -225,10 +252,11 @@ def look_at_small(tried: Tried, seed: str, many: int, count: Count) -> None:
 
 def look_at_servers(tried: Tried, seed: str, many: int, runs: int, count: Count) -> None:
     more = same = worse = 0
-    for number, (found, other, second) in enumerate(on_all(functools.partial(try_servers, runs), tried, seed, many)):
+    for number, (found, other, second, is_alike) in enumerate(on_all(functools.partial(try_servers, runs), tried, seed, many)):
         more += found.value > other.value
         same += found.value == other.value
         worse += second.value < other.value
+        count.expect(f'servers {number} of seed {seed}: the library sees something else than mcscheck', is_alike)
         if found.value < other.value:
             print(f'servers {number} of seed {seed}: {found.value} in {found.runs} runs, {other.value} by {other.runs} random ones')
     print(f'servers: {more} of {many} above {TIMES} times as many random runs, {same} the same; as many random runs again are below in {worse}')
@@ -248,11 +276,13 @@ def main() -> None:
     if checker is None:
         count.skip('mcscheck, which is not there')
         count.end()
-    tried = Tried(str(checker), str(program))
     tenth = max(1, words.sets // 10)
-    look_at_tasks(tried, str(words.seed), words.sets, count)
-    look_at_small(tried, str(words.seed), tenth if words.small is None else words.small, count)
-    look_at_servers(tried, str(words.seed), max(SERVERS, tenth) if words.servers is None else words.servers, words.runs, count)
+    with tempfile.TemporaryDirectory() as folder:
+        shared = called.linked(program, pathlib.Path(folder))
+        tried = Tried(str(checker), str(program), shared and called.library(shared))
+        look_at_tasks(tried, str(words.seed), words.sets, count)
+        look_at_small(tried, str(words.seed), tenth if words.small is None else words.small, count)
+        look_at_servers(tried, str(words.seed), max(SERVERS, tenth) if words.servers is None else words.servers, words.runs, count)
     count.end()
 
 

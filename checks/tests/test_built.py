@@ -63,6 +63,10 @@ BELOW_LIBRARY = ('crates.txt', 'crates/mcs_c/src/lib.rt', 'crates/mcs_ticks/src/
 OF_LIBRARY = {'lib/libmcs.so.1', 'lib/libmcs.so', 'lib/pkgconfig/mcsim.pc', 'lib/cmake/mcsim/mcsimConfig.cmake', 'lib/cmake/mcsim/mcsimConfigVersion.cmake'}
 NO_LIBRARY = 'mcsim: left out: the shared library libmcs.so.1, with mcsim.pc and its CMake config'
 
+# of what an installation has many files of, those that are installed where it does not matter how many there are
+MANY = ('tools/', 'docs/', 'launcher/completions/')
+FEW = ('tools/mcsim_tools', 'tools/view', 'docs/MODELLING.md', 'docs/mcsim.1', 'launcher/completions/_mcsim')
+
 
 def sum_of(text: bytes) -> str:
     return hashlib.sha256(text).hexdigest()
@@ -85,6 +89,8 @@ class InFolder(unittest.TestCase):
         for tool in TOOLS:
             (self.tools / tool).symlink_to(shutil.which(tool) or self.fail(f'there is no {tool}'))
         (self.tools / 'python3').symlink_to(sys.executable)
+        # without packages from elsewhere, which take most of the time of its start
+        (self.tools / 'pyvenv.cfg').write_text(f'home = {pathlib.Path(sys.executable).resolve().parent}\ninclude-system-site-packages = false\n')
         self.put_tool('cc', CC)
         self.write('crates.txt', CRATES)
         self.write('bin/README.md', PAGE)
@@ -141,11 +147,12 @@ class InFolder(unittest.TestCase):
         rows = [f'| `{name}` | {len(text)} | `{sum_of(text.encode())}` |\n' for name, text in files]
         self.write('bin/README.md', PAGE.partition('| `')[0] + ''.join(rows))
 
-    def write_listed(self) -> list[list[str]]:
-        """bin/ of these sources, and made-up files for what else is installed; the lines of the list."""
+    def write_listed(self, whole: bool = False) -> list[list[str]]:
+        """bin/ of these sources, and made-up files for what else is installed; the lines of the list, or a few of each kind."""
         self.renewed()
-        lines = [line.split() for line in (self.top / 'launcher' / 'installed').read_text().splitlines()]
-        listed = [line for line in lines if line and line[0] != '#']
+        lines = [line.split() for line in (TOP / 'launcher' / 'installed').read_text().splitlines()]
+        listed = [line for line in lines if line and line[0] != '#' and (whole or line[0] in FEW or not line[0].startswith(MANY))]
+        self.write('launcher/installed', ''.join(' '.join(line) + '\n' for line in listed))
         for source, *_ in listed:
             if not (self.top / source).exists():
                 self.write(source, source)
@@ -300,6 +307,7 @@ class Installed(InFolder):
         return {str(path.relative_to(folder)) for path in folder.rglob('*') if not path.is_dir()}
 
     def test_what_is_installed_runs_without_the_repository_and_is_taken_away(self) -> None:
+        self.write_listed(whole=True)
         self.write('../home/.local/bin/own', 'own')
         status, stdout, stderr = self.launch('--install')
         self.assertEqual((status, stderr), (0, ''))

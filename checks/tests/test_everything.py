@@ -6,15 +6,18 @@ import subprocess
 import sys
 import tempfile
 import unittest
+from collections.abc import Sequence
 from typing import Any
 
 CHECKS = pathlib.Path(__file__).resolve().parent.parent
 from checks import common, everything
 
 TOP = CHECKS.parent
-MANY = len(everything.CHECKS)
+# a folder has these of the checks unless all are wanted: of some that try the program, and of some that do not, the sums are as of all
+FEW = tuple(check for check in everything.CHECKS if check.name in ('rules', 'pages', 'manual', 'early', 'prose'))
+MANY, MANY_OF_ALL = len(FEW), len(everything.CHECKS)
 # what is passed where there is no program to try
-OTHERS = 2 * sum(not check.tries_program for check in everything.CHECKS)
+OTHERS, OTHERS_OF_ALL = (2 * sum(not check.tries_program for check in checks) for checks in (FEW, everything.CHECKS))
 # what ./test, .ci/run and the made-up gate call
 TOOLS = ('sh', 'bash', 'dirname', 'mkdir', 'chmod', 'sleep')
 # the scripts that run the gate
@@ -55,13 +58,24 @@ class Folder:
         shutil.copy(TOP / 'test', self.top)
         shutil.copy(TOP / '.ci' / 'run', self.top / '.ci')
         (self.top / 'checks' / 'proofs').mkdir()
-        for script in ('__init__.py', 'common.py', 'everything.py', *(f'proofs/{name}.py' for name in GATE)):
+        for script in ('__init__.py', 'common.py', *(f'proofs/{name}.py' for name in GATE)):
             shutil.copy(CHECKS / script, self.top / 'checks' / script)
+        self.have(FEW)
         for tool in TOOLS:
             (self.tools / tool).symlink_to(shutil.which(tool) or tool)
         (self.tools / 'python3').symlink_to(sys.executable)
+        # without packages from elsewhere, which take most of the time of its start
+        (self.tools / 'pyvenv.cfg').write_text(f'home = {pathlib.Path(sys.executable).resolve().parent}\ninclude-system-site-packages = false\n')
         for check in everything.CHECKS:
             self.check(f'{check.folder}/{check.name}', 'print("tries", *sys.argv[1:])\nprint("2 passed, 0 failed")')
+
+    def have(self, checks: Sequence[everything.Check]) -> None:
+        """Has these of the checks."""
+        names, ends = [check.name for check in checks], '# what no gate runs\n'
+        text = (CHECKS / 'everything.py').read_text()
+        cut = text.replace(ends, f'CHECKS = tuple(check for check in CHECKS if check.name in {names})\n{ends}')
+        assert cut != text
+        (self.top / 'checks' / 'everything.py').write_text(cut)
 
     def check(self, name: str, text: str) -> None:
         file = self.top / 'checks' / f'{name}.py'
@@ -98,9 +112,10 @@ class InFolder(unittest.TestCase):
 
 class WithoutProofs(InFolder):
     def test_without_rt_the_program_of_the_repository_is_checked(self) -> None:
+        self.folder.have(everything.CHECKS)
         program = self.folder.script('bin/mcsim', 'exit 0')
         status, lines = self.folder.run('./test')
-        self.assertEqual((status, lines[-1]), (0, f'{2 * MANY} passed, 0 failed, 1 skipped'))
+        self.assertEqual((status, lines[-1]), (0, f'{2 * MANY_OF_ALL} passed, 0 failed, 1 skipped'))
         self.assertEqual(lines[0], f'processors: {len(os.sched_getaffinity(0))}')
         self.assertEqual(lines[1], 'nothing was proved: the command rt of the Rattle toolchain is not on PATH')
         # it stands at the end again, where nobody takes the count for that of a gate
@@ -134,6 +149,9 @@ class WithoutProofs(InFolder):
         for words in ((), ('--program', 'none')):
             status, lines = self.folder.run('./test', *words)
             self.assertEqual((status, lines[-1]), (1, f'{OTHERS} passed, 1 failed, 1 skipped'))
+        self.folder.have(everything.CHECKS)
+        status, lines = self.folder.run('./test')
+        self.assertEqual((status, lines[-1]), (1, f'{OTHERS_OF_ALL} passed, 1 failed, 1 skipped'))
 
     def test_the_merge_gate_needs_rt(self) -> None:
         self.folder.script('bin/mcsim', 'exit 0')
@@ -143,10 +161,11 @@ class WithoutProofs(InFolder):
 
 class WithAGate(InFolder):
     def test_the_count_is_over_the_gate_and_the_checks(self) -> None:
+        self.folder.have(everything.CHECKS)
         self.folder.gate(f'{BUILDS}; echo rt: said; echo 5 passed, 0 failed')
         self.folder.script('bin/mcsim', 'exit 0')
         status, lines = self.folder.run('bash', '.ci/run')
-        self.assertEqual((status, lines[-1]), (0, f'{5 + 2 * MANY} passed, 0 failed'))
+        self.assertEqual((status, lines[-1]), (0, f'{5 + 2 * MANY_OF_ALL} passed, 0 failed'))
         self.assertTrue(lines[1].startswith('timed_rt.py: rt runs without clocks: '))
         self.assertEqual(lines[2:4], ['rt: said', 'rt ci: 5 passed, 0 failed'])
         self.assertFalse([line for line in lines if 'nothing was proved' in line])

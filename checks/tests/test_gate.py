@@ -11,6 +11,7 @@ import unittest
 from typing import Any
 
 CHECKS = pathlib.Path(__file__).resolve().parent.parent
+from checks import forked
 from checks.common import Tally
 from checks.proofs import gate, gate_beside, gate_cost, gate_tasks
 from checks.proofs.gate_cost import Cost, Row
@@ -284,7 +285,7 @@ class Timed(unittest.TestCase):
         self.env = {'PATH': f'{self.folder}:{os.path.dirname(sys.executable)}:/usr/bin:/bin'}
 
     def ran(self, *words: str) -> subprocess.CompletedProcess[str]:
-        return subprocess.run([sys.executable, *words], env=self.env, capture_output=True, text=True)
+        return forked.checks().run([sys.executable, *words], env=self.env, capture_output=True, text=True)
 
     def test_seconds_are_those_of_the_task_whose_commands_took_them(self) -> None:
         ran = self.ran(str(CHECKS / 'proofs' / 'timed_rt.py'), str(self.folder / 'times'), '--anew', 'b')

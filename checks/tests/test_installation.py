@@ -7,6 +7,7 @@ import re
 import shutil
 import signal
 import subprocess
+import tempfile
 import unittest
 from collections.abc import Callable
 
@@ -57,6 +58,14 @@ def tree(folder: pathlib.Path) -> dict[str, bytes | str | None]:
     }
 
 
+# an installation that is made once, and copied where a test only begins with one
+KEPT = tempfile.TemporaryDirectory()
+
+
+def tearDownModule() -> None:
+    KEPT.cleanup()
+
+
 def in_place(path: pathlib.Path) -> pathlib.Path:
     """A place in which nothing stands any more."""
     path.unlink()
@@ -82,6 +91,15 @@ class Installation(InFolder):
     def install(self, *words: str) -> tuple[int, str, str]:
         return self.launch('--install', *(words or [str(self.prefix)]))
 
+    def begin_installed(self) -> None:
+        """Begins with an installation."""
+        kept = pathlib.Path(KEPT.name, 'prefix')
+        if not kept.exists():
+            self.assertEqual(self.install()[::2], (0, ''))
+            self.is_whole()
+            self.prefix.rename(kept)
+        shutil.copytree(kept, self.prefix, symlinks=True)
+
     def uninstall(self, prefix: pathlib.Path | None = None) -> tuple[int, str, str]:
         return self.launch('--uninstall', str(prefix or self.prefix))
 
@@ -105,22 +123,41 @@ class BrokenOff(Installation):
     """At the Nth call of a command that changes something the launcher gets a signal."""
 
     def stopping(self, name: str) -> None:
-        """Puts commands in place of those that change something."""
+        """Makes commands to stand before those that change something."""
         self.room = self.top.parent / 'room'
-        self.room.mkdir(exist_ok=True)
+        (self.room / 'commands').mkdir(parents=True)
         for command in ('cp', 'mv', 'ln', 'mkdir', 'rm', 'rmdir'):
-            real = shutil.which(command)
-            (self.tools / command).unlink()
-            (self.tools / command).write_text(STOPPING.format(folder=self.room, signal=name, command=real))
-            (self.tools / command).chmod(0o755)
+            file = self.room / 'commands' / command
+            file.write_text(STOPPING.format(folder=self.room, signal=name, command=shutil.which(command)))
+            file.chmod(0o755)
 
     def broken_off(self, at: int, *words: str) -> tuple[int, str, str]:
         """A run that is stopped before its command number `at`."""
         for name, text in (('count', '0'), ('at', str(at))):
             (self.room / name).write_text(text + '\n')
-        ran = self.run_in(['sh', '-c', 'echo $$ >"$1/pid"; shift; exec "$@"', 'sh', str(self.room), str(self.top / 'mcsim'), *words])
-        (self.room / 'at').write_text('0\n')
+
+        # whoever runs the tests in the background has interrupts ignored
+        def hear_interrupts() -> None:
+            signal.signal(signal.SIGINT, signal.SIG_DFL)
+
+        # a launcher that is killed leaves its folder for temporary files
+        env = {'PATH': f'{self.room}/commands:{self.tools}', 'HOME': str(self.home), 'TMPDIR': str(self.room)}
+        command = ['sh', '-c', 'echo $$ >"$1/pid"; shift; exec "$@"', 'sh', str(self.room), str(self.top / 'mcsim'), *words]
+        ran = self.run_in(command, env=env, preexec_fn=hear_interrupts)
         return ran.returncode, ran.stdout, ran.stderr
+
+    def install_earlier(self) -> None:
+        """Installs what an earlier version had: another tool, and one that is no longer there. It is installed once, and copied then."""
+        earlier = self.top.parent / 'earlier'
+        if not earlier.exists():
+            self.write('tools/view', 'an earlier one\n', 0o755)
+            self.write('tools/gone', 'no longer there\n')
+            self.write('launcher/installed', INSTALLED + 'tools/gone lib/mcsim/tools/gone bin/mcsim-gone\n')
+            self.assertEqual(self.install()[0], 0)
+            self.prefix.rename(earlier)
+            self.write('launcher/installed', INSTALLED)
+            self.write('tools/view', '#!/bin/sh\necho view\n', 0o755)
+        shutil.copytree(earlier, self.prefix, symlinks=True)
 
     def each_step(self, name: str, every: int, before: bool = False) -> None:
         """Breaks off an installation at each step, or each few steps: it is repeated, and taken away."""
@@ -132,12 +169,7 @@ class BrokenOff(Installation):
             for folder in (self.prefix, copy):
                 shutil.rmtree(folder, ignore_errors=True)
             if before:
-                self.write('tools/view', 'an earlier one\n', 0o755)
-                self.write('tools/gone', 'no longer there\n')
-                self.write('launcher/installed', INSTALLED + 'tools/gone lib/mcsim/tools/gone bin/mcsim-gone\n')
-                self.assertEqual(self.broken_off(0, '--install', str(self.prefix))[0], 0)
-                self.write('launcher/installed', INSTALLED)
-                self.write('tools/view', '#!/bin/sh\necho view\n', 0o755)
+                self.install_earlier()
             ran = self.broken_off(at, '--install', str(self.prefix))
             if ran[0] == 0:
                 break
@@ -173,7 +205,8 @@ class BrokenOff(Installation):
     def test_taking_away_is_killed(self) -> None:
         self.stopping('KILL')
         for at in range(1, 40, 7):
-            self.assertEqual(self.broken_off(0, '--install', str(self.prefix))[0], 0)
+            shutil.rmtree(self.prefix, ignore_errors=True)
+            self.begin_installed()
             ran = self.broken_off(at, '--uninstall', str(self.prefix))
             if ran[0] == 0:
                 break
@@ -241,7 +274,7 @@ class OfTheUser(Installation):
         for what, (place, change) in changes.items():
             with self.subTest(what):
                 shutil.rmtree(self.prefix, ignore_errors=True)
-                self.assertEqual(self.install()[0], 0)
+                self.begin_installed()
                 change(self.prefix / place)
                 before = tree(self.prefix)
                 mine = {path: it for path, it in before.items() if path == place or path.startswith(f'{place}/')}
@@ -317,7 +350,7 @@ class OfTheUser(Installation):
         self.assertEqual(sorted(stderr.splitlines()), below)
 
     def test_what_python_made_of_the_tools_goes_and_nothing_else(self) -> None:
-        self.install()
+        self.begin_installed()
         for path in ('tools/__pycache__/view.cpython-311.pyc', 'tools/__pycache__/notes'):
             self.write(f'../prefix/lib/mcsim/{path}', '')
         status, _, stderr = self.uninstall()
@@ -351,7 +384,7 @@ class Earlier(Installation):
 
     def setUp(self) -> None:
         super().setUp()
-        self.assertEqual(self.install()[0], 0)
+        self.begin_installed()
         folders = {f'{parent}/' for path in FILES for parent in map(str, pathlib.Path(path).parents) if parent != '.'}
         (self.prefix / 'lib/mcsim/installed').write_text(''.join(f'{line}\n' for line in sorted(FILES | folders)))
 

@@ -6,6 +6,7 @@ import sys
 import tempfile
 import unittest
 
+from checks import forked
 from checks.common import NO_ANSWER, TOP, Ran
 from checks.program import same
 from checks.program.progress import terminal
@@ -38,7 +39,7 @@ class Same(unittest.TestCase):
     def compared(self, *words: str) -> tuple[int, list[str], list[str]]:
         given = words or ('before', 'after', '--seeds', '2')
         command = [sys.executable, str(TOP / 'checks' / 'program' / 'same.py'), *given]
-        ran = subprocess.run(command, cwd=self.folder, capture_output=True, text=True, env={**os.environ, 'TMPDIR': str(self.folder)})
+        ran = forked.checks().run(command, cwd=self.folder, capture_output=True, text=True, env={**os.environ, 'TMPDIR': str(self.folder)})
         return ran.returncode, ran.stdout.splitlines(), ran.stderr.splitlines()
 
     def difference(self, text: list[str]) -> list[str]:
@@ -102,7 +103,7 @@ class Same(unittest.TestCase):
     def test_a_terminal_is_told_how_far_it_is(self) -> None:
         command = [sys.executable, str(TOP / 'checks' / 'program' / 'same.py'), 'before', 'after', '--seeds', '2']
         with terminal() as (theirs, seen):
-            subprocess.run(command, cwd=self.folder, stdout=subprocess.DEVNULL, stderr=theirs)
+            forked.checks().run(command, cwd=self.folder, stdout=subprocess.DEVNULL, stderr=theirs)
         self.assertIn(b'\rsame: 1 of 2 systems, 0 runs differ', bytes(seen))
         self.assertTrue(bytes(seen).endswith(b'\rsame: 2 of 2 systems, 0 runs differ\x1b[K\r\n'), bytes(seen))
 

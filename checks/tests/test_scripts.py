@@ -6,14 +6,13 @@ import json
 import os
 import pathlib
 import random
-import subprocess
 import sys
 import tempfile
 import tomllib
 import unittest
 from unittest import mock
 
-from checks import common, everything, random_systems
+from checks import common, everything, forked, random_systems, tool
 from checks.pages import manual, mended, pages
 from checks.program import analyses, bandwidth, faults, progress, readers, refused_runs, rules, stress, traces, views, waves
 from checks.program.refusing import Answer
@@ -62,7 +61,7 @@ class WrongPrograms(unittest.TestCase):
             file.chmod(0o755)
         file = next(check.script for check in everything.CHECKS if check.name == script)
         command = [sys.executable, str(file), '--program', str(self.program), *words]
-        ran = subprocess.run(command, capture_output=True, text=True, env={**os.environ, 'TMPDIR': str(self.program.parent)})
+        ran = forked.checks().run(command, capture_output=True, text=True, env={**tool.environment(), 'TMPDIR': str(self.program.parent)})
         found = common.last_tally(ran.stdout)
         self.assertEqual(ran.returncode, found.status, ran.stderr)
         return found
@@ -87,7 +86,7 @@ class WrongPrograms(unittest.TestCase):
         self.assertGreater(self.tally('manual', 'exit 0').failed, 4)
 
     def test_a_program_that_says_nothing_writes_no_page(self) -> None:
-        self.assertGreater(self.tally('pages', 'exit 0').failed, 4)
+        self.assertGreater(self.tally('pages', 'exit 0', '--page', 'README.md', '--page', 'docs/CHECK.md').failed, 4)
 
     def test_a_program_that_complains_writes_no_page(self) -> None:
         # two commands of the pages run a tool alone; README shows a file; four jobs have a form, and one of them draws what the program says, which is nothing

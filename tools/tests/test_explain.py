@@ -9,9 +9,10 @@ import tempfile
 import time
 import unittest
 
+from worked import TOOLS, run_tool
+
 # a machine with much else to do has so many seconds for what a free one does in a few
 SECONDS = 600
-TOOLS = pathlib.Path(__file__).resolve().parent.parent
 HEAD = 'version = 1\ncores = 2\ndelay = 1\n'
 NEW = 'version = 3\ncores = 2\ndelay = 1\n'
 CONTEXTS = 'context = [{ name = "a", core = 0, budget = 2, period = 5 }, { name = "b", core = 1, budget = 2, period = 5 }]\n'
@@ -30,7 +31,7 @@ class Explained(unittest.TestCase):
         program.chmod(0o755)
         (self.folder / 'system.toml').write_bytes(text)
         command = [sys.executable, str(TOOLS / 'explain'), *(words or ['system.toml'])]
-        return subprocess.run(command, cwd=self.folder, env={**os.environ, 'MCSIM': str(program)}, capture_output=True, text=True)
+        return run_tool(command, cwd=self.folder, env={**os.environ, 'MCSIM': str(program)}, capture_output=True, text=True)
 
     def told(self, text: str, fault: str) -> list[str]:
         """The lines for a fault of a file."""

@@ -17,6 +17,7 @@ from typing import NamedTuple, Optional, TypeVar, Union
 
 import worked
 from worked import ONE, ONE_ROWS, TOOLS
+from checks import forked
 from mcsim_tools import faults, frame, source
 
 SECONDS = 300
@@ -94,15 +95,9 @@ class Case(unittest.TestCase):
     ) -> subprocess.CompletedProcess[bytes]:
         """Runs a tool in the folder of work, with some descriptors closed, by a program that stands before it."""
         environment = {**os.environ, 'MCSIM': str(self.folder / 'mcsim'), 'MCSCHECK': str(self.folder / 'mcscheck'), 'PYTHONDONTWRITEBYTECODE': '1'}
-
-        def close() -> None:
-            for descriptor in closes:
-                os.close(descriptor)
-
-        command: list[Path] = [*before, sys.executable, str(TOOLS / tool), *words]
-        return subprocess.run(
-            command, cwd=self.work, env=environment, stdout=stdout, stderr=subprocess.PIPE, stdin=subprocess.DEVNULL, preexec_fn=close, timeout=SECONDS,
-            check=False,
+        return forked.tools(*before).run(
+            [sys.executable, str(TOOLS / tool), *words], cwd=self.work, env=environment, stdout=stdout, stderr=subprocess.PIPE, stdin=subprocess.DEVNULL,
+            closes=closes, timeout=SECONDS,
         )
 
     def written(self, tool: Tool, target: Path, *, source: Optional[Path] = None, before: Sequence[str] = ()) -> subprocess.CompletedProcess[bytes]:

@@ -16,7 +16,7 @@ import unittest
 from collections.abc import Callable
 from typing import Any, Optional
 
-from worked import ONE, ONE_ROWS, TOOLS
+from worked import ONE, ONE_ROWS, TOOLS, run_tool
 from mcsim_tools import changes, live, looking
 from mcsim_tools.live import HELD
 
@@ -272,7 +272,7 @@ class Live(unittest.TestCase):
 
 class Refused(unittest.TestCase):
     def refused(self, said: str, *words: str) -> None:
-        ran = subprocess.run([sys.executable, str(TOOLS / 'live'), *words], capture_output=True, text=True)
+        ran = run_tool([sys.executable, str(TOOLS / 'live'), *words], capture_output=True, text=True)
         self.assertEqual((ran.returncode, ran.stdout, ran.stderr), (2, '', f'live: {said}\n'))
 
     def test_bad_words(self) -> None:

@@ -4,12 +4,11 @@ from __future__ import annotations
 import argparse
 import os
 import pathlib
-import subprocess
 import sys
 import tempfile
 import unittest
 
-from worked import ONE, TOOLS
+from worked import ONE, TOOLS, run_tool
 from mcsim_tools import digits, options
 
 # a program that answers whatever it is given with the rows of ONE up to 2
@@ -44,7 +43,7 @@ class StandardInput(unittest.TestCase):
 
     def ran(self, tool: str, *words: str) -> tuple[int, str, str]:
         env = {**os.environ, 'MCSIM': str(self.program)}
-        found = subprocess.run([sys.executable, str(TOOLS / tool), *words], input=ONE, cwd=self.folder, env=env, capture_output=True, text=True)
+        found = run_tool([sys.executable, str(TOOLS / tool), *words], input=ONE, cwd=self.folder, env=env, capture_output=True, text=True)
         return found.returncode, found.stdout, found.stderr
 
     def test_a_dash_is_the_file_of_a_system(self) -> None:

@@ -12,7 +12,7 @@ import unittest
 from decimal import Decimal
 from typing import Any, Optional
 
-from worked import TOOLS
+from worked import TOOLS, run_tool
 from mcsim_tools import colours, concluding, pretty, scale
 from mcsim_tools.tabling import Look, Table
 
@@ -276,7 +276,7 @@ class Tool(unittest.TestCase):
 
     def ran(self, *words: object, **how: Any) -> subprocess.CompletedProcess[str]:
         how = {'env': {**os.environ, 'COLUMNS': '80'}, **how}
-        return subprocess.run([sys.executable, TOOLS / 'pretty', *map(str, words)], capture_output=True, text=True, **how)
+        return run_tool([sys.executable, TOOLS / 'pretty', *map(str, words)], capture_output=True, text=True, **how)
 
     def test_the_exit_code_and_the_errors_are_those_of_the_program(self) -> None:
         for status in (0, 1, 3, 4, 5, 6):
@@ -288,7 +288,7 @@ class Tool(unittest.TestCase):
     def test_output_that_is_not_written_is_told_as_the_program_tells_it(self) -> None:
         with open('/dev/full', 'wb') as full:
             command = [sys.executable, TOOLS / 'pretty', '--run', self.program(5)]
-            found = subprocess.run(command, stdout=full, stderr=subprocess.PIPE, text=True)
+            found = run_tool(command, stdout=full, stderr=subprocess.PIPE, text=True)
         self.assertEqual((found.returncode, found.stderr), (3, 'to a person\nprogram-5: write failed\n'))
 
     def test_lines_of_a_file_and_of_standard_input(self) -> None:

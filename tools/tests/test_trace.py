@@ -4,13 +4,12 @@ from __future__ import annotations
 import io
 import json
 import pathlib
-import subprocess
 import sys
 import tempfile
 import unittest
 from typing import Any
 
-from worked import BUSY, BUSY_ROWS, ONE, ONE_ROWS, PAIR, PAIR_ROWS, TAKEN, TAKEN_ROWS, TOOLS, told
+from worked import BUSY, BUSY_ROWS, ONE, ONE_ROWS, PAIR, PAIR_ROWS, TAKEN, TAKEN_ROWS, TOOLS, told, run_tool
 from mcsim_tools.trace import Trace
 
 
@@ -79,7 +78,7 @@ class Tool(unittest.TestCase):
             system, target = pathlib.Path(folder, 'one.toml'), pathlib.Path(folder, 'trace.json')
             system.write_text(ONE)
             command = [sys.executable, str(TOOLS / 'trace'), str(system), '--rows', '-', '-o', str(target)]
-            ran = subprocess.run(command, input='0 0 release A\nhello\n', capture_output=True, text=True)
+            ran = run_tool(command, input='0 0 release A\nhello\n', capture_output=True, text=True)
             self.assertEqual((ran.returncode, ran.stdout, ran.stderr), (2, '', 'trace: line 2 is no row of a schedule of this system: hello\n'))
             self.assertEqual(list(pathlib.Path(folder).iterdir()), [system])
 

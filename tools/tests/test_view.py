@@ -9,7 +9,6 @@ import json
 import os
 import pathlib
 import re
-import subprocess
 import sys
 import tempfile
 import unittest
@@ -17,6 +16,7 @@ import xml.etree.ElementTree as ElementTree
 import zlib
 from typing import Any
 
+import worked
 from worked import BUSY, BUSY_ROWS, HANDLERS, HANDLERS_ROWS, ONE, ONE_ROWS, PAIR, PAIR_ROWS, TAKEN, TAKEN_ROWS, TOOLS, told
 from mcsim_tools import view
 from mcsim_tools.faults import Fault
@@ -335,7 +335,7 @@ class Tool(unittest.TestCase):
         self.system.write_text(ONE)
 
     def run_tool(self, *given: str, rows: str = ONE_ROWS.lstrip()) -> tuple[int, str]:
-        ran = subprocess.run([sys.executable, str(TOOLS / 'view'), *given], input=rows, capture_output=True, text=True, cwd=self.folder)
+        ran = worked.run_tool([sys.executable, str(TOOLS / 'view'), *given], input=rows, capture_output=True, text=True, cwd=self.folder)
         self.assertEqual(ran.stdout, '')
         return ran.returncode, ran.stderr
 
@@ -405,7 +405,7 @@ class Tool(unittest.TestCase):
 
     def rendered(self, target: str, env: dict[str, str]) -> tuple[int, str]:
         command = [sys.executable, str(TOOLS / 'view'), 'one.toml', '--rows', '-', '-o', target]
-        ran = subprocess.run(command, input=ONE_ROWS.lstrip(), capture_output=True, text=True, cwd=self.folder, env=env)
+        ran = worked.run_tool(command, input=ONE_ROWS.lstrip(), capture_output=True, text=True, cwd=self.folder, env=env)
         return ran.returncode, ran.stderr
 
     def test_a_browser_makes_other_forms(self) -> None:

@@ -3,13 +3,12 @@ from __future__ import annotations
 
 import io
 import pathlib
-import subprocess
 import sys
 import tempfile
 import unittest
 from typing import Optional
 
-from worked import BUSY, BUSY_ROWS, ONE, ONE_ROWS, PAIR, PAIR_ROWS, TAKEN, TAKEN_ROWS, TOOLS, told
+from worked import BUSY, BUSY_ROWS, ONE, ONE_ROWS, PAIR, PAIR_ROWS, TAKEN, TAKEN_ROWS, TOOLS, told, run_tool
 from mcsim_tools.waves import Dump, code_of, saved_view
 
 
@@ -108,7 +107,7 @@ class Tool(unittest.TestCase):
             system = pathlib.Path(folder, 'one.toml')
             system.write_text(ONE)
             command = [sys.executable, str(TOOLS / 'waves'), str(system), '--rows', '-', '-o', f'{folder}/one.vcd', '--save', f'{folder}/one.gtkw']
-            ran = subprocess.run(command, input='0 0 release A\n{}\n', capture_output=True, text=True)
+            ran = run_tool(command, input='0 0 release A\n{}\n', capture_output=True, text=True)
             self.assertEqual((ran.returncode, ran.stdout, ran.stderr), (2, '', 'waves: line 2 is no row of a schedule of this system: {}\n'))
             self.assertEqual(list(pathlib.Path(folder).iterdir()), [system])
 

@@ -12,11 +12,16 @@ from unittest import mock
 
 TOOLS = pathlib.Path(__file__).resolve().parent.parent
 sys.path.insert(0, str(TOOLS))
+sys.path.append(str(TOOLS.parent))
+from checks import forked
 from mcsim_tools import frame
 from mcsim_tools import system as systems
 from mcsim_tools.reading import Holding, Listener, Post, Reading, Round, Stood, read
 from mcsim_tools.source import Told
 from mcsim_tools.system import Context, System, Thread
+
+# runs a tool in a process of its own, as subprocess.run does
+run_tool = forked.tools().run
 
 # 2 ticks in 5 for a computation of 5
 ONE = '''
