@@ -91,6 +91,7 @@ CHECKS = (
     Check('proofs', 'believe', tries_program=False),
     Check('proofs', 'comments', tries_program=False),
     Check('proofs', 'unused', 3, tries_program=False),
+    Check('proofs', 'edits_table', tries_program=False),
     Check('program', 'faults'),
     Check('program', 'checker', 15),
     Check('program', 'progress', 12),
@@ -106,7 +107,7 @@ CHECKS = (
 )
 # what no gate runs
 BY_HAND = (
-    ('proofs', 'edits'), ('proofs', 'edits_table'), ('proofs', 'take'), ('proofs', 'quick'), ('proofs', 'gate'), ('proofs', 'archive'), ('program', 'refused_tests'), ('program', 'same'), ('program', 'widths'),
+    ('proofs', 'edits'), ('proofs', 'take'), ('proofs', 'quick'), ('proofs', 'gate'), ('proofs', 'archive'), ('program', 'refused_tests'), ('program', 'same'), ('program', 'widths'),
     ('program', 'forever_model'), ('measure', 'performance'), ('measure', 'costs'), ('measure', 'checker_costs'), ('measure', 'forever_table'),
     ('measure', 'beside'), ('measure', 'gains'),
 )
@@ -316,7 +317,7 @@ def run_all(words: argparse.Namespace, times: pathlib.Path) -> int:
 def try_edits(shard: str | None) -> int:
     """Tries all edits for the table, and then holds the table to the sources."""
     part = ['--shard', shard] if shard else []
-    given: dict[str, list[str]] = {'edits': ['--table', '--all', *part], 'edits_table': []}
+    given: dict[str, list[str]] = {'edits': ['--table', '--all', '--together', *part], 'edits_table': []}
     total = Tally()
     for name in given:
         total = total.plus(counted([sys.executable, str(HERE / 'proofs' / f'{name}.py'), *given[name]], name))

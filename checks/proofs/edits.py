@@ -7,10 +7,13 @@ crates/CRATE/must-fail are tried too, which the gate tries. With --look each is 
 With --table what came of each is kept in checks/proofs/edits.csv (edits_table.py), as it comes, and edits whose row is of these sources are passed
 over. --shard K/N takes the K-th of N parts of the crates, of about the same cost, so that N machines or runs can share the work.
 
+With --together edits of different functions are tried in one check (edits_together.py), which takes a fraction of the time. It tries alone what is not
+refused there, and tells of each edit its share of the CPU seconds. It wants the crate as it stands proved, as a gate on this machine leaves it.
+
 Each edit is tried by the kit's own means, on a copy of the crate, over what a check of the crate as it stands proved. A line for each says
 what came of it, in how many CPU seconds, and the first words of the refusal. It passes where the prover refuses it for a goal; not
 where it is still proved, cannot be applied or read, is refused only since a proof names what it took away, or meets a limit of the whole check.
-'gave up' is a refusal for a goal at which a search met a limit of its own: such an edit costs more and tells less, so it has no place in must-fail.
+'gave up' is a refusal at each goal of which a search met a limit of its own: such an edit costs more and tells less, so it has no place in must-fail.
 
 The last line is 'N passed, M failed', and the status is 0 where M is 0."""
 from __future__ import annotations
@@ -35,7 +38,7 @@ from typing import Any, NamedTuple
 sys.dont_write_bytecode = True
 TOP = pathlib.Path(__file__).resolve().parents[2]
 sys.path[0] = str(TOP)
-from checks.proofs import edits_table
+from checks.proofs import edits_table, edits_together
 
 REFUSED, GAVE_UP, WEAK, LIMIT, STANDS, BAD, UNKNOWN = 'refused', 'gave up', 'names gone', 'limit', 'NOT REFUSED', 'bad', 'not tried'
 # how many characters of a refusal are shown
@@ -78,6 +81,16 @@ def kit() -> types.ModuleType:
     return rt
 
 
+def plant_of(rt: Any) -> types.ModuleType:
+    """The program rt-plant as a module, over the crates of rt."""
+    path = os.path.join(os.path.dirname(os.path.realpath(shutil.which('rt') or 'rt')), 'rt-plant')
+    plant = types.ModuleType('rt_plant')
+    plant.__file__ = path
+    importlib.machinery.SourceFileLoader('rt_plant', path).exec_module(plant)
+    setattr(plant, 'rt', rt.rtlib)
+    return plant
+
+
 def keeps(rt: Any) -> bool:
     """Whether the kit keeps what it proved between runs. One that does not has a plainer way to try an edit."""
     return hasattr(rt, 'seeded')
@@ -115,7 +128,8 @@ def verdict_of(kind: str, said: str, output: str = '') -> tuple[str, str]:
     if kind == 'refused':
         if first.startswith('(only because a proof file names'):
             return WEAK, first
-        return (GAVE_UP if re.search('gave up at one of its (own )?limits', output) else REFUSED), first
+        goals = edits_together.goals_of(output.split('\n'))
+        return (GAVE_UP, first) if goals and goals[0] else (REFUSED, goals[1] if goals else first)
     return {'limit': LIMIT, 'missed': STANDS, 'bad': BAD}.get(kind, UNKNOWN), first
 
 
@@ -162,14 +176,26 @@ def try_one(of: str, edit: str, room: str) -> Tried:
     return Tried(name, verdict, used() - begun, why)
 
 
-def try_crate(rt: Any, crate: Any, edits: Sequence[pathlib.Path], jobs: int) -> Iterator[Tried]:
-    """Tries a crate's edits, as many side by side as there are jobs, over a check of the crate as it stands."""
-    if keeps(rt):
-        rt.adopt(crate, is_alone=False)
-    has_libraries = not any(low.build_rlib(['--jobs', '1'], anew=False) for low in crate.below())
-    room = seeded(rt, crate) if has_libraries else None
+def try_together(rt: Any, crate: Any, edits: Sequence[pathlib.Path]) -> Iterator[Tried]:
+    """Tries a crate's edits in groups, and tells of those that are refused for a goal. What was proved stays for later checks of the crate."""
+    source = plant_of(rt).bodies.Source(crate.folder)
+    source.read('src/main.rt' if crate.is_program else 'src/lib.rt')
+    kept = f'{crate.folder}/out/incremental'
+    os.makedirs(kept, exist_ok=True)
+    planted = [edits_together.planted(rt, source, crate.folder, edit) for edit in edits]
+    for group in edits_together.groups(filter(None, planted)):
+        begun = used()
+        came = edits_together.tried(rt, crate, source, group, kept)
+        share = (used() - begun) / len(group)
+        for edit, found in came.items():
+            yield Tried(f'{crate.name}/{edit.stem}', GAVE_UP if found.is_at_limit else REFUSED, share, found.why)
+
+
+def try_alone(rt: Any, crate: Any, edits: Sequence[pathlib.Path], jobs: int) -> Iterator[Tried]:
+    """Tries each of a crate's edits in a check of its own, as many side by side as there are jobs, over a check of the crate as it stands."""
+    room = seeded(rt, crate)
     if not room:
-        yield from (Tried(f'{crate.name}/{edit.stem}', UNKNOWN, 0.0, 'the crate as it stands is not proved') for edit in edits)
+        yield from not_tried(crate, edits)
         return
     try:
         fork = multiprocessing.get_context('fork')
@@ -179,6 +205,26 @@ def try_crate(rt: Any, crate: Any, edits: Sequence[pathlib.Path], jobs: int) -> 
                 yield each.result()
     finally:
         shutil.rmtree(room, ignore_errors=True)
+
+
+def not_tried(crate: Any, edits: Sequence[pathlib.Path]) -> Iterator[Tried]:
+    yield from (Tried(f'{crate.name}/{edit.stem}', UNKNOWN, 0.0, 'the crate as it stands is not proved') for edit in edits)
+
+
+def try_crate(rt: Any, crate: Any, edits: Sequence[pathlib.Path], jobs: int, is_together: bool = False) -> Iterator[Tried]:
+    """Tries a crate's edits, together if that is asked for, and each alone that was not refused there."""
+    if keeps(rt):
+        rt.adopt(crate, is_alone=False)
+    is_together = is_together and crate.makes_rlib()
+    if any(it.build_rlib(['--jobs', '1'], anew=False) for it in (*crate.below(), *[crate] * is_together)):
+        yield from not_tried(crate, edits)
+        return
+    settled = set[str]()
+    for a_try in try_together(rt, crate, edits) if is_together else ():
+        settled.add(a_try.name)
+        yield a_try
+    left = [edit for edit in edits if f'{crate.name}/{edit.stem}' not in settled]
+    yield from try_alone(rt, crate, left, jobs) if left else ()
 
 
 def look(rt: Any, crate: Any, edits: Sequence[pathlib.Path]) -> Iterator[Tried]:
@@ -205,6 +251,7 @@ def parsed(words: Sequence[str]) -> argparse.Namespace:
     parser.add_argument('--look', action='store_true', help='tell only whether each can be applied')
     parser.add_argument('--jobs', type=int, default=1, metavar='N', help='how many are tried side by side (1)')
     parser.add_argument('--table', action='store_true', help='keep what came of each in checks/proofs/edits.csv, and pass over those whose row is of these sources')
+    parser.add_argument('--together', action='store_true', help='try edits of different functions in one check')
     parser.add_argument('--shard', type=shard_of, default=(1, 1), metavar='K/N', help='only the K-th of N parts of the crates')
     return parser.parse_args(words)
 
@@ -274,7 +321,7 @@ def main(words: Sequence[str]) -> int:
     counts, book = {True: 0, False: 0}, Book(asked.table and not asked.look)
     work = [(crate, left) for crate, edits in chosen(crates, asked) if (left := book.left(crate, edits))]
     for crate, edits in sharded(work, *asked.shard):
-        for a_try in look(rt, crate, edits) if asked.look else try_crate(rt, crate, edits, asked.jobs):
+        for a_try in look(rt, crate, edits) if asked.look else try_crate(rt, crate, edits, asked.jobs, asked.together):
             book.keep(a_try)
             counts[a_try.passed] += 1
             if not (asked.look and a_try.passed):

@@ -1,12 +1,13 @@
 #!/usr/bin/env python3
-"""Checks the table of wrong bodies, checks/proofs/edits.csv, which `edits.py --table` writes as it tries them.
+"""Checks the table of wrong bodies, checks/proofs/edits.csv, which `edits.py --table` writes as it tries them, and the numbers of edits on two pages.
 
 The table has a row for each edit of crates/*/must-fail and crates/*/edits that was tried: its crate, its name, what came of it, the CPU seconds, the
 goal that refused it, and the digest of the sources on which it was tried. The digest sums src, specs and proofs of the crate and of those
 below it, without lines that are a comment alone. A row is stale if the sources have another digest now, or the edit has another text.
 
 A row fails if the prover did not refuse the edit for a goal, and if its edit is gone. Stale rows and edits without a row are counted for each crate;
-with --release they fail too, and so does a missing table. The last line is 'N passed, M failed'."""
+with --release they fail too, and so does a missing table. README.md and CONTRIBUTING.md say how many edits there are, and how many of them the gate
+tries: --write puts these numbers there, and without it a number that is not so fails. The last line is 'N passed, M failed'."""
 from __future__ import annotations
 
 import collections
@@ -28,9 +29,27 @@ from checks.common import TOP, Count
 
 TABLE = TOP / 'checks' / 'proofs' / 'edits.csv'
 PLACES = ('edits', 'must-fail')
+# the place of the edits that the gate tries
+OF_GATE = 'must-fail'
 # what may come of an edit that shows what a contract catches
 REFUSED = ('refused', 'gave up')
 COMMENT = re.compile(rb'\s*(//|--)')
+
+
+class Counts(NamedTuple):
+    """How many edits there are: those that the gate tries, the others, and all."""
+
+    of_gate: int
+    others: int
+    all: int
+
+
+# where the pages say these numbers: the words around each, with the number's name in its place
+SAYINGS = (
+    ('README.md', 'tries {of_gate} of {all} wrong bodies'),
+    ('CONTRIBUTING.md', 'tries the {of_gate} edits of `must-fail`'),
+    ('CONTRIBUTING.md', 'the other {others} edits'),
+)
 
 
 class Row(NamedTuple):
@@ -98,6 +117,12 @@ class Sources:
         found = [edit for place in PLACES for edit in self.top.glob(f'crates/*/{place}/*.edit')]
         return {f'{edit.parent.parent.name}/{edit.stem}': edit for edit in sorted(found)}
 
+    def counts(self) -> Counts:
+        """How many edits there are."""
+        edits = self.edits().values()
+        of_gate = sum(edit.parent.name == OF_GATE for edit in edits)
+        return Counts(of_gate, len(edits) - of_gate, len(edits))
+
     def sums(self, crate: str) -> bytes:
         """The digests of a crate and of those below it."""
         return ' '.join(own_digest(self.top / 'crates' / name) for name in cone(crate, self.known)).encode()
@@ -139,6 +164,40 @@ def by_crate(names: Iterable[str]) -> str:
     return ', '.join(f'{crate} {many}' for crate, many in sorted(counts.items()))
 
 
+def pattern_of(saying: str) -> str:
+    """What finds a saying with any numbers, on one line or several."""
+    words = re.escape(re.sub(r'\{\w+\}', 'NUMBER', saying)).replace(r'\ ', r'\s+')
+    return words.replace('NUMBER', r'(\d[\d,]*)')
+
+
+def with_counts(page: str, saying: str, counts: Counts) -> str:
+    """A page that has the numbers of today in a saying, and its lines as they were."""
+    names = re.findall(r'\{(\w+)\}', saying)
+
+    def said(found: re.Match[str]) -> str:
+        text = found[0]
+        for at, name in reversed([*enumerate(names, 1)]):
+            begin, end = (place - found.start() for place in found.span(at))
+            text = f'{text[:begin]}{getattr(counts, name):,}{text[end:]}'
+        return text
+
+    return re.sub(pattern_of(saying), said, page)
+
+
+def hold_pages(count: Count, top: pathlib.Path, counts: Counts, is_written: bool) -> None:
+    """Holds the numbers of the pages to the edits, or writes them."""
+    for name, saying in SAYINGS:
+        text = (top / name).read_text(encoding='utf-8')
+        if not re.search(pattern_of(saying), text):
+            count.expect(f'{name} does not say: {saying}', False)
+            continue
+        right = with_counts(text, saying, counts)
+        if is_written and text != right:
+            (top / name).write_text(right, encoding='utf-8')
+        wanted = saying.format(**counts._asdict())
+        count.expect(f'{name} has other numbers: {wanted}; --write puts them there', is_written or text == right)
+
+
 def judged(rows: dict[str, Row], sources: Sources, is_release: bool) -> Count:
     """Counts the rows that stand, and names what fails."""
     count = Count()
@@ -163,8 +222,12 @@ def judged(rows: dict[str, Row], sources: Sources, is_release: bool) -> Count:
 def main(words: Sequence[str]) -> None:
     parser = common.asking(__doc__)
     parser.add_argument('--release', action='store_true', help='fail if a row is stale or an edit has none')
+    parser.add_argument('--write', action='store_true', help='put the numbers of edits on README.md and CONTRIBUTING.md')
     asked = parser.parse_args(words)
-    judged(read(TABLE), Sources(TOP), asked.release).end()
+    sources = Sources(TOP)
+    count = judged(read(TABLE), sources, asked.release)
+    hold_pages(count, TOP, sources.counts(), asked.write)
+    count.end()
 
 
 if __name__ == '__main__':

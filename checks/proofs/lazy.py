@@ -13,14 +13,13 @@ each survivor a test that fails with it, or `none`. If a body is as right as the
 With --tests the survivors that have no test yet are written into a copy of the sources, and the tests and programs above them are built, unproved, and
 run with each.
 
-Without CRATE it tries five contracts and holds them to the table: it fails if a body survives there for which the table names no test. With --all it
-tries all crates. The last line is 'N passed, M failed'; a survivor whose test is `none` fails."""
+Without CRATE it fails if a survivor of the table names no test that is there. Then it tries five contracts, and fails if a body survives there for which
+the table names no test. With --all it tries all crates. The last line is 'N passed, M failed'; a survivor whose test is `none` fails."""
 from __future__ import annotations
 
 import argparse
 import contextlib
 import csv
-import importlib.machinery
 import io
 import os
 import pathlib
@@ -29,7 +28,6 @@ import shutil
 import sys
 import tempfile
 import time
-import types
 from collections.abc import Iterable, Iterator, Mapping, Sequence
 from typing import Any, NamedTuple
 
@@ -95,12 +93,7 @@ def loaded() -> Kit:
     rt = edits.kit()
     if edits.keeps(rt):
         rt.share_work(False)
-    path = os.path.join(os.path.dirname(os.path.realpath(shutil.which('rt') or 'rt')), 'rt-plant')
-    plant = types.ModuleType('rt_plant')
-    plant.__file__ = path
-    importlib.machinery.SourceFileLoader('rt_plant', path).exec_module(plant)
-    setattr(plant, 'rt', rt.rtlib)
-    return Kit(rt, plant)
+    return Kit(rt, edits.plant_of(rt))
 
 
 def crates_of(crates: str) -> list[str]:
@@ -153,13 +146,19 @@ def judge(kit: Kit, copy: Any, plants: Sequence[Any]) -> None:
 
 
 def functions_of(kit: Kit, crate: Any, source: Any, copy: Any, only: Sequence[str]) -> list[Any]:
-    """The public functions with a contract, or those of these paths. A method of a trait is told by a check of the crate as it stands."""
-    said = '' if only else copy.check([]) or ''
-    lines = dict(re.findall(rf'(?m)^fn ({crate.name}::\S+): (.*)', said))
-    with contextlib.redirect_stdout(io.StringIO()):
-        functions, _ = kit.plant.chosen(crate, source, lines, '')
-    # (a function that gives nothing and changes nothing is a law: its contract is all that it is)
-    return [it for it in functions if (path_of(it) in only if only else it.ret or it.mutates)]
+    """The public functions with a contract, or those of these paths. A method of a trait is told by a check of its module as it stands."""
+
+    def chosen(said: str) -> list[Any]:
+        lines = dict(re.findall(rf'(?m)^fn ({crate.name}::\S+): (.*)', said))
+        with contextlib.redirect_stdout(io.StringIO()):
+            functions, _ = kit.plant.chosen(crate, source, lines, '')
+        # (a function that gives nothing and changes nothing is a law: its contract is all that it is)
+        return [it for it in functions if (path_of(it) in only if only else it.ret or it.mutates)]
+
+    functions = chosen('')
+    modules = sorted({'::'.join(it.module) for it in functions if it.in_trait})
+    # (without a name all of the crate is checked)
+    return chosen(copy.check(modules if all(modules) else []) or '') if modules and not only else functions
 
 
 def rows_of(crate: str, digest: str, plants: Iterable[tuple[Any, lazy_bodies.Lazy]]) -> list[Row]:
@@ -223,14 +222,12 @@ def told(row: Row) -> str:
     return f'{row.came:<16} {row.kind:<12} {row.name}' + (f'  ({row.why})' if row.why else '')
 
 
-def held(rows: Iterable[Row], known: dict[tuple[str, str, str], Row]) -> Count:
+def held(count: Count, rows: Iterable[Row], known: dict[tuple[str, str, str], Row]) -> None:
     """Counts the bodies of the five contracts: each is refused, or the table names a test that fails with it."""
-    count = Count()
     for row in rows:
         said = known.get(row.key)
         is_known = said is not None and said.came == SURVIVES and said.test not in ('', NO_TEST)
         count.expect(f'{told(row)}: the table names no test that fails with it', row.came in CAME.values() and (row.came != SURVIVES or is_known))
-    return count
 
 
 def standing(rows: Iterable[Row], now: Mapping[str, str]) -> str:
@@ -241,16 +238,40 @@ def standing(rows: Iterable[Row], now: Mapping[str, str]) -> str:
     return f'crates in the table: {len(digests)}; stale: {" ".join(stale) or "none"}; not tried: {" ".join(missing) or "none"}'
 
 
+def is_there(test: str, top: pathlib.Path = TOP) -> bool:
+    """Whether the test that the table names is in the sources: a function of a crate, a worked system of mcs_corpus, a command of a page, or the reason why
+    a body is right."""
+    place, _, what = test.partition(': ')
+    if what.startswith('data/'):
+        return (top / place / what).is_dir()
+    if place.startswith('crates/'):
+        begins = re.compile(rf'\bfn {re.escape(what.rpartition("::")[2])}\b')
+        return any(begins.search(file.read_text(encoding='utf-8')) for file in (top / place / 'src').rglob('*.rt'))
+    page, _, command = what.partition(': ')
+    if place == 'checks/pages/pages.py':
+        return (top / page).is_file() and command in (top / page).read_text(encoding='utf-8')
+    return place == 'right' and bool(what)
+
+
+def named(rows: Iterable[Row], top: pathlib.Path = TOP) -> Count:
+    """Counts the survivors of the table: each names a test that is there."""
+    count = Count()
+    for row in rows:
+        if row.came == SURVIVES:
+            count.expect(f'{row.name}: the table names no test that is there: {row.test or NO_TEST}', is_there(row.test, top))
+    return count
+
+
 def try_five(kit: Kit, crates: dict[str, Any]) -> Count:
     """Tries five contracts, over libraries that are there."""
+    sources, known = edits_table.Sources(TOP), read(TABLE)
+    count = named(known.values())
     rows = try_crate(kit, crates[FIVE_OF], '', FIVE, may_prove=False)
     if rows is None:
-        count = Count()
         count.skip(f'what {FIVE_OF} stands on is not proved here: ./test proves it')
         return count
-    sources, known = edits_table.Sources(TOP), read(TABLE)
     print(standing(known.values(), {name: sources.of_crate(name) for name in crates_of(CRATES.read_text())}))
-    count = held(rows, known)
+    held(count, rows, known)
     count.expect(f'{FIVE_OF} has not all of {", ".join(FIVE)}', {row.function for row in rows} == set(FIVE))
     return count
 

@@ -8,6 +8,7 @@ import tempfile
 import types
 import unittest
 from typing import Any
+from unittest import mock
 
 from checks.proofs import edits
 
@@ -71,6 +72,11 @@ class Verdicts(unittest.TestCase):
         self.assertEqual(verdict, edits.GAVE_UP)
         self.assertTrue(edits.Tried('low/a', verdict, 1.0, '').passed)
 
+    def test_one_goal_without_a_limit_is_enough(self) -> None:
+        lines = ['note: src/tick.rt:9:5: `returns` is not proved; `search` gave up at one of its limits', 'note: src/tick.rt:9:5: `invariant` is not proved']
+        found = edits.verdict_of('refused', f'must-fail low/a.edit: refused, as it must be: {lines[0]}', '\n'.join(lines))
+        self.assertEqual(found, (edits.REFUSED, lines[1]))
+
     def test_a_proof_that_names_what_is_gone_shows_nothing(self) -> None:
         said = 'must-fail low/a.edit: refused, as it must be (only because a proof file names what the edit took away, so this says little): proofs/A.antt:1:1'
         self.assertEqual(edits.verdict_of('refused', said)[0], edits.WEAK)
@@ -114,17 +120,33 @@ class PlainKit(unittest.TestCase):
         self.assertEqual(self.kind(False, 'must-fail low/a.edit: BAD EDIT: there is no file src/b.rt'), 'bad')
 
 
+class Together(unittest.TestCase):
+    """An edit that is refused in a group is settled; each other one is tried alone."""
+
+    def tried(self, is_together: bool, is_proved: bool = True) -> list[str]:
+        def build(*_: Any, **__: Any) -> int:
+            return int(not is_proved)
+
+        crate = types.SimpleNamespace(name='low', makes_rlib=lambda: True, below=lambda: [], build_rlib=build)
+        paths = [pathlib.Path(f'{name}.edit') for name in ('a', 'b')]
+        first = [edits.Tried('low/a', edits.REFUSED, 2.0, 'a goal')]
+        with mock.patch.object(edits, 'try_together', lambda *_: iter(first)), mock.patch.object(edits, 'try_alone', lambda rt, crate, left, jobs: iter([it.stem for it in left])):
+            return [str(getattr(each, 'name', each)) for each in edits.try_crate(types.SimpleNamespace(), crate, paths, 1, is_together)]
+
+    def test_the_rest_is_tried_alone(self) -> None:
+        self.assertEqual(self.tried(True), ['low/a', 'b'])
+
+    def test_without_the_option_each_is_tried_alone(self) -> None:
+        self.assertEqual(self.tried(False), ['a', 'b'])
+
+    def test_nothing_is_tried_if_the_crate_is_not_proved(self) -> None:
+        self.assertEqual(self.tried(True, is_proved=False), ['low/a', 'low/b'])
+
+
 class Places(unittest.TestCase):
     def test_the_gate_tries_the_likeliest_wrong_bodies(self) -> None:
         tried = {f'{edit.parent.parent.name}/{edit.stem}' for edit in edits.TOP.glob('crates/*/must-fail/*.edit')}
         self.assertEqual(set(ALWAYS_TRIED) - tried, set())
-
-    def test_pages_say_how_many_the_gate_tries(self) -> None:
-        tried, left_out = (len(list(edits.TOP.glob(f'crates/*/{place}/*.edit'))) for place in ('must-fail', 'edits'))
-        readme, other = (' '.join((edits.TOP / name).read_text().split()) for name in ('README.md', 'CONTRIBUTING.md'))
-        self.assertIn(f'tries {tried} of {tried + left_out} wrong bodies', readme)
-        self.assertIn(f'the {tried} edits of `must-fail`', other)
-        self.assertIn(f'the other {left_out}', other)
 
     def test_no_edit_stands_in_both_folders(self) -> None:
         places = [f'{edit.parent.parent.name}/{edit.stem}' for place in ('edits', 'must-fail') for edit in edits.TOP.glob(f'crates/*/{place}/*.edit')]

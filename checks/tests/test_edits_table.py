@@ -10,6 +10,7 @@ import types
 import unittest
 from typing import Any
 
+from checks import common
 from checks.proofs import edits, edits_table
 from checks.proofs.edits_table import Row, Sources
 
@@ -110,6 +111,38 @@ class Judged(Checkout):
     def test_a_goal_has_no_place(self) -> None:
         self.assertEqual(edits_table.goal_of('note: src/beside.rt:56:5: it is not proved that it returns'), 'it is not proved that it returns')
         self.assertEqual(edits_table.goal_of('src/tick.rt:9:5: error: `Tick::get`: ensures value is not proved'), '`Tick::get`: ensures value is not proved')
+
+
+class Pages(Checkout):
+    def setUp(self) -> None:
+        super().setUp()
+        self.put('README.md', 'It\ntries 7 of\n9 wrong bodies, which it refuses.\n')
+        self.put('CONTRIBUTING.md', 'It tries the 1 edits of\n`must-fail`, not the other 1 edits.\n')
+
+    def held(self, is_written: bool = False) -> tuple[int, int, str]:
+        """How many passed and failed, and what was written."""
+        said, count = io.StringIO(), common.Count()
+        with contextlib.redirect_stdout(said):
+            edits_table.hold_pages(count, self.top, Sources(self.top).counts(), is_written)
+        return count.tally.passed, count.tally.failed, said.getvalue()
+
+    def test_a_number_that_is_not_so_fails(self) -> None:
+        passed, failed, said = self.held()
+        self.assertEqual((passed, failed), (2, 1))
+        self.assertIn('README.md has other numbers: tries 1 of 2 wrong bodies;', said)
+
+    def test_numbers_are_written_and_lines_stay(self) -> None:
+        self.assertEqual(self.held(is_written=True)[:2], (3, 0))
+        self.assertEqual((self.top / 'README.md').read_text(), 'It\ntries 1 of\n2 wrong bodies, which it refuses.\n')
+        self.assertEqual(self.held()[:2], (3, 0))
+
+    def test_a_page_without_its_words_fails(self) -> None:
+        self.put('README.md', 'It tries edits.\n')
+        self.assertIn('README.md does not say: tries {of_gate} of {all} wrong bodies', self.held(is_written=True)[2])
+
+    def test_thousands_have_a_comma(self) -> None:
+        counts = edits_table.Counts(120, 1080, 1200)
+        self.assertEqual(edits_table.with_counts('tries 120 of 999 wrong bodies', edits_table.SAYINGS[0][1], counts), 'tries 120 of 1,200 wrong bodies')
 
 
 class Shards(Checkout):

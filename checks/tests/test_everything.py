@@ -306,7 +306,7 @@ class AllEdits(InFolder):
         return self.folder.run('./test', '--all-edits', *words)
 
     def test_all_are_tried_for_the_table_which_is_held_to_the_sources(self) -> None:
-        lines = ['edits --table --all', 'edits: 7 passed, 0 failed', 'edits_table', 'edits_table: 9 passed, 0 failed', '16 passed, 0 failed']
+        lines = ['edits --table --all --together', 'edits: 7 passed, 0 failed', 'edits_table', 'edits_table: 9 passed, 0 failed', '16 passed, 0 failed']
         self.assertEqual(self.told(tried='7 passed, 0 failed'), (0, lines))
 
     def test_an_edit_that_is_not_refused_fails(self) -> None:
@@ -314,7 +314,7 @@ class AllEdits(InFolder):
         self.assertEqual((status, lines[-1]), (1, '16 passed, 1 failed'))
 
     def test_a_part_is_handed_on(self) -> None:
-        self.assertIn('edits --table --all --shard 2/4', self.told('--shard', '2/4')[1])
+        self.assertIn('edits --table --all --together --shard 2/4', self.told('--shard', '2/4')[1])
 
     def test_a_part_of_something_else_is_refused(self) -> None:
         status, lines = self.folder.run('./test', '--shard', '1/4')

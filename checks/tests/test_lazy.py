@@ -10,6 +10,7 @@ import types
 import unittest
 from typing import Any
 
+from checks import common
 from checks.proofs import lazy, lazy_bodies, lazy_tests
 from checks.proofs.lazy import Row
 
@@ -163,8 +164,9 @@ class Table(unittest.TestCase):
             self.assertEqual(lazy.read(pathlib.Path(folder, 'none.csv')), {})
 
     def held(self, row: Row, known: Row | None = None) -> tuple[int, int]:
+        count = common.Count()
         with contextlib.redirect_stdout(io.StringIO()):
-            count = lazy.held([row], self.table(known) if known else {})
+            lazy.held(count, [row], self.table(known) if known else {})
         return count.tally.passed, count.tally.failed
 
     def test_a_body_that_is_refused_passes(self) -> None:
@@ -177,6 +179,21 @@ class Table(unittest.TestCase):
 
     def test_a_body_that_was_not_tried_fails(self) -> None:
         self.assertEqual(self.held(self.row('a', came='not-run')), (0, 1))
+
+    def test_a_survivor_names_a_test_that_is_there(self) -> None:
+        with tempfile.TemporaryDirectory() as folder, contextlib.redirect_stdout(io.StringIO()):
+            top = pathlib.Path(folder)
+            (top / 'crates' / 'mcs_tests_low' / 'src').mkdir(parents=True)
+            (top / 'crates' / 'mcs_tests_low' / 'src' / 'runs.rt').write_text('#[test]\nfn a_run_ends() {}\n')
+            (top / 'crates' / 'mcs_corpus' / 'data' / 'turns' / 'close').mkdir(parents=True)
+            (top / 'page.md').write_text('```sh\n./mcsim a.toml --horizon 9\n```\n')
+            for test, is_there in (
+                ('crates/mcs_tests_low: runs::a_run_ends', True), ('crates/mcs_tests_low: runs::a_run', False), ('crates/mcs_tests_high: runs::a_run_ends', False),
+                ('checks/pages/pages.py: page.md: ./mcsim a.toml --horizon 9', True), ('checks/pages/pages.py: page.md: ./mcsim b.toml', False),
+                ('crates/mcs_corpus: data/turns/close', True), ('crates/mcs_corpus: data/turns/far', False), ('right: it is the body in other words', True), ('', False), (lazy.NO_TEST, False),
+            ):
+                tally = lazy.named([self.row('a', test=test), self.row('b', came='refused')], top).tally
+                self.assertEqual((tally.passed, tally.failed), (1, 0) if is_there else (0, 1), test)
 
     def test_each_crate_is_in_one_part(self) -> None:
         names = ['a', 'b', 'c', 'd', 'e']

@@ -1,0 +1,121 @@
+"""Tests of edits that are tried together: which function each changes, the groups, and what a check says of each."""
+from __future__ import annotations
+
+import pathlib
+import types
+import unittest
+from typing import Any
+
+from checks.proofs import edits_together
+from checks.proofs.edits_together import Found, Planted, Written
+
+SOURCE = b'''use low::Low;
+
+impl Sum {
+    fn first(&self) -> u8 {
+        self.items[0]
+    }
+
+    fn last(&self) -> u8 {
+        self.items[9]
+    }
+}
+'''
+SAID = '''note: src/sum.rt:4:5: it is not proved that it ensures `returns` (`returns`)
+note: a goal may be false even if its line does not say so
+fn crate::sum::Sum::first: no proof: `search` did not prove `returns`
+./proofs/sum/Sum/last/Answers.antt:7:1: error: `goal`: the two types differ; `search` gave up at one of its limits
+fn crate::sum::Sum::last: no proof: it calls `crate::sum::Sum::first`, which is not proved
+fn crate::sum::Sum::middle: proved
+'''
+
+
+def function(name: str, **more: Any) -> Any:
+    """A function of SOURCE as rt-plant reads it."""
+    first = SOURCE.index(b'fn ' + name.encode())
+    end = SOURCE.index(b'    }\n', first) + 5
+    said = {'file': 'src/sum.rt', 'module': ('sum',), 'owner': 'Sum', 'block': object(), 'in_trait': False, 'name': name, 'first': first, 'end': end}
+    return types.SimpleNamespace(**{**said, **more})
+
+
+class Kit:
+    """Reads an edit as one that replaces a text of SOURCE."""
+
+    def __init__(self, old: str, new: str) -> None:
+        self.text = SOURCE.decode().replace(old, new)
+
+    def read_edit(self, edit: str, folder: str) -> tuple[dict[str, str], str]:
+        return {'src/sum.rt': self.text}, ''
+
+
+class Checkout(unittest.TestCase):
+    """A crate with SOURCE, and edits of its two functions."""
+
+    def setUp(self) -> None:
+        self.first, self.last = function('first'), function('last')
+        self.source = types.SimpleNamespace(data={'src/sum.rt': SOURCE}, functions=[self.first, self.last])
+
+    def planted(self, old: str, new: str, name: str = 'one') -> Planted | None:
+        return edits_together.planted(Kit(old, new), self.source, 'crates/sum', pathlib.Path(f'{name}.edit'))
+
+    def both(self) -> list[Planted]:
+        found = [self.planted('items[0]', 'items[10 + 1]', 'one'), self.planted('items[9]', 'items[8]', 'other')]
+        return [each for each in found if each]
+
+
+class Plants(Checkout):
+    def test_an_edit_is_in_its_function(self) -> None:
+        one, other = self.both()
+        self.assertIs(one.function, self.first)
+        self.assertIs(other.function, self.last)
+        self.assertEqual(other.text, b'fn last(&self) -> u8 {\n        self.items[8]\n    }')
+
+    def test_an_edit_of_two_functions_or_of_none_stays_alone(self) -> None:
+        self.assertIsNone(self.planted('self.items', 'self.others'))
+        self.assertIsNone(self.planted('use low::Low;', 'use low::High;'))
+
+    def test_a_group_changes_a_function_once(self) -> None:
+        one, other = self.both()
+        self.assertEqual(edits_together.groups([one, other]), [[one, other]])
+        self.assertEqual(edits_together.groups([one, one, other, other]), [[one, other], [one, other]])
+
+    def test_a_group_is_written_whole(self) -> None:
+        written = Written(self.source, self.both())
+        self.assertEqual(written.texts['src/sum.rt'], SOURCE.decode().replace('items[0]', 'items[10 + 1]').replace('items[9]', 'items[8]'))
+        self.assertEqual([written.lines[each.edit] for each in self.both()], [range(4, 7), range(8, 11)])
+
+
+class Answers(Checkout):
+    def found(self, said: str) -> list[Found | None]:
+        written = Written(self.source, self.both())
+        return [edits_together.found('crate', said, each, written.lines[each.edit]) for each in self.both()]
+
+    def test_each_has_the_first_line_of_its_function(self) -> None:
+        one, other = self.found(SAID)
+        self.assertEqual(one, Found(False, 'note: src/sum.rt:4:5: it is not proved that it ensures `returns` (`returns`)'))
+        self.assertTrue(other and other.is_at_limit and other.why.startswith('./proofs/sum/Sum/last/Answers.antt:7:1: error: `goal`'))
+
+    def test_a_function_that_only_calls_one_that_is_refused_is_not_refused(self) -> None:
+        said = ''.join(line for line in SAID.splitlines(keepends=True) if 'Answers' not in line)
+        self.assertEqual(self.found(said)[1], None)
+
+    def test_a_function_that_is_proved_or_has_no_line_is_not_refused(self) -> None:
+        said = SAID.replace('first: no proof: `search` did not prove `returns`', 'first: proved')
+        self.assertEqual(self.found(said)[0], None)
+        self.assertEqual(self.found(said.replace('fn crate::sum::Sum::first: proved\n', ''))[0], None)
+
+    def test_a_proof_that_names_what_is_gone_is_no_refusal(self) -> None:
+        said = SAID.replace('the two types differ', '`Goals` has no field `returns`')
+        self.assertEqual(self.found(said)[1], None)
+
+    def test_a_method_of_a_trait_has_the_name_that_fits(self) -> None:
+        block = types.SimpleNamespace(fits=lambda name: 'Sum' in name)
+        it = function('first', in_trait=True, block=block)
+        known = ['crate::sum::SumSink::first', 'crate::sum::OtherSink::first', 'crate::sum::SumSink::last']
+        self.assertEqual(edits_together.symbols('crate', it, known), known[:1])
+        self.assertEqual(edits_together.only(it), ['--only', 'sum'])
+        self.assertEqual(edits_together.only(self.first), ['--only', 'sum::Sum::first'])
+
+
+if __name__ == '__main__':
+    unittest.main()
