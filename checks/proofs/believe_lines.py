@@ -471,7 +471,12 @@ SAYS = {
     },
     'mcs_ever_told/specs/Outlook.antt': {
         'NeverLoses': 'no schedule coalesces a signal of this notification',
+        'NeverMisses': 'in no schedule this thread misses a deadline',
+        'unsettled_of': 'the lines of unsettled threads, if the set repeats',
         'open_lines': 'the lines of a set without a repetition up to the horizon',
+    },
+    'mcs_ever_told/specs/Lines.antt': {
+        'unsettled_lines': 'the lines of the threads of a set that are not settled',
     },
     'mcs_ever_found/specs/Course.antt': {
         'course_of': 'the course of all threads and notifications in the rows so far, the latest first',
