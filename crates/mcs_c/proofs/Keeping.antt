@@ -100,8 +100,3 @@ module _ (s t : First) (rows : List Row) (most : ℕ) (empty : s.rows.items ≡ 
   -- a row was refused since there were as many
   pub first-cut : IsSome t.next → GivenUntil Keeps s rows t → AreFirst rows most t.rows.items t.next
   first-cut some g = by-next t.next refl some g
-
--- they are at most so many
-pub first-fits : (rows first : List Row) (most : ℕ) (next : Option ℕ) → AreFirst rows most first next → length first ≤ most
-first-fits rows first most None are = are.1
-first-fits rows first most (Some time) are = let many = are.0 in omega (arith, many)

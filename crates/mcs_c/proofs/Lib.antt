@@ -1,3 +1,2 @@
-mod Cut
 mod Keeping
 mod Given
