@@ -1,6 +1,7 @@
 use Rattle.std.proofs.Common.{rules, ◌≡◌, ◌∙◌, ap, ap₂, sym, subst, [], None}
 use Rattle.std.specs.Prelude.{Err}
 use Rattle.std.specs.Arc.{arc_value}
+use Rattle.std.specs.Io.KnownBytes.{Appends}
 use Rattle.mcs_system.specs.System.{System}
 use Rattle.mcs_core.specs.Clock.{schedule}
 use Rattle.mcs_verdict.specs.Findings.{past_of}
@@ -12,7 +13,7 @@ use Rattle.mcs_check.specs.declared.why_fault.WhyFault.TheVariants.{Run}
 use Rattle.mcs_check.specs.Asked.{IsNoThread, round_number, thread_named}
 use Rattle.mcs_check.specs.Explained.{IsTold}
 use Rattle.mcs_check.specs.Why.{round_text}
-use Rattle.mcs_check.proofs.Questions.{fault-told, memory-told, round-is, round-told, thread-told}
+use Rattle.mcs_check.proofs.Questions.{fault-told, memory-told, round-is, round-told, span-told, thread-told}
 use Rattle.mcs_check.proofs.why.answer.Goals as goal
 
 pub returns-in_default-clause-told : goal.returns-in_default-clause-told
@@ -51,6 +52,22 @@ returns-in_err-write_span-in-There-clause-told g c =
     (round_text c.args.options.now.format s c.in-There.span (schedule s horizon)) c.in_err-write_span-in-There.field-0.0) system_is c.in_err-write_span-in-There.ensures.fault in
     subst (IsTold (held c.args.target.now) (held c.write_span.new.target) (failed c.write_span.new.target) c.args.options.now question c.args.system)
     (sym result_is) (fault-told c.args.options.now question c.args.system _ _ _ c.in-There.span there c.in_err-write_span-in-There.field-0.0 fault)
+
+pub returns-in-There-clause-told : goal.returns-in-There-clause-told
+returns-in-There-clause-told g c =
+    let held = g.T.Target.contents in
+    let question = question_texts c.args.question.now in
+    let horizon = c.args.options.now.horizon in
+    let parts_is : c.parts.result.now ≡ c.args.system = search rules in
+    let named = c.thread_named.ensures.named ∙ ap₂ thread_named (ap (λ (s : System). s.threads) parts_is) c.as_str.ensures.value in
+    let system_is : arc_value c.in-Ok.system ≡ c.args.system = search rules in
+    let number = c.round_number-number.ensures ∙ ap round_number c.as_str-2.ensures.value in
+    let found = sym c.in-There.is ∙ c.in_ok-span.ensures.found
+    ∙ ap₂ (λ s n. sought s horizon (past_of [] (schedule s horizon)) c.in-Some.thread n) system_is number in
+    let there = round-is c.args.options.now question c.args.system c.in-Some.thread (There c.in-There.span) (sym named ∙ c.in-Some.is) found in
+    let appended = subst (λ s. Appends (held c.args.target.now) (held c.write_span.new.target)
+    (round_text c.args.options.now.format s c.in-There.span (schedule s horizon))) system_is c.in_ok-write_span-in-There.ensures.ok in
+    span-told c.args.options.now question c.args.system _ _ _ c.in-There.span there _ appended
 
 pub returns-clause-told : goal.returns-clause-told
 returns-clause-told g c =
