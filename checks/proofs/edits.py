@@ -177,7 +177,7 @@ def try_one(of: str, edit: str, room: str) -> Tried:
 
 
 def try_together(rt: Any, crate: Any, edits: Sequence[pathlib.Path]) -> Iterator[Tried]:
-    """Tries a crate's edits in groups, and tells of those that are refused for a goal. What was proved stays for later checks of the crate."""
+    """Tries a crate's edits in groups, and tells of those that are refused. What was proved stays for later checks of the crate."""
     source = plant_of(rt).bodies.Source(crate.folder)
     source.read('src/main.rt' if crate.is_program else 'src/lib.rt')
     kept = f'{crate.folder}/out/incremental'
@@ -188,7 +188,8 @@ def try_together(rt: Any, crate: Any, edits: Sequence[pathlib.Path]) -> Iterator
         came = edits_together.tried(rt, crate, source, group, kept)
         share = (used() - begun) / len(group)
         for edit, found in came.items():
-            yield Tried(f'{crate.name}/{edit.stem}', GAVE_UP if found.is_at_limit else REFUSED, share, found.why)
+            verdict = WEAK if found.is_named else GAVE_UP if found.is_at_limit else REFUSED
+            yield Tried(f'{crate.name}/{edit.stem}', verdict, share, found.why)
 
 
 def try_alone(rt: Any, crate: Any, edits: Sequence[pathlib.Path], jobs: int) -> Iterator[Tried]:

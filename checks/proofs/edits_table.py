@@ -7,7 +7,8 @@ below it, without lines that are a comment alone. A row is stale if the sources 
 
 A row fails if the prover did not refuse the edit for a goal, and if its edit is gone. Stale rows and edits without a row are counted for each crate;
 with --release they fail too, and so does a missing table. README.md and CONTRIBUTING.md say how many edits there are, and how many of them the gate
-tries: --write puts these numbers there, and without it a number that is not so fails. The last line is 'N passed, M failed'."""
+tries. With --write these numbers are put there, and rows whose edit is gone are dropped; without it such a number or row fails. The last line is
+'N passed, M failed'."""
 from __future__ import annotations
 
 import collections
@@ -158,6 +159,12 @@ def write(table: pathlib.Path, rows: Iterable[Row]) -> None:
     write_rows(table, Row._fields, rows)
 
 
+def standing(rows: dict[str, Row], sources: Sources) -> dict[str, Row]:
+    """The rows whose edit is there."""
+    edits = sources.edits()
+    return {name: row for name, row in rows.items() if name in edits}
+
+
 def by_crate(names: Iterable[str]) -> str:
     """How many edits each crate has among these."""
     counts = collections.Counter(name.split('/')[0] for name in names)
@@ -205,7 +212,7 @@ def judged(rows: dict[str, Row], sources: Sources, is_release: bool) -> Count:
     stale = sorted(name for name, row in rows.items() if name in edits and row.digest != sources.digest(row.crate, edits[name]))
     missing = sorted(edits.keys() - rows.keys())
     for name, row in sorted(rows.items()):
-        count.expect(f'{name}: there is no such edit; edits.py --table drops its row', name in edits)
+        count.expect(f'{name}: there is no such edit; --write drops its row', name in edits)
         count.expect(f'{name}: {row.verdict}: {row.goal}', row.verdict in REFUSED)
     print(f'{len(edits)} edits, {len(rows) - len(stale)} tried on these sources, {len(stale)} stale, {len(missing)} not tried')
     for what, names in (('stale', stale), ('not tried', missing)):
@@ -222,10 +229,13 @@ def judged(rows: dict[str, Row], sources: Sources, is_release: bool) -> Count:
 def main(words: Sequence[str]) -> None:
     parser = common.asking(__doc__)
     parser.add_argument('--release', action='store_true', help='fail if a row is stale or an edit has none')
-    parser.add_argument('--write', action='store_true', help='put the numbers of edits on README.md and CONTRIBUTING.md')
+    parser.add_argument('--write', action='store_true', help='put the numbers of edits on README.md and CONTRIBUTING.md, and drop rows whose edit is gone')
     asked = parser.parse_args(words)
-    sources = Sources(TOP)
-    count = judged(read(TABLE), sources, asked.release)
+    sources, rows = Sources(TOP), read(TABLE)
+    if asked.write:
+        rows = standing(rows, sources)
+        write(TABLE, rows.values())
+    count = judged(rows, sources, asked.release)
     hold_pages(count, TOP, sources.counts(), asked.write)
     count.end()
 

@@ -3,8 +3,8 @@
 The prover checks a function against the contracts of the others, and never against their bodies. So what comes of an edit within one function does not
 depend on what stands in the other functions, and a check that loads the crate once can try edits of many functions. The kit's rt-plant does the same.
 
-An edit stays alone if it changes more than one function or something beside functions, if its function is not refused for a goal of its own, and if the
-crate does not compile with it."""
+An edit stays alone if it changes more than one function or something beside functions, if its function is not refused for a goal or a name of its own, and
+if the crate does not compile with it."""
 from __future__ import annotations
 
 import os
@@ -17,6 +17,8 @@ from typing import Any, NamedTuple
 PLACED = re.compile(r'(?:note: )?(?:\./)?(\S+?):(\d+):\d+:')
 # what a proof file says that names what the edit took away, as the kit reads it; and that a place of the proof has other facts
 NAMES = re.compile(r'(note: )?(\./)?proofs/.*(has no field|is not in scope|has no `|was not admitted|record `[^`]*` \(nearest: )')
+# what a proof says that rests on one that was refused
+RESTS = 'was not admitted'
 LIMIT = re.compile('gave up at one of its (own )?limits')
 FAILED = ('not proved', 'no proof')
 
@@ -30,10 +32,11 @@ class Planted(NamedTuple):
 
 
 class Found(NamedTuple):
-    """A refusal for a goal: whether a search met a limit of its own at each such goal, and the line that tells of one."""
+    """A refusal for a goal: whether a search met a limit of its own at each such goal, and the line that tells of one. Or one for a name alone."""
 
     is_at_limit: bool
     why: str
+    is_named: bool = False
 
 
 def changed(old: bytes, new: bytes) -> tuple[int, int]:
@@ -116,13 +119,15 @@ def lines_of(said: str, each: Planted, lines: range, symbol: str) -> Iterator[st
 
 
 def found(crate: str, said: str, each: Planted, lines: range) -> Found | None:
-    """What a check says of an edit, or None if it does not refuse it for a goal of its function."""
+    """What a check says of an edit, or None if it does not refuse it for a goal or a name of its function."""
     functions = dict(re.findall(r'(?m)^fn (\S+): (.*)', said))
     names = symbols(crate, each.function, functions)
     if len(names) != 1 or not functions.get(names[0], '').startswith(FAILED):
         return None
-    goals = goals_of(lines_of(said, each, lines, names[0]))
-    return Found(*goals) if goals else None
+    told = list(lines_of(said, each, lines, names[0]))
+    gone = [it for it in told if NAMES.match(it) and RESTS not in it]
+    goals = goals_of(told)
+    return Found(*goals) if goals else Found(False, gone[0], is_named=True) if gone else None
 
 
 def only(function: Any) -> list[str]:
@@ -132,7 +137,7 @@ def only(function: Any) -> list[str]:
 
 
 def tried(rt: Any, crate: Any, source: Any, group: Sequence[Planted], kept: str) -> dict[pathlib.Path, Found]:
-    """What came of a group over what is kept: those that are refused for a goal. One half after the other if it does not compile whole."""
+    """What came of a group over what is kept: those that are refused. One half after the other if it does not compile whole."""
     written = Written(source, group)
     asked = [word for it in group for word in only(it.function)]
     said = str(rt.checked(crate, written.texts, ['--jobs', '1', *asked], kept).stdout)

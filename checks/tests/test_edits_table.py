@@ -84,7 +84,9 @@ class Judged(Checkout):
             self.assertEqual(self.judged(self.row('low', verdict))[1], 1, verdict)
 
     def test_a_row_without_its_edit_fails(self) -> None:
-        self.assertEqual(self.judged(self.row('low')._replace(edit='gone'))[1], 1)
+        gone = self.row('low')._replace(edit='gone')
+        self.assertEqual(self.judged(gone)[1], 1)
+        self.assertEqual(list(edits_table.standing({row.name: row for row in (gone, self.row('high'))}, Sources(self.top))), ['high/adds_one'])
 
     def test_stale_and_missing_rows_fail_a_release_alone(self) -> None:
         stale = self.row('low')._replace(digest='0' * 16)

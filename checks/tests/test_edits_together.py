@@ -104,8 +104,13 @@ class Answers(Checkout):
         self.assertEqual(self.found(said)[0], None)
         self.assertEqual(self.found(said.replace('fn crate::sum::Sum::first: proved\n', ''))[0], None)
 
-    def test_a_proof_that_names_what_is_gone_is_no_refusal(self) -> None:
+    def test_a_proof_that_names_what_is_gone_is_told_apart(self) -> None:
         said = SAID.replace('the two types differ', '`Goals` has no field `returns`')
+        other = self.found(said)[1]
+        self.assertTrue(other and other.is_named and 'has no field' in other.why)
+
+    def test_a_proof_that_rests_on_one_that_is_refused_is_not_refused(self) -> None:
+        said = SAID.replace('the two types differ', '`Met` was not admitted')
         self.assertEqual(self.found(said)[1], None)
 
     def test_a_method_of_a_trait_has_the_name_that_fits(self) -> None:
