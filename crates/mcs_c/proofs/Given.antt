@@ -1,5 +1,5 @@
 -- What a caller gets of a verdict is the verdict.
-use Rattle.std.proofs.Common.{◌≡◌, ◌∙◌, ◌⊎◌, ℕ, List, Option, IfSome, inl, inr, arith, refl, sym, subst}
+use Rattle.std.proofs.Common.{◌≡◌, ◌⊎◌, ℕ, List, Option, IfSome, inl, inr, arith, refl, sym, subst}
 use Rattle.mcs_c.specs.Verdict.{HasLines, IsCoded, IsGiven, IsTold, IsVerdict}
 use Rattle.mcs_c.specs.declared.verdict.Verdict.{Verdict}
 use Rattle.mcs_c.specs.declared.verdict.Verdict.TheVariants as verdict

@@ -1,5 +1,5 @@
 //! The first rows of a schedule.
-ghost use Rattle.std.specs.Prelude.{◌≡◌, ◌≤◌, ◌^◌, [], IfOk, None, length};
+ghost use Rattle.std.specs.Prelude.{◌≡◌, ◌≤◌, ◌^◌, [], IfOk, None};
 ghost use Rattle.mcs_core.specs.Clock.{schedule};
 ghost use Rattle.mcs_c.specs.Numbers.{AreFirst};
 

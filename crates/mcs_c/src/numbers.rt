@@ -1,5 +1,5 @@
 //! The rows of a schedule as numbers, in an array of the caller.
-ghost use Rattle.std.specs.Prelude.{◌≡◌, ◌≤◌, ◌<◌, ◌+◌, ◌^◌, ◌⊎◌, ◌↔◌, IfOk, Ok, Err, length, map, take, drop};
+ghost use Rattle.std.specs.Prelude.{◌≡◌, ◌≤◌, ◌<◌, ◌+◌, ◌^◌, ◌⊎◌, ◌↔◌, Ok, Err, length, map, take, drop};
 ghost use Rattle.mcs_core.specs.Clock.{schedule};
 ghost use Rattle.mcs_load.specs.declared.fault.LoadFault.{LoadFault};
 ghost use Rattle.mcs_cli.specs.Run.{loaded};
