@@ -67,7 +67,7 @@ returns-in-There-clause-told g c =
     let there = round-is c.args.options.now question c.args.system c.in-Some.thread (There c.in-There.span) (sym named ∙ c.in-Some.is) found in
     let appended = subst (λ s. Appends (held c.args.target.now) (held c.write_span.new.target)
     (round_text c.args.options.now.format s c.in-There.span (schedule s horizon))) system_is c.in_ok-write_span-in-There.ensures.ok in
-    span-told c.args.options.now question c.args.system _ _ _ c.in-There.span there _ appended
+    span-told c.args.options.now question c.args.system _ _ (g.T.Target.has_failed c.write_span.new.target) c.in-There.span there _ appended
 
 pub returns-clause-told : goal.returns-clause-told
 returns-clause-told g c =
