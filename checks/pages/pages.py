@@ -56,6 +56,8 @@ TYPED = (' --format pretty', ' --tick-us ')
 COUNTS = re.compile(
     r'missed (\d+) overdue (\d+) lost (\d+) never (\d+) merged \d+ allowed \d+ unjudged (\d+) hints (\d+) threads \d+ deadlines \d+ judged (\d+)'
     r'(?: slow (\d+) unanswered (\d+))?')
+# how a line begins, as text or as an object, by which the verdict for all time is not one of each thread
+UNSETTLED = ('unsettled ', '{"kind":"unsettled"')
 # a block that ends with the status of any of its verdicts
 EXITS = 'exit $status'
 NONE_WILL_DO = re.compile(r'.*: under none of .*')
@@ -123,16 +125,17 @@ def status_of(block: str, written: Sequence[str]) -> int:
         return next(filter(None, (status_of_line(line, block) for line in reversed(written))), 0)
     last = block.rpartition('|')[2]
     if FOREVER in last and written:
-        return status_for_ever(written[-1])
+        return status_for_ever(written)
     return status_of_line(written[-1], block) if gives_a_verdict(last) and written else 0
 
 
-def status_for_ever(line: str) -> int:
-    """That of a verdict for all time, by its last line."""
-    told = SETS.fullmatch(plain(line))
+def status_for_ever(written: Sequence[str]) -> int:
+    """That of a verdict for all time, by its last line, and by whether a thread is unsettled."""
+    told = SETS.fullmatch(plain(written[-1]))
     if told is None or told[3] != '0':
         return FOUND
-    return 0 if told[1] == told[2] and told[4] != '0' else UNJUDGED
+    is_unsettled = any(line.startswith(UNSETTLED) for line in written)
+    return 0 if told[1] == told[2] and told[4] != '0' and not is_unsettled else UNJUDGED
 
 
 def plain(line: str) -> str:
