@@ -235,7 +235,7 @@ class Foretold(unittest.TestCase):
 
     def test_no_repetition_up_to_a_horizon(self) -> None:
         found = TICKING.forever(5)
-        self.assertEqual(found.sets, (mcsim.CoreSet((0,), None, None, (mcsim.Misses('H', so_far=1),), (mcsim.Response('H', 4, is_so_far=True),), False),))
+        self.assertEqual(found.sets, (mcsim.CoreSet((0,), None, None, (mcsim.Misses('H', so_far=1),), (mcsim.Response('H', 4, is_so_far=True),), (), False),))
         self.assertEqual((found.is_clean, found.is_judged, found.counts), (False, False, mcsim.Sets(1, 0, 1, 1, 1)))
 
     def test_what_is_overdue_never_and_lost(self) -> None:
