@@ -90,14 +90,21 @@ class Written:
             self.texts[file] = (text + source.data[file][at:]).decode()
 
 
+def end_of(function: Any) -> list[str]:
+    """The last words of a check's name for a function. A method's type may be declared in another module; a trait's method has a name of the check's own."""
+    if function.in_trait:
+        return [function.name]
+    return [function.owner, function.name] if function.block else [*function.module, function.name]
+
+
 def symbols(crate: str, function: Any, known: Iterable[str]) -> list[str]:
-    """The names by which a check may call a function: one for most, and of a method of a trait those that fit."""
-    start = '::'.join([crate, *function.module, ''])
+    """The names by which a check may call a function: of a method of a trait those that fit."""
+    parts = {name: name.split('::') for name in known}
     if not function.in_trait:
-        owner = [function.owner] if function.block else []
-        return ['::'.join([start[:-2], *owner, function.name])]
-    parts = {name: name.removeprefix(start).split('::') for name in known if name.startswith(start)}
-    return [name for name, (of, *rest) in parts.items() if rest == [function.name] and function.block.fits(of)]
+        end = end_of(function)
+        return [name for name, words in parts.items() if words[-len(end):] == end]
+    start = [crate, *function.module]
+    return [name for name, words in parts.items() if words[:-2] == start and words[-1] == function.name and function.block.fits(words[-2])]
 
 
 def goals_of(lines: Iterable[str]) -> tuple[bool, str] | None:
@@ -130,21 +137,19 @@ def found(crate: str, said: str, each: Planted, lines: range) -> Found | None:
     return Found(*goals) if goals else Found(False, gone[0], is_named=True) if gone else None
 
 
-def only(function: Any) -> list[str]:
-    """The words that have a check prove a function and what it calls; of a method of a trait its module, since the check has a name of its own for it."""
-    owner = [function.owner] if function.block else []
-    return ['--only', '::'.join(function.module if function.in_trait else [*function.module, *owner, function.name])]
-
-
 def tried(rt: Any, crate: Any, source: Any, group: Sequence[Planted], kept: str) -> dict[pathlib.Path, Found]:
-    """What came of a group over what is kept: those that are refused. One half after the other if it does not compile whole."""
+    """What came of a group over what is kept: those that are refused. One half after the other if it does not compile whole, and without functions that the
+    check does not know by the names that they have here."""
     written = Written(source, group)
-    asked = [word for it in group for word in only(it.function)]
+    asked = [word for it in group for word in ('--only', '::'.join(end_of(it.function)))]
     said = str(rt.checked(crate, written.texts, ['--jobs', '1', *asked], kept).stdout)
     if re.search(r'(?m)^fn ', said):
         came = {it.edit: found(crate.name, said, it, written.lines[it.edit]) for it in group}
         return {edit: what for edit, what in came.items() if what}
-    if len(group) == 1:
+    unknown = set(re.findall('has no function `([^`]*)`', said))
+    if rest := [it for it in group if '::'.join(end_of(it.function)) not in unknown] if unknown else []:
+        return tried(rt, crate, source, rest, kept)
+    if unknown or len(group) == 1:
         return {}
     half = len(group) // 2
     return {**tried(rt, crate, source, group[:half], kept), **tried(rt, crate, source, group[half:], kept)}

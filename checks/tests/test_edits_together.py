@@ -118,8 +118,37 @@ class Answers(Checkout):
         it = function('first', in_trait=True, block=block)
         known = ['crate::sum::SumSink::first', 'crate::sum::OtherSink::first', 'crate::sum::SumSink::last']
         self.assertEqual(edits_together.symbols('crate', it, known), known[:1])
-        self.assertEqual(edits_together.only(it), ['--only', 'sum'])
-        self.assertEqual(edits_together.only(self.first), ['--only', 'sum::Sum::first'])
+        self.assertEqual(edits_together.end_of(it), ['first'])
+
+    def test_a_method_is_found_by_its_type_and_a_function_by_its_module(self) -> None:
+        known = ['crate::parts::Sum::first', 'crate::sum::first', 'crate::sum::Other::first']
+        self.assertEqual(edits_together.symbols('crate', self.first, known), known[:1])
+        self.assertEqual(edits_together.symbols('crate', function('first', block=None), known), known[1:2])
+
+
+class Groups(Checkout):
+    """A group that does not compile, or of which a function has another name, is tried again in parts."""
+
+    def tried(self, wrong: str, says: str) -> tuple[list[str], int]:
+        """The edits that were refused, and the number of checks, if a check with these words in a source says this."""
+        texts: list[str] = []
+
+        def checked(crate: Any, given: dict[str, str], words: list[str], kept: str) -> Any:
+            texts.append(''.join(given.values()))
+            return types.SimpleNamespace(stdout=says if wrong in texts[-1] + ' '.join(words) else SAID)
+
+        rt, crate = types.SimpleNamespace(checked=checked), types.SimpleNamespace(name='crate')
+        came = edits_together.tried(rt, crate, self.source, self.both(), 'kept')
+        return [edit.stem for edit in came], len(texts)
+
+    def test_a_group_is_tried_at_once(self) -> None:
+        self.assertEqual(self.tried('items[77]', ''), (['one', 'other'], 1))
+
+    def test_a_group_that_does_not_compile_is_tried_in_halves(self) -> None:
+        self.assertEqual(self.tried('items[8]', 'src/sum.rt:9:9: error: no'), (['one'], 3))
+
+    def test_a_function_of_another_name_is_left_out(self) -> None:
+        self.assertEqual(self.tried('Sum::last', 'rattle: error: `crate` has no function `Sum::last`: help: write'), (['one'], 2))
 
 
 if __name__ == '__main__':
