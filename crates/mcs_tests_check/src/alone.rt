@@ -24,8 +24,8 @@ const WHY_A: &str = "\
 11 0 round A 1 11
 11 0 stop A done 1
 why A number 1 from 0 to 11 waited 0 activated 0 begun 0 ended 11
-ran A 5
-idle 6
+ran A ticks 5
+idle ticks 6
 ";
 
 /// The job ends at 11, a tick after its deadline. Up to then no state is an earlier one, later.
