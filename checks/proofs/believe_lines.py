@@ -423,7 +423,7 @@ SAYS = {
         'ran_line': 'the line of how long a thread ran; none if it did not run',
         'idle_line': 'the line of how long the core was idle',
     },
-    'mcs_check/specs/Why.antt': {
+    'mcs_explain/specs/Why.antt': {
         'is_there': 'whether the job that is asked about is there',
         'why_text': 'the text about the job that is asked about',
     },
@@ -522,7 +522,7 @@ PLAIN = {
     'mcs_check_lines/specs/Fields.antt': 'response_of'.split(),
     'mcs_check_lines/specs/Formats.antt': 'counts_line hint_line'.split(),
     'mcs_check_lines/specs/Told.antt': 'is_miss'.split(),
-    'mcs_check/specs/Why.antt': 'is_csv'.split(),
+    'mcs_explain/specs/Why.antt': 'is_csv'.split(),
     'mcs_check_forever/specs/Foretold.antt': 'is_rows'.split(),
     'mcs_control/specs/Context.antt': (
         'context_charged context_chosen context_ready context_unblocked context_woken '

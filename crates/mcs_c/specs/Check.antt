@@ -9,11 +9,11 @@ use Rattle.mcs_check_words.specs.declared.asked.Format.TheVariants as format
 use Rattle.mcs_check_words.specs.declared.asked.Show.{Show}
 use Rattle.mcs_check_words.specs.declared.asked.Show.TheVariants as show
 use Rattle.mcs_check_lines.specs.Status.{status_of}
-use Rattle.mcs_check.specs.declared.fault.CheckFault.{CheckFault}
-use Rattle.mcs_check.specs.declared.fault.CheckFault.TheVariants.{Run, Unknown}
-use Rattle.mcs_check.specs.Allowed.{IsUnknownFault, first_unknown, notifications}
+use Rattle.mcs_check_run.specs.declared.fault.CheckFault.{CheckFault}
+use Rattle.mcs_check_run.specs.declared.fault.CheckFault.TheVariants.{Run, Unknown}
+use Rattle.mcs_check_run.specs.Allowed.{IsUnknownFault, first_unknown, notifications}
 use Rattle.mcs_check.specs.Check.{check_text, counts_of}
-use Rattle.mcs_check.specs.Fault.{check_fault_text}
+use Rattle.mcs_check_run.specs.Fault.{check_fault_text}
 
 -- the part of a schedule that a number selects
 abbrev pub part_of : ℕ → Show

@@ -5,11 +5,11 @@ use Rattle.mcs_cli.specs.Run.{loaded}
 use Rattle.mcs_cli.specs.declared.fault.RunFault.TheVariants.{Load}
 use Rattle.mcs_check_words.specs.declared.asked.Format.{Format}
 use Rattle.mcs_why.specs.declared.span.Sought.TheVariants.{Missing}
-use Rattle.mcs_check.specs.declared.why_fault.WhyFault.{WhyFault}
-use Rattle.mcs_check.specs.declared.why_fault.WhyFault.TheVariants.{Run, NoThread, NoRound}
-use Rattle.mcs_check.specs.Asked.{IsNoThread, thread_named}
-use Rattle.mcs_check.specs.Why.{is_there, round_of, why_text}
-use Rattle.mcs_check.specs.WhyFault.{why_fault_text}
+use Rattle.mcs_explain.specs.declared.why_fault.WhyFault.{WhyFault}
+use Rattle.mcs_explain.specs.declared.why_fault.WhyFault.TheVariants.{Run, NoThread, NoRound}
+use Rattle.mcs_explain.specs.Asked.{IsNoThread, thread_named}
+use Rattle.mcs_explain.specs.Why.{is_there, round_of, why_text}
+use Rattle.mcs_explain.specs.WhyFault.{why_fault_text}
 
 -- the text, and the thread and the round that are asked about
 module _ (text : List ℕ) (question : List ℕ × List ℕ) (horizon : ℕ) where

@@ -2,14 +2,15 @@
 ghost use Rattle.std.specs.Prelude.{◌≡◌, ◌≤◌, ◌<◌, ◌^◌, ◌⊎◌, ℕ, List, IsUtf8, Ok, false, true, length, take, drop};
 ghost use Rattle.mcs_cli.specs.Run.{loaded};
 ghost use Rattle.mcs_check_lines.specs.Formats.{is_mixed};
-ghost use Rattle.mcs_check.specs.Check.{names_of};
+ghost use Rattle.mcs_check_run.specs.Allowed.{names_of};
 ghost use Rattle.mcs_c.specs.Check.{format_of, names_in, part_of, IsFaultLine, IsVerdictText};
 ghost use Rattle.mcs_c.specs.Verdict.{HasLines, IsCoded, IsVerdict};
 
 use crate::options::{format_of, names_in, options_of, part_of};
 use crate::verdict::{Verdict, hand_out, told};
-use mcs_check::{CheckFault, check_alone};
+use mcs_check::check_alone;
 use mcs_check_lines::is_mixed;
+use mcs_check_run::CheckFault;
 use mcs_check_words::Options;
 use mcs_cli::RunFault;
 use mcs_load::{FaultKind, load};

@@ -1,7 +1,7 @@
 //! A check of a text for all time: the lines of its verdict, or the line of what is wrong with it.
 ghost use Rattle.std.specs.Prelude.{◌≡◌, ◌≤◌, ◌<◌, ◌^◌, ◌⊎◌, ℕ, List, IsUtf8, Ok, false, true, length, take, drop};
 ghost use Rattle.mcs_cli.specs.Run.{loaded};
-ghost use Rattle.mcs_check.specs.Check.{names_of};
+ghost use Rattle.mcs_check_run.specs.Allowed.{names_of};
 ghost use Rattle.mcs_check_forever.specs.Foretold.{is_mixed, is_rows};
 ghost use Rattle.mcs_c.specs.Check.{format_of, names_in, IsFaultLine};
 ghost use Rattle.mcs_c.specs.Forever.{IsForeverText};
@@ -9,8 +9,8 @@ ghost use Rattle.mcs_c.specs.Verdict.{HasLines, IsCoded, IsVerdict};
 
 use crate::options::{format_of, names_in, options_of};
 use crate::verdict::{Verdict, hand_out, told};
-use mcs_check::CheckFault;
 use mcs_check_forever::{ForeverFault, foretell_alone};
+use mcs_check_run::CheckFault;
 use mcs_check_words::{Format, Options, Show};
 use mcs_cli::RunFault;
 use mcs_load::{FaultKind, load};

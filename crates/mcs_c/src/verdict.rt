@@ -1,10 +1,10 @@
 //! A verdict on a text, and what a caller gets of it.
 ghost use Rattle.std.specs.Prelude.{◌≡◌, ◌≢◌, ◌≤◌, ◌<◌, ◌⊎◌, length, take, drop, IfOk, IfSome, string_bytes};
-ghost use Rattle.mcs_check.specs.Fault.{check_fault_text};
+ghost use Rattle.mcs_check_run.specs.Fault.{check_fault_text};
 ghost use Rattle.mcs_c.specs.Verdict.{HasLines, IsCoded, IsGiven, IsTold};
 
 use crate::room::handed;
-use mcs_check::CheckFault;
+use mcs_check_run::CheckFault;
 use std::alloc::{AllocError, Global};
 
 /// The verdict on a text.

@@ -2,17 +2,17 @@
 ghost use Rattle.std.specs.Prelude.{◌≡◌, ◌≤◌, ◌<◌, ◌^◌, ◌⊎◌, ℕ, List, IsUtf8, Ok, false, true, length, take, drop, IfOk, IfSome, string_bytes};
 ghost use Rattle.mcs_cli.specs.Run.{loaded};
 ghost use Rattle.mcs_check_words.specs.CommandLine.{question_texts};
-ghost use Rattle.mcs_check.specs.Why.{is_csv, is_mixed};
-ghost use Rattle.mcs_check.specs.WhyFault.{why_fault_text};
+ghost use Rattle.mcs_explain.specs.Why.{is_csv, is_mixed};
+ghost use Rattle.mcs_explain.specs.WhyFault.{why_fault_text};
 ghost use Rattle.mcs_c.specs.Check.{format_of};
 ghost use Rattle.mcs_c.specs.Verdict.{IsCoded, IsTold, IsVerdict};
 ghost use Rattle.mcs_c.specs.Why.{IsWhyFaultLine, IsWhyText};
 
 use crate::options::{format_of, options_of};
 use crate::verdict::{Verdict, hand_out};
-use mcs_check::{WhyFault, explain_alone};
 use mcs_check_words::{Format, Options, Question, Show};
 use mcs_cli::RunFault;
+use mcs_explain::{WhyFault, explain_alone};
 use mcs_load::{FaultKind, load};
 use mcs_system::System;
 use mcs_ticks::Tick;

@@ -11,7 +11,7 @@ use Rattle.mcs_ticks.specs.declared.row.Row.{Row}
 use Rattle.mcs_ticks.specs.declared.row.What.{What}
 use Rattle.mcs_ticks.specs.declared.row.What.TheVariants as row
 use Rattle.mcs_system.specs.System.{System, no_thread, thread_part}
-use Rattle.mcs_hints.proofs.Numbers.{at_number, same_numbers, set_number}
+use Rattle.mcs_hints.proofs.Numbers.{at_number, set_number}
 use Rattle.mcs_check_lines.specs.Deadlines.{has_deadline}
 use Rattle.mcs_check.specs.Judged.{ended, ends, is_judged, judged_rounds}
 use Rattle.mcs_check.specs.stored.Threads.{ended_of}
@@ -43,12 +43,6 @@ ended-round threads y r past is =
     others k differ =
         ap capped (none-more (ended k past)
         ∙ sym (ended-more k r past ∙ ap (λ b. cond b 1 0 + ended k past) (is k ∙ ne_eqb y k (λ e. differ (sym e)))))
-
--- a row that ends no round
-pub ended-still : (threads : ℕ) (r : Row) (past : List Row) → ((n : ℕ) → ends n r.what ≡ false) → ended_of threads past ≡ ended_of threads (r ∷ past)
-ended-still threads r past none =
-    same_numbers (λ n. capped (ended n past)) (λ n. capped (ended n (r ∷ past))) threads 0
-    (λ n. ap capped (none-more (ended n past) ∙ sym (ended-more n r past ∙ ap (λ b. cond b 1 0 + ended n past) (none n))))
 
 -- how often a round of a thread with a deadline ended, of the threads below n
 abbrev pub is_below : System → ℕ → What → Bool

@@ -12,10 +12,11 @@ use Rattle.mcs_check.specs.declared.finder.Finder.{Finder}
 use Rattle.mcs_check_lines.specs.Counts.{no_counts}
 use Rattle.mcs_check_lines.specs.Formats.{head_text}
 use Rattle.mcs_check.specs.stored.Found.{counts_so_far}
-use Rattle.mcs_check.specs.stored.Rows.{counted_at, counts_in, failed_after, kept_table, lines_of, row_lines, rows_text}
+use Rattle.mcs_check.specs.stored.Rows.{counted_at, counts_in, kept_table, row_lines, rows_text}
+use Rattle.mcs_check_run.specs.Lines.{failed_after, lines_of}
 use Rattle.mcs_check.specs.stored.Watches.{watches_of}
-use Rattle.mcs_check.proofs.Results.{moved}
-use Rattle.mcs_check.proofs.Rows.{given-tells, some-tells, until-tells}
+use Rattle.mcs_check_run.proofs.Results.{moved}
+use Rattle.mcs_check_run.proofs.Rows.{given-tells, some-tells, until-tells}
 
 pub counts-so-far : (system : System) (allowed : List Bool) (past rows : List Row)
     → counts_so_far system allowed (past_of past rows) ≡ counts_in system allowed past rows (counts_so_far system allowed past)

@@ -18,7 +18,8 @@ use Rattle.mcs_check_lines.specs.Chains.{Entry, chain_found_line, chain_found_li
 use Rattle.mcs_check_lines.specs.Counts.{is_allowed}
 use Rattle.mcs_check_lines.specs.Formats.{found_line}
 use Rattle.mcs_check_lines.specs.Told.{told}
-use Rattle.mcs_check.specs.stored.Rows.{lines_of, row_lines, told_at}
+use Rattle.mcs_check_run.specs.Lines.{lines_of}
+use Rattle.mcs_check.specs.stored.Rows.{row_lines, told_at}
 use Rattle.mcs_check.proofs.Placed.{AreAt, AtMost, at, at-append, before, most-append, placed-apart}
 use Rattle.mcs_check.proofs.Standing.{AreOrdered, MostFound, all-due-later, before-same, kept-then, most-all, none-due-now, none-due-yet, none-slow-yet}
 use Rattle.mcs_check.proofs.Told.{line-is, row-is}

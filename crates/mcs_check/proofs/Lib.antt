@@ -3,19 +3,10 @@ mod Sums
 mod Placed
 mod Standing
 mod InPlace
-mod Rows
 mod Finders
-mod Seekers
-mod Tellers
-mod Numbers
-mod Spans
-mod Questions
-mod Names
-mod Results
 mod Texts
 mod Unknown
 mod Worked
-mod Answered
 mod Pages
 mod Homes
 mod FoundInOrder
@@ -26,5 +17,4 @@ mod AllFound
 mod EndedRounds
 mod Unjudging
 mod ByHome
-mod Judged
 mod RoundLines

@@ -18,7 +18,8 @@ use Rattle.mcs_check_lines.specs.Counts.{told_of}
 use Rattle.mcs_check_lines.specs.Formats.{found_line}
 use Rattle.mcs_check.specs.stored.Found.{told_by, told_in}
 use Rattle.mcs_check.specs.stored.Pages.{founds_text, PutsLines, PutsSome}
-use Rattle.mcs_check.specs.stored.Rows.{failed_after, lines_in, shown_found, told_at, told_line}
+use Rattle.mcs_check_run.specs.Lines.{failed_after}
+use Rattle.mcs_check.specs.stored.Rows.{lines_in, shown_found, told_at, told_line}
 
 -- the lines of the findings of rows
 module _ (how : Format) (system : System) (allowed : List Bool) where

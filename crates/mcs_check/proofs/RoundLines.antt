@@ -17,7 +17,7 @@ use Rattle.mcs_check.specs.stored.Pages.{founds_text, PutsLines, PutsSome}
 use Rattle.mcs_check.specs.stored.Rounds.{IsNext}
 use Rattle.mcs_check.specs.stored.Rows.{lines_in, told_at}
 use Rattle.mcs_check.proofs.Pages.{puts-longer, puts-some, puts-then, told-text}
-use Rattle.mcs_check.proofs.Rows.{lines_of-append}
+use Rattle.mcs_check_run.proofs.Rows.{lines_of-append}
 
 -- a target's bytes, and whether it has failed; the lines at first
 module _ (system : System) (allowed : List Bool) {W P : Type 0} (contents : W → Option (List ℕ)) (failed : W → Bool) (first : FoundLines W P) (named : first.system.now ≡ system) where

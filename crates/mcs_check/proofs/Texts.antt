@@ -21,13 +21,14 @@ use Rattle.mcs_check_lines.specs.Checked.{chain_counts}
 use Rattle.mcs_check_lines.specs.Deadlines.{chain_deadlines, thread_deadlines}
 use Rattle.mcs_check_lines.specs.Unjudged.{unjudged_line}
 use Rattle.mcs_check.specs.Judged.{all_unjudged, judged_rounds, overdue_many}
-use Rattle.mcs_check.specs.Allowed.{flags_of}
+use Rattle.mcs_check_run.specs.Allowed.{flags_of}
 use Rattle.mcs_check.specs.Check.{check_text, counts_of, figures_lines, findings_lines, shown_lines, thread_counts_of}
 use Rattle.mcs_check_lines.specs.Counts.{no_counts, with_hints}
 use Rattle.mcs_check_lines.specs.Formats.{counts_line, head_text, hint_line}
 use Rattle.mcs_check_lines.specs.Told.{counts_with, found_lines, merged_in}
 use Rattle.mcs_check.specs.stored.AllFound.{checked_of}
-use Rattle.mcs_check.specs.stored.Rows.{counts_found, counts_in, ends_lines, lines_of, rest_lines, row_lines, rows_text, tabled_lines}
+use Rattle.mcs_check.specs.stored.Rows.{counts_found, counts_in, ends_lines, rest_lines, row_lines, rows_text, tabled_lines}
+use Rattle.mcs_check_run.specs.Lines.{lines_of}
 use Rattle.mcs_check_lines.specs.Chains.{chain_found_lines}
 use Rattle.mcs_check.proofs.InPlace.{in-place}
 use Rattle.mcs_check.proofs.Told.{both-rows, jobs-are, no-rows}

@@ -20,7 +20,8 @@ use Rattle.mcs_check_lines.specs.Counts.{is_allowed, told_of}
 use Rattle.mcs_check_lines.specs.Formats.{job_line}
 use Rattle.mcs_check_lines.specs.Answers.{answer_lines}
 use Rattle.mcs_check_lines.specs.Told.{ended_lines, found_lines, job_lines}
-use Rattle.mcs_check.specs.stored.Rows.{answered_lines, due_lines, figures_of_all, kept_table, lines_in, lines_of, row_lines, tables_of, tabled_lines, shown_found, shown_job, told_at, told_line, told_with}
+use Rattle.mcs_check.specs.stored.Rows.{answered_lines, due_lines, kept_table, lines_in, row_lines, shown_found, shown_job, told_at, told_line, told_with}
+use Rattle.mcs_check_run.specs.Lines.{lines_of}
 
 module _ (how : Format) (system : System) (allowed : List Bool) where
   one-line : (moment core : ℕ) (f : Finding) (b : Bool) → is_allowed allowed f ≡ b
@@ -101,21 +102,6 @@ module _ (how : Format) (system : System) (allowed : List Bool) where
       ∙ sym (flat_map-append (job_line how system) own rest)
 
 module _ (how : Format) (system : System) (horizon : ℕ) (past : List Row) where
-  -- if a table is kept, the figures are shown ..
-  pub tabled-some : (asked : Show) (table : Tables) → Some table ≡ kept_table asked system horizon past
-      → (table ≡ tables_of system horizon past) × (figures_of_all how system horizon past ≡ tabled_lines how asked system horizon past)
-  tabled-some show.Findings table is = cc
-  tabled-some show.Jobs table is = cc
-  tabled-some show.Table table is = (cc, refl)
-  tabled-some show.Both table is = (cc, refl)
-
-  -- .. and else they are not
-  pub tabled-none : (asked : Show) → None ≡ kept_table asked system horizon past → tabled_lines how asked system horizon past ≡ []
-  tabled-none show.Findings is = refl
-  tabled-none show.Jobs is = refl
-  tabled-none show.Table is = cc
-  tabled-none show.Both is = cc
-
   -- one account for each thread is kept
   pub kept-long : (asked : Show) → IfSome (kept_table asked system horizon past) (λ (table : Tables). length table.threads.accounts ≡ length system.threads)
   kept-long show.Findings = tt

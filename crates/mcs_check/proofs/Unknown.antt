@@ -6,10 +6,10 @@ use Rattle.mcs_system.specs.System.{System}
 use Rattle.mcs_cli.specs.Run.{IsRead}
 use Rattle.mcs_cli.specs.declared.fault.RunFault.TheVariants as run
 use Rattle.mcs_check_words.specs.declared.asked.Options.{Options}
-use Rattle.mcs_check.specs.declared.fault.CheckFault.{CheckFault}
-use Rattle.mcs_check.specs.declared.fault.CheckFault.TheVariants.{Run, Unknown, Mixed}
-use Rattle.mcs_check.specs.Allowed.{IsUnknownFault, first_unknown, notifications}
-use Rattle.mcs_check.specs.Check.{IsFault, names_of}
+use Rattle.mcs_check_run.specs.declared.fault.CheckFault.{CheckFault}
+use Rattle.mcs_check_run.specs.declared.fault.CheckFault.TheVariants.{Run, Unknown, Mixed}
+use Rattle.mcs_check_run.specs.Allowed.{IsUnknownFault, first_unknown, notifications, names_of}
+use Rattle.mcs_check.specs.Check.{IsFault}
 
 keeps : (w : Option (List ℕ)) → Keeps w w
 keeps None = tt

@@ -12,7 +12,7 @@ use Rattle.mcs_verdict.specs.declared.finding.Finding.TheVariants.{Lost}
 use Rattle.mcs_verdict.specs.declared.finding.Found.{Found}
 use Rattle.mcs_check_words.specs.declared.asked.Format.TheVariants as format
 use Rattle.mcs_check_words.specs.declared.asked.Show.TheVariants as show
-use Rattle.mcs_check.specs.Allowed.{first_unknown, flags_of, nearest_of, notifications}
+use Rattle.mcs_check_run.specs.Allowed.{first_unknown, flags_of, nearest_of, notifications}
 use Rattle.mcs_check.specs.Check.{check_text, counts_of}
 use Rattle.mcs_check_lines.specs.Counts.{no_counts}
 use Rattle.mcs_check_lines.specs.Status.{status_of}

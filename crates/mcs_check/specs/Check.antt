@@ -1,5 +1,5 @@
 -- The bytes that a check reads and writes.
-use Rattle.std.specs.Prelude.{Result, Ok, Err, Option, Some, None, ◌≡◌, ◌≢◌, ◌⊎◌, List, [], ℕ, Bool, true, false, ◌++◌, length, map, flat_map, string_bytes, ⊤}
+use Rattle.std.specs.Prelude.{Result, Ok, Err, Option, Some, None, ◌≡◌, ◌≢◌, ◌⊎◌, List, [], ℕ, Bool, true, false, ◌++◌, length, map, flat_map, ⊤}
 use Rattle.std.specs.Io.KnownBytes.{Appends, Keeps}
 use Rattle.mcs_ticks.specs.declared.row.Row.{Row}
 use Rattle.mcs_system.specs.System.{System}
@@ -19,9 +19,9 @@ use Rattle.mcs_chain.specs.Figures.{all_figures}
 use Rattle.mcs_chain.specs.Found.{all_slow, all_unanswered}
 use Rattle.mcs_check_lines.specs.declared.checked.Checked.{Checked}
 use Rattle.mcs_check_lines.specs.declared.counts.Counts.{Counts}
-use Rattle.mcs_check.specs.declared.fault.CheckFault.{CheckFault}
-use Rattle.mcs_check.specs.declared.fault.CheckFault.TheVariants.{Run, Unknown, Mixed}
-use Rattle.mcs_check.specs.Allowed.{IsUnknownFault, first_unknown, flags_of, notifications}
+use Rattle.mcs_check_run.specs.declared.fault.CheckFault.{CheckFault}
+use Rattle.mcs_check_run.specs.declared.fault.CheckFault.TheVariants.{Run, Unknown, Mixed}
+use Rattle.mcs_check_run.specs.Allowed.{IsUnknownFault, first_unknown, flags_of, names_of, notifications}
 use Rattle.mcs_check.specs.Judged.{all_unjudged, scope_of}
 use Rattle.mcs_check_lines.specs.Chains.{chain_found_line, chain_found_lines, chain_lines, with_placed}
 use Rattle.mcs_check_lines.specs.Checked.{chain_counts}
@@ -79,10 +79,6 @@ module _ (names : List (List ℕ)) (system : System) (horizon : ℕ) where
   -- the first line if there is one, the lines that are asked for, and the line of the counts
   abbrev pub check_text : Format → Show → List ℕ
   check_text how asked = head_text how asked system ++ shown_lines how asked ++ counts_line how counts_of
-
--- the notifications at which lost signals are allowed, by name
-abbrev pub names_of : Options → List (List ℕ)
-names_of options = map (λ name. string_bytes name) options.allowed.items
 
 -- the bytes that a source knows before and after the check, how many it has given by then, and
 -- whether it has failed

@@ -1,9 +1,3 @@
-pub mod Allowed
 pub mod Judged
 pub mod Check
-pub mod Fault
-pub mod Asked
-pub mod Why
-pub mod Explained
-pub mod WhyFault
 pub mod stored

@@ -1,20 +1,13 @@
-//! Checks and explanations on the caller's thread alone, in memory: what needs neither a handle nor
-//! devices.
-ghost use Rattle.std.specs.Prelude.{◌≡◌, false, true, None, IfErr, IfOk, OnOk};
+//! Checks on the caller's thread alone, in memory: they need neither a handle nor devices.
+ghost use Rattle.std.specs.Prelude.{◌≡◌, false, None, IfErr, IfOk, OnOk};
 ghost use Rattle.mcs_check_lines.specs.Formats.{is_mixed as are_mixed};
-ghost use Rattle.mcs_check_words.specs.CommandLine.{question_texts};
-ghost use Rattle.mcs_check.specs.Allowed.{first_unknown, notifications};
-ghost use Rattle.mcs_check.specs.Check.{IsRefusal, check_text, counts_of, names_of};
-ghost use Rattle.mcs_check.specs.Explained.{IsUnexplained};
-ghost use Rattle.mcs_check.specs.Why.{is_mixed, is_there, round_of, why_text};
+ghost use Rattle.mcs_check_run.specs.Allowed.{first_unknown, names_of, notifications};
+ghost use Rattle.mcs_check.specs.Check.{IsRefusal, check_text, counts_of};
 
-use crate::allowed::refuse_unknown;
-use crate::machine::{Alone, Machine};
 use crate::run::write_check;
-use crate::why::{answer, is_mixed};
-use crate::{CheckFault, Quiet, WhyFault};
 use mcs_check_lines::{Checked, is_mixed as are_mixed};
-use mcs_check_words::{Options, Question};
+use mcs_check_run::{Alone, CheckFault, Machine, Quiet, refuse_unknown};
+use mcs_check_words::Options;
 use mcs_cli::{IntoWrite, RunFault};
 use mcs_system::System;
 use mcs_team::SimFault;
@@ -48,36 +41,5 @@ pub fn check_alone(
     match write_check(&machine, &mut target, system, options, &mut Quiet) {
         Ok(checked) => Ok((target.into_inner(), checked)),
         Err(_) => Err(CheckFault::Run(RunFault::Sim(SimFault::NoMemory))),
-    }
-}
-
-/// Explains a round of a system on this thread alone, and returns the text that `explain` writes of
-/// it. Needs no handle.
-///
-/// Errors: `Mixed`, `NoThread` and `NoRound` as `explain` has them; `Sim` if an allocation failed.
-pub fn explain_alone(
-    alloc: Global,
-    system: System,
-    options: &Options,
-    question: &Question,
-) -> Result<Vec<u8>, WhyFault>
-    ensures text { IfOk result (λ text. text.items
-        ≡ why_text options.now.format system options.now.horizon (question_texts question.now)) }
-    ensures there { OnOk result (is_there (round_of system options.now.horizon (question_texts question.now)) ≡ true) }
-    ensures matched { OnOk result (is_mixed options.now ≡ false) }
-    ensures fault { IfErr result (IsUnexplained options.now (question_texts question.now) system) }
-{
-    if is_mixed(options) {
-        return Err(WhyFault::Mixed);
-    }
-    let machine = Machine {
-        runner: &Alone,
-        alloc,
-    };
-    let mut target = IntoWrite::new(Vec::new(alloc));
-    match answer(&machine, &mut target, system, options, question, &mut Quiet) {
-        Ok(()) => Ok(target.into_inner()),
-        Err(WhyFault::Run(_)) => Err(WhyFault::Run(RunFault::Sim(SimFault::NoMemory))),
-        Err(fault) => Err(fault),
     }
 }

@@ -13,14 +13,13 @@ ghost use Rattle.mcs_check.specs.stored.Rounds.{are_counted_together, AreWatched
 ghost use Rattle.mcs_check.specs.stored.Rows.{lines_in};
 ghost use Rattle.mcs_check.specs.stored.Threads.{ended_of};
 
-use crate::Progress;
 use crate::core_watch::CoreWatch;
 use crate::ended::Ended;
 use crate::found_lines::FoundLines;
-use crate::progress::pass_round;
 use crate::rounds::{opening_cores, take_round};
 use crate::unjudged::{keep_unjudged, unjudged};
 use mcs_check_lines::{Counts, Unjudged};
+use mcs_check_run::Progress;
 use mcs_cli::Target;
 use mcs_system::{System, SystemParts};
 use mcs_team::FlowFault;
@@ -86,6 +85,13 @@ pub(crate) fn look<T: Target, P: Progress>(
         return Err(FlowFault::NoMemory);
     };
     Ok(found)
+}
+
+/// Reports that all rows before `reached` were seen, unless that is the end of the run.
+fn pass_round<P: Progress>(progress: &mut P, reached: Tick, horizon: Tick) {
+    if reached <= horizon {
+        progress.passed(reached);
+    }
 }
 
 /// Puts together what the cores found, when all turns are taken.

@@ -15,20 +15,19 @@ ghost use Rattle.mcs_check_lines.specs.Counts.{no_counts};
 ghost use Rattle.mcs_check_lines.specs.Formats.{head_text};
 ghost use Rattle.mcs_check.specs.Judged.{all_unjudged, judged_rounds};
 ghost use Rattle.mcs_check.specs.stored.AllFound.{kept_of, kept_with, text_of_rows, IsAllFound, IsAllSeen};
-ghost use Rattle.mcs_check.specs.stored.Rows.{kept_table, refusal};
+ghost use Rattle.mcs_check.specs.stored.Rows.{kept_table};
 ghost use Rattle.mcs_check.specs.stored.Watches.{watches_of};
 
-use crate::Progress;
 use crate::all_found::{AllFound, Kept};
 use crate::by_core::{FoundByCore, look};
-use crate::finder::{Finder, Lines};
+use crate::finder::Finder;
 use crate::found_lines::FoundLines;
-use crate::machine::{Machine, Runner};
 use crate::seen::{Seen, Tables, Watches};
 use crate::thread_watch::ThreadWatch;
 use crate::unjudged::all_unjudged;
 use mcs_chain::{Tallies, Watch as ChainWatch};
 use mcs_check_lines::{Counts, put_head};
+use mcs_check_run::{Lines, Machine, Progress, Runner, refusal};
 use mcs_check_words::{Options, Show};
 use mcs_cli::{RunFault, Target};
 use mcs_system::System;
@@ -307,15 +306,4 @@ fn head(alloc: Global, options: &Options, system: &System) -> Result<Vec<u8>, No
     let mut text = Vec::new(alloc);
     put_head(&mut text, options.format, options.show, system)?;
     Ok(text)
-}
-
-/// Why a line was refused: memory ran out, or the target failed.
-pub(crate) fn refusal(is_out_of_memory: bool) -> RunFault
-    ensures { result ≡ refusal is_out_of_memory }
-{
-    if is_out_of_memory {
-        RunFault::Sim(SimFault::NoMemory)
-    } else {
-        RunFault::Write
-    }
 }

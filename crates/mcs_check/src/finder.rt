@@ -1,101 +1,19 @@
 //! The sink that finds what is to be shown of a schedule, and writes its lines.
-ghost use Rattle.std.specs.Prelude.{◌≡◌, ◌∷◌, ◌++◌, ℕ, List, Some, true, false, is_ok, OnOk, OnErr};
+ghost use Rattle.std.specs.Prelude.{◌≡◌, ◌∷◌, ◌++◌, ℕ, List, Some, true, false, OnOk};
 ghost use Rattle.mcs_ticks.specs.declared.row.Row.{Row as TheRow};
 ghost use Rattle.mcs_verdict.specs.Findings.{UpTo};
-ghost use Rattle.mcs_cli.specs.Devices.{AppendsPrefix};
-ghost use Rattle.mcs_cli.specs.Flow.{AppendsBefore, TakesLine};
-ghost use Rattle.mcs_check.specs.stored.Rows.{counted_at, due_lines, failed_after, kept_table, row_lines, told_with};
-ghost use Rattle.mcs_check_lines.specs.Shown.{shown_text};
+ghost use Rattle.mcs_cli.specs.Flow.{TakesLine};
+ghost use Rattle.mcs_check.specs.stored.Rows.{counted_at, due_lines, kept_table, row_lines, told_with};
+ghost use Rattle.mcs_check_run.specs.Lines.{failed_after};
 ghost use Rattle.mcs_chain.specs.Watch.{all_due, watch_of as chains_of};
 ghost use Rattle.mcs_check.specs.stored.Watches.{watches_of};
 
-use crate::Progress;
-use crate::progress::pass;
 use crate::seen::Seen;
-use mcs_check_lines::{Shown, put_shown};
+use mcs_check_run::{Lines, Progress, pass};
 use mcs_check_words::{Format, Options, Show};
-use mcs_cli::{Target, write_bytes};
+use mcs_cli::Target;
 use mcs_system::System;
 use mcs_ticks::{NoMemory, Refused, Row, Sink};
-use std::alloc::Global;
-
-/// Maximum bytes of a piece of lines that is written at once; its last line may exceed it.
-const FULL: usize = 65_536;
-
-/// A target for lines. The first line is written at once, later ones in pieces that grow.
-#[derive(Drop)]
-pub(crate) struct Lines<'t, T: Target> {
-    alloc: Global,
-    pub(crate) target: &'t mut T,
-    /// Bytes of lines that wait before they are written: from 1, doubled up to `FULL`.
-    limit: usize,
-    /// Whether the last line was refused because memory ran out, not by the target.
-    pub(crate) is_out_of_memory: bool,
-}
-
-impl<'t, T: Target> Lines<'t, T> {
-    pub(crate) fn new(alloc: Global, target: &'t mut T) -> Lines<'t, T>
-        ensures target { result.target.ghost_name ≡ target.entry.ghost_name }
-        ensures target_now { result.target.now ≡ target.old }
-    {
-        Lines {
-            alloc,
-            target,
-            limit: 1,
-            is_out_of_memory: false,
-        }
-    }
-
-    /// Appends one more line to the waiting text, and writes that when it is long enough.
-    pub(crate) fn put<P: Progress>(
-        &mut self,
-        text: &mut Vec<u8>,
-        format: Format,
-        system: &System,
-        shown: &Shown,
-        progress: &mut P,
-    ) -> Result<(), Refused>
-        ensures target { self.new.target.ghost_name ≡ self.old.target.ghost_name }
-        ensures line { TakesLine (T.contents self.old.target.now) (T.contents self.new.target.now) text.old.items text.new.items
-            (shown_text format system.now shown.now) (is_ok result) }
-        ensures working { OnOk result (T.has_failed self.new.target.now ≡ T.has_failed self.old.target.now) }
-        ensures refused { OnErr result
-            (T.has_failed self.new.target.now ≡ failed_after self.new.is_out_of_memory (T.has_failed self.old.target.now)) }
-    {
-        if put_shown(self.alloc, text, format, system, shown).is_err() {
-            self.is_out_of_memory = true;
-            return Err(Refused);
-        }
-        self.flow(text, progress)
-    }
-
-    /// Writes the waiting text when it is long enough.
-    #[inline(always)]
-    pub(crate) fn flow<P: Progress>(
-        &mut self,
-        text: &mut Vec<u8>,
-        progress: &mut P,
-    ) -> Result<(), Refused>
-        ensures target { self.new.target.ghost_name ≡ self.old.target.ghost_name }
-        ensures ok { OnOk result (AppendsBefore (T.contents self.old.target.now) (T.contents self.new.target.now) text.old.items text.new.items) }
-        ensures err { OnErr result (AppendsPrefix (T.contents self.old.target.now) (T.contents self.new.target.now) text.old.items) }
-        ensures working { OnOk result (T.has_failed self.new.target.now ≡ T.has_failed self.old.target.now) }
-        ensures refused { OnErr result
-            (T.has_failed self.new.target.now ≡ failed_after self.new.is_out_of_memory (T.has_failed self.old.target.now)) }
-    {
-        if text.len() < self.limit {
-            return Ok(());
-        }
-        progress.wipe();
-        if write_bytes(self.target, text.as_slice()).is_err() {
-            self.is_out_of_memory = false;
-            return Err(Refused);
-        }
-        text.clear();
-        self.limit = self.limit.saturating_mul(2).min(FULL);
-        Ok(())
-    }
-}
 
 /// A sink that looks at each row as it comes and writes what is shown of it.
 #[derive(Drop)]
@@ -209,10 +127,8 @@ impl<T: Target, P: Progress> Sink for Finder<'_, '_, '_, '_, T, P> {
     #[inline(always)]
     fn row(&mut self, row: &Row) -> Result<(), Refused> {
         self.pass(row);
-        if self.take(row).is_err() {
-            self.lines.is_out_of_memory = true;
-            return Err(Refused);
-        }
-        self.lines.flow(&mut self.seen.text, self.progress)
+        let taken = self.take(row);
+        self.lines
+            .take_line(taken, &mut self.seen.text, self.progress)
     }
 }

@@ -3,9 +3,8 @@ ghost use Rattle.std.specs.Prelude.{◌≡◌, is_ok};
 ghost use Rattle.mcs_check_lines.specs.Formats.{found_line};
 ghost use Rattle.mcs_check.specs.stored.Pages.{founds_text, PutsLines};
 
-use crate::Progress;
-use crate::finder::Lines;
-use mcs_check_lines::Shown;
+use mcs_check_lines::{Shown, put_shown};
+use mcs_check_run::{Lines, Progress};
 use mcs_check_words::Format;
 use mcs_cli::Target;
 use mcs_system::System;
@@ -38,12 +37,9 @@ impl<T: Target, P: Progress> FoundLines<'_, '_, '_, '_, T, P> {
     fn put_one(&mut self, found: &Found) -> Result<(), Refused>
         ensures { PutsLines T.contents T.has_failed self.old (found_line self.old.format self.old.system.now found.now) (is_ok result) self.new }
     {
-        self.lines.put(
-            self.text,
-            self.format,
-            self.system,
-            &Shown::Found(*found),
-            self.progress,
-        )
+        let alloc = self.lines.alloc;
+        let shown = Shown::Found(*found);
+        let appended = put_shown(alloc, self.text, self.format, self.system, &shown);
+        self.lines.take_line(appended, self.text, self.progress)
     }
 }

@@ -2,16 +2,15 @@ ghost use Rattle.std.specs.Prelude.{◌≡◌, ◌++◌, [], ℕ, Bool, List, Op
 ghost use Rattle.std.specs.Io.KnownBytes.{Appends};
 ghost use Rattle.mcs_cli.specs.Flow.{IsWriteFault};
 ghost use Rattle.mcs_cli.specs.declared.fault.RunFault.TheVariants as fault;
-ghost use Rattle.mcs_check.specs.Check.{IsCheck, check_text, counts_of, names_of};
-ghost use Rattle.mcs_check.specs.declared.fault.CheckFault.TheVariants.{Run};
+ghost use Rattle.mcs_check.specs.Check.{IsCheck, check_text, counts_of};
+ghost use Rattle.mcs_check_run.specs.Allowed.{names_of};
+ghost use Rattle.mcs_check_run.specs.declared.fault.CheckFault.TheVariants.{Run};
 
-use crate::allowed::{flags_of, refuse_unknown};
 use crate::find::find_rows;
-use crate::machine::{Machine, Runner, Team};
 use crate::rest::put_rest;
 use crate::scope::checked_of;
-use crate::{CheckFault, Progress};
 use mcs_check_lines::{Checked, is_mixed};
+use mcs_check_run::{CheckFault, Machine, Progress, Runner, Team, flags_of, refuse_unknown};
 use mcs_check_words::Options;
 use mcs_cli::{FromRead, RunFault, Source, Target, read_system, write_text};
 use mcs_system::System;

@@ -9,9 +9,8 @@ use Rattle.mcs_cli.specs.declared.fault.RunFault.TheVariants as run
 use Rattle.mcs_check_words.specs.declared.asked.Format.{Format}
 use Rattle.mcs_check_words.specs.declared.asked.Format.TheVariants as format
 use Rattle.mcs_check_words.specs.declared.asked.Options.{Options}
-use Rattle.mcs_check.specs.Allowed.{IsUnknownFault, first_unknown, notifications}
-use Rattle.mcs_check.specs.Check.{names_of}
-use Rattle.mcs_check.specs.declared.fault.CheckFault.TheVariants.{Unknown, Run}
+use Rattle.mcs_check_run.specs.Allowed.{IsUnknownFault, first_unknown, notifications, names_of}
+use Rattle.mcs_check_run.specs.declared.fault.CheckFault.TheVariants.{Unknown, Run}
 use Rattle.mcs_check_forever.specs.declared.forever_fault.ForeverFault.{ForeverFault}
 use Rattle.mcs_check_forever.specs.declared.forever_fault.ForeverFault.TheVariants.{Check, Mixed}
 use Rattle.mcs_check_forever.specs.declared.verdict.Verdict.{Verdict}

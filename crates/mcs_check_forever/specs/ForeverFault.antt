@@ -1,6 +1,6 @@
 -- The lines of the faults of a check for all time, and its exit codes.
 use Rattle.std.specs.Prelude.{ℕ, List, Option, Some, codes}
-use Rattle.mcs_check.specs.Fault.{check_fault_text, status_of as status_of_check}
+use Rattle.mcs_check_run.specs.Fault.{check_fault_text, status_of as status_of_check}
 use Rattle.mcs_check_forever.specs.declared.forever_fault.ForeverFault.{ForeverFault}
 use Rattle.mcs_check_forever.specs.declared.forever_fault.ForeverFault.TheVariants.{Check, Mixed}
 

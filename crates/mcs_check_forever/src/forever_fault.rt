@@ -1,9 +1,9 @@
 ghost use Rattle.std.specs.Prelude.{◌≡◌};
 ghost use Rattle.mcs_check_forever.specs.ForeverFault.{forever_fault_text, status_of};
-ghost use Rattle.mcs_check.specs.declared.fault.CheckFault.TheVariants.{Run};
+ghost use Rattle.mcs_check_run.specs.declared.fault.CheckFault.TheVariants.{Run};
 ghost use Rattle.mcs_check_forever.specs.declared.forever_fault.ForeverFault.TheVariants.{Check};
 
-use mcs_check::CheckFault;
+use mcs_check_run::CheckFault;
 use mcs_cli::RunFault;
 use std::fmt;
 

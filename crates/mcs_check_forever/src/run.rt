@@ -3,9 +3,8 @@ ghost use Rattle.std.specs.Prelude.{◌≡◌, ◌^◌, ◌≤◌, ℕ, List, Bo
 ghost use Rattle.std.specs.Arc.{arc_value};
 ghost use Rattle.mcs_cli.specs.declared.fault.RunFault.TheVariants as fault;
 ghost use Rattle.mcs_team.specs.declared.run.SimFault.TheVariants as memory;
-ghost use Rattle.mcs_check.specs.Allowed.{first_unknown, notifications};
-ghost use Rattle.mcs_check.specs.Check.{names_of};
-ghost use Rattle.mcs_check.specs.declared.fault.CheckFault.TheVariants as check;
+ghost use Rattle.mcs_check_run.specs.Allowed.{first_unknown, notifications, names_of};
+ghost use Rattle.mcs_check_run.specs.declared.fault.CheckFault.TheVariants as check;
 ghost use Rattle.mcs_ever_told.specs.Outlook.{AreTold};
 ghost use Rattle.mcs_check_forever.specs.Foretold.{IsForetelling, IsTold, IsUnforetold, is_mixed};
 ghost use Rattle.mcs_check_forever.specs.Verdict.{IsForetold};
@@ -13,7 +12,7 @@ ghost use Rattle.mcs_check_forever.specs.declared.forever_fault.ForeverFault.The
 
 use crate::told::{text_of, verdict_of};
 use crate::{ForeverFault, Verdict};
-use mcs_check::{CheckFault, Progress, Quiet, flags_of, refuse_unknown};
+use mcs_check_run::{CheckFault, Progress, Quiet, flags_of, refuse_unknown};
 use mcs_check_words::{Format, Options};
 use mcs_cli::{FromRead, RunFault, Source, Target, read_system, write_text};
 use mcs_ever_told::{Outlook, Told};

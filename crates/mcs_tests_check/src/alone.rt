@@ -2,9 +2,9 @@
 ghost use Rattle.std.specs.Prelude.{◌≤◌, ◌^◌};
 
 use crate::runs::{LATE, options};
-use mcs_check::{WhyFault, explain_alone};
 use mcs_check_forever::{ForeverFault, Verdict, foretell_alone};
 use mcs_check_words::{Options, Question};
+use mcs_explain::{WhyFault, explain_alone};
 use mcs_load::load;
 use std::alloc::Global;
 use std::str;

@@ -1,8 +1,9 @@
 //! Findings, answers, figures and counts of chains, worked by hand from the rules.
 
 use crate::runs::{options, written};
-use mcs_check::{Quiet, check};
+use mcs_check::check;
 use mcs_check_lines::ChainCounts;
+use mcs_check_run::Quiet;
 use mcs_check_words::{Format, Show};
 use mcs_cli::{FromRead, IntoWrite};
 use std::process::Abort;

@@ -2,7 +2,8 @@
 ghost use Rattle.std.specs.Prelude.{◌≤◌, ◌^◌};
 
 use crate::runs::{LATE, SIGNALS, options, written};
-use mcs_check::{Quiet, check};
+use mcs_check::check;
+use mcs_check_run::Quiet;
 use mcs_check_words::Format;
 use mcs_cli::{FromRead, IntoWrite};
 use std::alloc::Global;

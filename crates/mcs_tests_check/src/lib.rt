@@ -1,4 +1,5 @@
-//! Tests of `mcs_check`, and of calls of `mcs_verdict` and `mcs_hints` that it doesn't make.
+//! Tests of `mcs_check` and `mcs_explain`, and of calls of `mcs_verdict` and `mcs_hints` that they
+//! don't make.
 #![tactic(auto)]
 
 #[cfg(test)]

@@ -1,7 +1,8 @@
 //! The progress of a run, as it is reported.
 
 use crate::runs::{SIGNALS, options};
-use mcs_check::{Progress, check};
+use mcs_check::check;
+use mcs_check_run::Progress;
 use mcs_check_words::Options;
 use mcs_cli::{FromRead, IntoWrite};
 use mcs_ticks::Tick;

@@ -1,7 +1,8 @@
 //! Two systems, their options, and what is written about them.
 ghost use Rattle.std.specs.Prelude.{◌≤◌, ◌^◌};
 
-use mcs_check::{Quiet, check};
+use mcs_check::check;
+use mcs_check_run::Quiet;
 use mcs_check_words::{Format, Options, Show};
 use mcs_cli::{FromRead, IntoWrite};
 use mcs_ticks::Tick;

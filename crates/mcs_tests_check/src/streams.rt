@@ -1,8 +1,9 @@
 //! The source and the target of a run.
 
 use crate::runs::{LATE, SIGNALS, options};
-use mcs_check::{CheckFault, Quiet, check, check_with};
+use mcs_check::{check, check_with};
 use mcs_check_lines::Checked;
+use mcs_check_run::{CheckFault, Quiet};
 use mcs_cli::{FromRead, IntoWrite, RunFault};
 use std::alloc::Global;
 use std::process::Abort;

@@ -1,9 +1,10 @@
 //! Explanations of rounds, as text and as JSON.
 ghost use Rattle.std.specs.Prelude.{◌≤◌, ◌^◌};
 
-use mcs_check::{Quiet, WhyFault, explain, explain_with};
+use mcs_check_run::Quiet;
 use mcs_check_words::{Format, Options, Question, Show};
 use mcs_cli::{FromRead, IntoWrite, RunFault};
+use mcs_explain::{WhyFault, explain, explain_with};
 use mcs_ticks::Tick;
 use std::alloc::Global;
 use std::rt::Files;

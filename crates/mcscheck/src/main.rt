@@ -4,11 +4,13 @@
 
 mod meter;
 
-use mcs_check::{CheckFault, WhyFault, check_with, explain_with};
+use mcs_check::check_with;
 use mcs_check_forever::{ForeverFault, Verdict, foretell_with};
 use mcs_check_lines::Checked;
+use mcs_check_run::CheckFault;
 use mcs_check_words::{Options, options};
 use mcs_cli::{FromRead, IntoWrite, WordsFault};
+use mcs_explain::{WhyFault, explain_with};
 use meter::Meter;
 use std::io::ErrorKind;
 use std::process::ExitCode;

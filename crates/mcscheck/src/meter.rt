@@ -1,4 +1,4 @@
-use mcs_check::Progress;
+use mcs_check_run::Progress;
 use mcs_ticks::Tick;
 use std::io::IsTerminal;
 use std::rt::HostRuntime;

@@ -9,7 +9,7 @@ use Rattle.mcs_cli.specs.Flow.{TakesLine}
 use Rattle.mcs_check_words.specs.declared.asked.Format.{Format}
 use Rattle.mcs_check.specs.declared.found_lines.FoundLines.{FoundLines}
 use Rattle.mcs_check_lines.specs.Formats.{found_line}
-use Rattle.mcs_check.specs.stored.Rows.{failed_after}
+use Rattle.mcs_check_run.specs.Lines.{failed_after}
 
 -- the lines of findings
 abbrev pub founds_text : Format → System → List Found → List ℕ

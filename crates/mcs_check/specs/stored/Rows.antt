@@ -1,5 +1,5 @@
 -- The lines and counts of rows as they come.
-use Rattle.std.specs.Prelude.{ℕ, Bool, true, if◌then◌else◌, List, [], ◌∷◌, ◌++◌, flat_map, Option, Some, None}
+use Rattle.std.specs.Prelude.{ℕ, Bool, if◌then◌else◌, List, [], ◌∷◌, ◌++◌, flat_map, Option, Some, None}
 use Rattle.mcs_ticks.specs.declared.row.Row.{Row}
 use Rattle.mcs_system.specs.System.{System}
 use Rattle.mcs_verdict.specs.declared.finding.Finding.{Finding}
@@ -14,9 +14,6 @@ use Rattle.mcs_chain.specs.Figures.{all_figures, tallies_of}
 use Rattle.mcs_chain.specs.Watch.{all_due, watch_of}
 use Rattle.mcs_chain.specs.declared.answer.Answer.{Answer}
 use Rattle.mcs_chain.specs.declared.finding.Found.{Found as ChainFound}
-use Rattle.mcs_cli.specs.declared.fault.RunFault.{RunFault}
-use Rattle.mcs_cli.specs.declared.fault.RunFault.TheVariants as fault
-use Rattle.mcs_team.specs.declared.run.SimFault.TheVariants.{NoMemory}
 use Rattle.mcs_check_words.specs.declared.asked.Format.{Format}
 use Rattle.mcs_check_words.specs.declared.asked.Show.{Show}
 use Rattle.mcs_check_words.specs.declared.asked.Show.TheVariants as show
@@ -35,6 +32,7 @@ use Rattle.mcs_check_lines.specs.Shown.{shown_text}
 use Rattle.mcs_check_lines.specs.Figures.{table_lines}
 use Rattle.mcs_check_lines.specs.Told.{found_lines}
 use Rattle.mcs_hints.specs.Hints.{hints_of}
+use Rattle.mcs_check_run.specs.Lines.{lines_of}
 
 -- a finding, as it is shown
 abbrev pub shown_found : ℕ → ℕ → Option Finding → Option Shown
@@ -87,19 +85,6 @@ tabled_lines how show.Findings system horizon past = []
 tabled_lines how show.Jobs system horizon past = []
 tabled_lines how show.Table system horizon past = figures_of_all how system horizon past
 tabled_lines how show.Both system horizon past = figures_of_all how system horizon past
-
--- whether the target has failed after a line was refused
-abbrev pub failed_after : Bool → Bool → Bool
-failed_after is_out_of_memory before = if is_out_of_memory then before else true
-
--- the fault of a refused line
-abbrev pub refusal : Bool → RunFault
-refusal is_out_of_memory = if is_out_of_memory then fault.Sim NoMemory else fault.Write
-
--- the lines of rows, each by the rows before it
-abbrev pub lines_of : (List Row → Row → List ℕ) → List Row → List Row → List ℕ
-lines_of line past [] = []
-lines_of line past (r ∷ rows) = line past r ++ lines_of line (r ∷ past) rows
 
 -- the lines of slow answers, if findings are shown
 abbrev pub due_lines : Format → System → Show → List ChainFound → List ℕ

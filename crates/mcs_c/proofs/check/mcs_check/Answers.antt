@@ -1,5 +1,5 @@
 use Rattle.std.proofs.Common.{rules, ◌≡◌, subst, take}
-use Rattle.mcs_check.specs.Check.{names_of}
+use Rattle.mcs_check_run.specs.Allowed.{names_of}
 use Rattle.mcs_c.specs.Check.{format_of, names_in, part_of, IsFaultLine, IsVerdictText}
 use Rattle.mcs_c.proofs.Given.{by-words, fault-is, lines-are}
 use Rattle.mcs_c.proofs.check.mcs_check.Goals as goal

@@ -1,5 +1,5 @@
 use Rattle.std.proofs.Common.{rules, ◌≡◌, subst, take}
-use Rattle.mcs_check.specs.Check.{names_of}
+use Rattle.mcs_check_run.specs.Allowed.{names_of}
 use Rattle.mcs_c.specs.Check.{names_in, IsFaultLine}
 use Rattle.mcs_c.specs.Forever.{IsForeverText}
 use Rattle.mcs_c.proofs.Given.{fault-is}

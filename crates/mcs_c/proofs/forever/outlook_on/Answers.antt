@@ -1,9 +1,9 @@
 use Rattle.std.proofs.Common.{rules, ◌≡◌, Err}
 use Rattle.mcs_cli.specs.Run.{loaded}
 use Rattle.mcs_cli.specs.declared.fault.RunFault.TheVariants.{Load}
-use Rattle.mcs_check.specs.Check.{names_of}
-use Rattle.mcs_check.specs.Fault.{check_fault_text}
-use Rattle.mcs_check.specs.declared.fault.CheckFault.TheVariants.{Run}
+use Rattle.mcs_check_run.specs.Allowed.{names_of}
+use Rattle.mcs_check_run.specs.Fault.{check_fault_text}
+use Rattle.mcs_check_run.specs.declared.fault.CheckFault.TheVariants.{Run}
 use Rattle.mcs_c.specs.Check.{IsFaultLine}
 use Rattle.mcs_c.specs.Forever.{IsForeverText}
 use Rattle.mcs_c.proofs.Given.{told-is}

@@ -2,8 +2,8 @@ use Rattle.std.proofs.Common.{rules, ◌≡◌, Err}
 use Rattle.mcs_cli.specs.Run.{loaded}
 use Rattle.mcs_cli.specs.declared.fault.RunFault.TheVariants.{Load}
 use Rattle.mcs_check_words.specs.CommandLine.{question_texts}
-use Rattle.mcs_check.specs.WhyFault.{why_fault_text}
-use Rattle.mcs_check.specs.declared.why_fault.WhyFault.TheVariants.{Run}
+use Rattle.mcs_explain.specs.WhyFault.{why_fault_text}
+use Rattle.mcs_explain.specs.declared.why_fault.WhyFault.TheVariants.{Run}
 use Rattle.mcs_c.specs.Why.{IsWhyFaultLine, IsWhyText}
 use Rattle.mcs_c.proofs.Given.{told-is}
 use Rattle.mcs_c.proofs.why.answer_on.Goals as goal

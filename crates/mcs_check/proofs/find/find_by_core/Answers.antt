@@ -14,9 +14,10 @@ use Rattle.mcs_check_lines.specs.Formats.{head_text}
 use Rattle.mcs_check.specs.Judged.{all_unjudged, judged_rounds}
 use Rattle.mcs_check.specs.stored.AllFound.{kept_of}
 use Rattle.mcs_check.specs.stored.Found.{counts_so_far}
-use Rattle.mcs_check.specs.stored.Rows.{failed_after, lines_in, rows_text}
+use Rattle.mcs_check_run.specs.Lines.{failed_after}
+use Rattle.mcs_check.specs.stored.Rows.{lines_in, rows_text}
 use Rattle.mcs_check.proofs.Finders.{counts-so-far}
-use Rattle.mcs_check.proofs.Results.{moved, refused-fault}
+use Rattle.mcs_check_run.proofs.Results.{moved, refused-fault}
 use Rattle.mcs_check.proofs.Told.{alone-rows, no-answers, no-due, no-slow, no-unanswered}
 use Rattle.mcs_check.proofs.find.find_by_core.Goals as goal
 

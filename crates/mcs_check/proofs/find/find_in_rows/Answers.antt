@@ -8,10 +8,11 @@ use Rattle.mcs_cli.specs.Flow.{AppendsBefore, IsWriteFault}
 use Rattle.mcs_cli.proofs.Rows.{at-last, at-target, err-is}
 use Rattle.mcs_check_lines.specs.Counts.{no_counts}
 use Rattle.mcs_check_lines.specs.Formats.{head_text}
-use Rattle.mcs_check.specs.stored.Rows.{counts_in, failed_after, kept_table, rows_text}
+use Rattle.mcs_check.specs.stored.Rows.{counts_in, kept_table, rows_text}
+use Rattle.mcs_check_run.specs.Lines.{failed_after}
 use Rattle.mcs_check.specs.stored.Watches.{watches_of}
 use Rattle.mcs_check.proofs.Finders.{rows-given, rows-some, rows-until}
-use Rattle.mcs_check.proofs.Results.{moved, refused-fault}
+use Rattle.mcs_check_run.proofs.Results.{moved, refused-fault}
 use Rattle.mcs_check.proofs.find.find_in_rows.Goals as goal
 
 pub returns-in-Ok-result-clause-ok : goal.returns-in-Ok-result-clause-ok

@@ -1,7 +1,7 @@
 use Rattle.std.proofs.Common.{rules, ◌≡◌, IfSome, IsSome, map, refl, string_bytes, subst, sym}
 use Rattle.std.specs.Prelude.{Err}
-use Rattle.mcs_check.specs.Allowed.{IsUnknownFault, first_unknown, notifications}
-use Rattle.mcs_check.specs.Check.{IsCheck, names_of}
+use Rattle.mcs_check_run.specs.Allowed.{IsUnknownFault, first_unknown, notifications, names_of}
+use Rattle.mcs_check.specs.Check.{IsCheck}
 use Rattle.mcs_check.proofs.Unknown.{unknown-fault}
 use Rattle.mcs_check.proofs.run.check.Goals as goal
 

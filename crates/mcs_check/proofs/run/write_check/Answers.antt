@@ -10,8 +10,8 @@ use Rattle.mcs_verdict.specs.Findings.{InOrder, UpTo, found_at_end, past_of}
 use Rattle.mcs_cli.specs.Devices.{AppendsPrefix}
 use Rattle.mcs_cli.specs.Flow.{AppendsBefore, IsWriteFault}
 use Rattle.mcs_cli.proofs.Flow.{before-all, before-longer, before-none, fault-longer, fault-then, prefix-before, prefix-longer}
-use Rattle.mcs_check.specs.Allowed.{flags_of}
-use Rattle.mcs_check.specs.Check.{check_text, counts_of, names_of}
+use Rattle.mcs_check_run.specs.Allowed.{flags_of, names_of}
+use Rattle.mcs_check.specs.Check.{check_text, counts_of}
 use Rattle.mcs_check_lines.specs.Counts.{no_counts, with_hints}
 use Rattle.mcs_check_lines.specs.Formats.{counts_line}
 use Rattle.mcs_chain.specs.Found.{all_unanswered}
@@ -21,7 +21,7 @@ use Rattle.mcs_check.specs.Judged.{all_unjudged, judged_rounds}
 use Rattle.mcs_check.specs.stored.AllFound.{checked_of, kept_of, IsKeptOf}
 use Rattle.mcs_check.specs.stored.Rows.{counts_found, counts_in, rest_lines, rows_text, tabled_lines}
 use Rattle.mcs_check.proofs.AllFound.{kept-accounts}
-use Rattle.mcs_check.proofs.Results.{ok-holds}
+use Rattle.mcs_check_run.proofs.Results.{ok-holds}
 use Rattle.mcs_check.proofs.Texts.{behind, checked-put, counts-put, rest_text, text-is}
 use Rattle.mcs_check.proofs.run.write_check.Goals as goal
 

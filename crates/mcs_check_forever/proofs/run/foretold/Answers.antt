@@ -1,8 +1,7 @@
 use Rattle.std.proofs.Common.{rules, ◌≡◌, ◌∙◌, List, Bool, ap, map, string_bytes, subst}
 use Rattle.std.specs.Arc.{arc_value}
 use Rattle.mcs_system.specs.System.{System}
-use Rattle.mcs_check.specs.Allowed.{flags_of}
-use Rattle.mcs_check.specs.Check.{names_of}
+use Rattle.mcs_check_run.specs.Allowed.{flags_of, names_of}
 use Rattle.mcs_ever_told.specs.Outlook.{AreTold}
 use Rattle.mcs_check_forever.specs.Verdict.{told_text, verdict_of}
 use Rattle.mcs_check_forever.proofs.run.foretold.Goals as goal

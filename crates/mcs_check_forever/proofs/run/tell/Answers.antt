@@ -3,9 +3,8 @@ use Rattle.std.specs.Prelude.{Err}
 use Rattle.std.specs.Io.KnownBytes.{Appends}
 use Rattle.mcs_cli.specs.Devices.{AppendsPrefix}
 use Rattle.mcs_team.specs.declared.run.SimFault.TheVariants as memory
-use Rattle.mcs_check.specs.Allowed.{IsUnknownFault, first_unknown, notifications}
-use Rattle.mcs_check.specs.Check.{names_of}
-use Rattle.mcs_check.specs.declared.fault.CheckFault.TheVariants as check
+use Rattle.mcs_check_run.specs.Allowed.{IsUnknownFault, first_unknown, notifications, names_of}
+use Rattle.mcs_check_run.specs.declared.fault.CheckFault.TheVariants as check
 use Rattle.mcs_check_forever.specs.declared.forever_fault.ForeverFault.TheVariants.{Check}
 use Rattle.mcs_check_forever.specs.Foretold.{IsTold}
 use Rattle.mcs_check_forever.proofs.Foretelling.{memory-told, part-told, refused-told}

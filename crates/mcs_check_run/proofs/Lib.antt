@@ -1,0 +1,3 @@
+mod Named
+pub mod Results
+pub mod Rows

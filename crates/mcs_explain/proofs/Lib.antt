@@ -1,0 +1,6 @@
+mod Seekers
+mod Tellers
+mod Numbers
+mod Spans
+mod Questions
+mod Answered
