@@ -401,13 +401,12 @@ SAYS = {
         'head_text': 'the first line of CSV',
         'found_line': 'the line of a finding',
         'job_line': 'the line of a round that ended',
-        'row_line': 'the line of a row of the schedule',
         'no_columns': 'the columns of chains, each empty',
     },
     'mcs_check_words/specs/CommandLine.antt': {
         'question_texts': 'the texts of a question: of the thread and of the round',
     },
-    'mcs_check_lines/specs/RowFields.antt': {
+    'mcs_why_lines/specs/RowFields.antt': {
         'charged_of': 'the charge of a thread that stops',
         'until_of': 'the date of a thread that stops and enters the release queue',
         'maker_of': 'the core that made a signal which arrives',
@@ -415,7 +414,7 @@ SAYS = {
         'of_note': 'the value, if the note is a notification and no server',
         'server_of': 'the server of a row, if it has one',
     },
-    'mcs_check_lines/specs/Account.antt': {
+    'mcs_why_lines/specs/Account.antt': {
         'span_fields': 'the fields of a job that `--why` explains',
         'span_text': 'the line of such a job in words',
         'span_line': 'the line of such a job, in words or as a JSON object',

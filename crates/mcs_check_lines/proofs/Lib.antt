@@ -1,8 +1,7 @@
-mod Values
+pub mod Values
 mod Words
 mod Threads
 mod Behind
-mod Runners
 mod Worked
 mod Figured
 pub mod Judged

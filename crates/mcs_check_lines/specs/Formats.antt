@@ -1,10 +1,8 @@
 -- The lines of what is shown, in each format.
 use Rattle.std.specs.Prelude.{Bool, true, false, List, [], ◌∷◌, ◌++◌, codes, map}
-use Rattle.mcs_ticks.specs.declared.row.Row.{Row}
 use Rattle.mcs_fields.specs.Fields.{Text, empty, names_text, object_text, row_text}
 use Rattle.mcs_system.specs.declared.part.ChainPart.{ChainPart}
 use Rattle.mcs_system.specs.System.{System}
-use Rattle.mcs_text.specs.Text.{row_text as row_words}
 use Rattle.mcs_hints.specs.declared.hint.Hint.{Hint}
 use Rattle.mcs_verdict.specs.declared.finding.Found.{Found}
 use Rattle.mcs_verdict.specs.declared.job.Job.{Job}
@@ -15,7 +13,6 @@ use Rattle.mcs_check_words.specs.declared.asked.Show.TheVariants as show
 use Rattle.mcs_check_lines.specs.declared.checked.Checked.{Checked}
 use Rattle.mcs_check_lines.specs.Fields.{Fields, checked_fields, found_fields, hint_fields, job_fields}
 use Rattle.mcs_check_lines.specs.Lines.{checked_text, found_text, hint_text, job_text}
-use Rattle.mcs_check_lines.specs.RowFields.{row_fields}
 
 -- words as they are, a row of values, or an object of them
 abbrev pub written : Format → Text → Fields → Text
@@ -44,9 +41,6 @@ found_line how system found = written how (found_text system found) (found_field
 
 abbrev pub job_line : Format → System → Job → Text
 job_line how system job = written how (job_text system job) (job_fields system job ++ if_chains system.chains no_columns)
-
-abbrev pub row_line : Format → System → Row → Text
-row_line how system r = written how (row_words system r) (row_fields system r)
 
 -- the same, but nothing as CSV, which has rows of one kind only
 abbrev pub unless_rows : Format → Text → Fields → Text

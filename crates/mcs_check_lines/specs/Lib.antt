@@ -5,11 +5,9 @@ pub mod Status
 pub mod Unjudged
 pub mod Lines
 pub mod Fields
-pub mod RowFields
 pub mod Formats
 pub mod Shown
 pub mod Figures
 pub mod Told
 pub mod Chains
 pub mod Answers
-pub mod Account

@@ -3,21 +3,19 @@
 ghost use Rattle.std.specs.Prelude.{◌≡◌, ◌++◌, Some, OnOk, OnErr};
 ghost use Rattle.mcs_fields.specs.Fields.{object_text};
 ghost use Rattle.mcs_check_lines.specs.Fields.{chain_count_fields, checked_fields, counts_fields, found_fields};
-ghost use Rattle.mcs_check_lines.specs.Formats.{counts_line, found_line, is_mixed, no_columns, row_line, written};
+ghost use Rattle.mcs_check_lines.specs.Formats.{counts_line, found_line, is_mixed, no_columns, written};
 ghost use Rattle.mcs_check_lines.specs.Lines.{found_text};
 ghost use Rattle.mcs_check_lines.specs.Shown.{shown_text};
 
 use crate::fields::{checked_fields, counts_fields, found_fields, wide_found_fields};
 use crate::job_line::put_job_as;
 use crate::line::{put_counts, put_found};
-use crate::row_fields::row_fields;
 use crate::shown::Shown;
 use crate::{ChainCounts, Checked, Counts, Scope};
 use mcs_check_words::{Format, Show};
 use mcs_fields::{put_object, put_row};
 use mcs_system::System;
-use mcs_text::put_row as put_row_text;
-use mcs_ticks::{NoMemory, Row};
+use mcs_ticks::NoMemory;
 use mcs_verdict::Found;
 use std::alloc::Global;
 
@@ -42,7 +40,6 @@ pub fn put_shown(
     match shown {
         Shown::Found(found) => put_found_as(alloc, text, format, system, found),
         Shown::Job(job) => put_job_as(alloc, text, format, system, job),
-        Shown::Row(row) => put_row_as(alloc, text, format, system, row),
     }
 }
 
@@ -99,24 +96,6 @@ fn put_wide(
         Format::Text => put_found(text, system, found),
         Format::Csv => put_row(text, wide_found_fields(system, found).as_slice()),
         Format::Json => put_object(alloc, text, wide_found_fields(system, found).as_slice()),
-    }
-}
-
-/// Appends the line of a row of the schedule.
-fn put_row_as(
-    alloc: Global,
-    text: &mut Vec<u8>,
-    format: Format,
-    system: &System,
-    row: &Row,
-) -> Result<(), NoMemory>
-    ensures ok { OnOk result (text.new.items ≡ text.old.items ++ row_line format system.now row.now) }
-    ensures err { OnErr result (text.new.items ≡ text.old.items) }
-{
-    match format {
-        Format::Text => put_row_text(text, system, row),
-        Format::Csv => put_row(text, row_fields(system, row).as_slice()),
-        Format::Json => put_object(alloc, text, row_fields(system, row).as_slice()),
     }
 }
 

@@ -1,5 +1,5 @@
-//! The lines of a check in each format: findings, jobs, answers, figures, rows, unjudged threads,
-//! hints, counts, and the account of a round. The counts of findings, and the exit code.
+//! The lines of a check in each format: findings, jobs, answers, figures, unjudged threads, hints
+//! and counts. The counts of findings, and the exit code.
 #![tactic(auto)]
 
 mod answer_line;
@@ -16,8 +16,6 @@ mod hint_line;
 mod job_line;
 mod line;
 mod pairs;
-mod ran;
-mod row_fields;
 mod shown;
 mod thread_line;
 mod unjudged;
@@ -33,6 +31,6 @@ pub use figures::put_table;
 pub use format::{is_mixed, put_counts_as, put_found_as, put_shown};
 pub use hint_line::{put_hint, put_hint_as};
 pub use line::{put_counts, put_found, put_job};
-pub use ran::put_account;
+pub use pairs::put_line;
 pub use shown::Shown;
 pub use unjudged::{Unjudged, put_unjudged_as};

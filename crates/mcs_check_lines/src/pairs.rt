@@ -55,7 +55,7 @@ fn append_line(
 }
 
 /// Appends a line: a word, a name, and named values. If memory runs out the text is unchanged.
-pub(crate) fn put_line(
+pub fn put_line(
     text: &mut Vec<u8>,
     word: &str,
     name: &str,

@@ -1,4 +1,3 @@
-use mcs_ticks::Row;
 use mcs_verdict::{Found, Job};
 
 /// The subject of a line.
@@ -8,6 +7,4 @@ pub enum Shown {
     Found(Found),
     /// A job.
     Job(Job),
-    /// A row of the schedule.
-    Row(Row),
 }

@@ -5,7 +5,7 @@ use Rattle.mcs_system.specs.System.{System}
 use Rattle.mcs_why.specs.Running.{is_within}
 use Rattle.mcs_why.specs.Account.{Account, account_of}
 use Rattle.mcs_check_words.specs.declared.asked.Format.{Format}
-use Rattle.mcs_check_lines.specs.Formats.{row_line}
+use Rattle.mcs_why_lines.specs.Rows.{row_line}
 use Rattle.mcs_explain.specs.stored.Spans.{line_at}
 
 -- whether an account shows a row, by the span that it is of

@@ -11,7 +11,7 @@ use Rattle.mcs_why.specs.Running.{is_within}
 use Rattle.mcs_why.specs.declared.span.Span.{Span}
 use Rattle.mcs_check_words.specs.declared.asked.Format.{Format}
 use Rattle.mcs_explain.specs.declared.teller.Teller.{Teller}
-use Rattle.mcs_check_lines.specs.Formats.{row_line}
+use Rattle.mcs_why_lines.specs.Rows.{row_line}
 use Rattle.mcs_explain.specs.Why.{rows_lines}
 use Rattle.mcs_check_run.specs.Lines.{failed_after, lines_of}
 use Rattle.mcs_explain.specs.stored.Spans.{line_at}

@@ -14,8 +14,8 @@ use Rattle.mcs_check_words.specs.declared.asked.Format.{Format}
 use Rattle.mcs_check_words.specs.declared.asked.Format.TheVariants as format
 use Rattle.mcs_check_words.specs.declared.asked.Options.{Options}
 use Rattle.mcs_explain.specs.Asked.{round_number, thread_named}
-use Rattle.mcs_check_lines.specs.Account.{account_lines}
-use Rattle.mcs_check_lines.specs.Formats.{row_line}
+use Rattle.mcs_why_lines.specs.Account.{account_lines}
+use Rattle.mcs_why_lines.specs.Rows.{row_line}
 
 -- the rows of its core from the span's beginning to its end
 abbrev pub rows_lines : Format → System → Span → List Row → Text

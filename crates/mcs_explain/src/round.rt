@@ -11,7 +11,6 @@ ghost use Rattle.mcs_explain.specs.Why.{rows_lines, round_text};
 
 use crate::seeker::Seeker;
 use crate::teller::{Teller, Told};
-use mcs_check_lines::put_account;
 use mcs_check_run::{Lines, Machine, Progress, Runner, refusal};
 use mcs_check_words::Options;
 use mcs_cli::{RunFault, Target, write_text};
@@ -21,6 +20,7 @@ use mcs_ticks::ThreadId;
 use mcs_verdict::Watch;
 use mcs_verdict_laws::schedules_are_in_order;
 use mcs_why::{Account, Search, Sought, Span};
+use mcs_why_lines::put_account;
 use std::sync::Arc;
 
 /// Looks for the round of a thread.

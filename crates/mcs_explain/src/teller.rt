@@ -7,13 +7,13 @@ ghost use Rattle.mcs_why.specs.Account.{account_of};
 ghost use Rattle.mcs_check_run.specs.Lines.{failed_after};
 ghost use Rattle.mcs_explain.specs.stored.Spans.{line_at};
 
-use mcs_check_lines::{Shown, put_shown};
 use mcs_check_run::{Lines, Progress, pass};
 use mcs_check_words::Format;
 use mcs_cli::Target;
 use mcs_system::System;
 use mcs_ticks::{Refused, Row, Sink};
 use mcs_why::Account;
+use mcs_why_lines::put_row_as;
 
 /// The state kept of the rows so far: who ran, and the lines that are not written yet.
 #[derive(Drop)]
@@ -79,8 +79,8 @@ impl<T: Target, P: Progress> Sink for Teller<'_, '_, '_, '_, T, P> {
         if !self.told.account.see(row) {
             return Ok(());
         }
-        let (alloc, shown) = (self.lines.alloc, Shown::Row(*row));
-        let appended = put_shown(alloc, &mut self.told.text, self.format, self.system, &shown);
+        let alloc = self.lines.alloc;
+        let appended = put_row_as(alloc, &mut self.told.text, self.format, self.system, row);
         self.lines
             .take_line(appended, &mut self.told.text, self.progress)
     }

@@ -9,7 +9,7 @@ use Rattle.mcs_cli.specs.Flow.{AppendsBefore, IsWriteFault}
 use Rattle.mcs_cli.proofs.Flow.{before-all, before-longer, fault-longer, fault-then, prefix-before, prefix-longer}
 use Rattle.mcs_why.specs.Account.{account_of}
 use Rattle.mcs_explain.specs.Why.{rows_lines, round_text}
-use Rattle.mcs_check_lines.specs.Account.{account_lines}
+use Rattle.mcs_why_lines.specs.Account.{account_lines}
 use Rattle.mcs_check_run.proofs.Results.{ok-holds}
 use Rattle.mcs_explain.proofs.round.write_span.Goals as goal
 

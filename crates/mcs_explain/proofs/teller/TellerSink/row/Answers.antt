@@ -1,6 +1,6 @@
 use Rattle.std.proofs.Common.{rules, ◌≡◌, ◌∙◌, true, refl, subst, is_ok}
 use Rattle.mcs_cli.specs.Flow.{TakesLine}
-use Rattle.mcs_check_lines.specs.Formats.{row_line}
+use Rattle.mcs_why_lines.specs.Rows.{row_line}
 use Rattle.mcs_check_run.proofs.Results.{err-holds, ok-holds}
 use Rattle.mcs_explain.proofs.Spans.{line-within, shown-is}
 use Rattle.mcs_explain.proofs.teller.TellerSink.row.Goals as goal
@@ -22,6 +22,6 @@ returns g c =
             c.see.ensures.kept threads core from to past account up,
             subst (λ l. TakesLine (held before.lines.target.now) (held c.take_line.new.self.target.now) before.told.now.text.items c.take_line.new.text.items l (is_ok c.take_line.result))
                 (line-within before.format before.system.now core from to row within)
-                (c.take_line.ensures.line before.told.now.text.items (row_line before.format before.system.now row) c.put_shown-appended.ensures.ok),
+                (c.take_line.ensures.line before.told.now.text.items (row_line before.format before.system.now row) c.put_row_as-appended.ensures.ok),
           ),
     )

@@ -1,7 +1,7 @@
 use Rattle.std.proofs.Common.{rules, ◌≡◌, ◌∙◌, ap, drop, map}
 use Rattle.mcs_fields.specs.Fields.{field_of}
-use Rattle.mcs_check_lines.specs.Account.{span_fields, told_fields}
-use Rattle.mcs_check_lines.proofs.ran.put_span_words.Goals as goal
+use Rattle.mcs_why_lines.specs.Account.{span_fields, told_fields}
+use Rattle.mcs_why_lines.proofs.ran.put_span_words.Goals as goal
 
 pub returns : goal.returns
 returns c =

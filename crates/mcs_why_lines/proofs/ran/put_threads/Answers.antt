@@ -2,8 +2,8 @@ use Rattle.std.proofs.Common.{rules, ◌≡◌, ◌∙◌, ◌<◌, ◌≤◌, a
 use Rattle.std.proofs.lemmas.List.{drop_all, drop_more}
 use Rattle.mcs_system.specs.System.{no_thread}
 use Rattle.mcs_why.specs.Running.{ran_in}
-use Rattle.mcs_check_lines.proofs.Runners.{no-more, one-more}
-use Rattle.mcs_check_lines.proofs.ran.put_threads.Goals as goal
+use Rattle.mcs_why_lines.proofs.Runners.{no-more, one-more}
+use Rattle.mcs_why_lines.proofs.ran.put_threads.Goals as goal
 
 pub loop-number-preserved : goal.loop-number-preserved
 loop-number-preserved c core from to past account =

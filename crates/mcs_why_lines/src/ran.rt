@@ -1,13 +1,13 @@
 //! The account of a round that `--why` asks about: its times, and who ran meanwhile.
-ghost use Rattle.std.specs.Prelude.{◌≡◌, ◌++◌, ◌∷◌, ℕ, List, OnOk, codes, length, map};
+ghost use Rattle.std.specs.Prelude.{◌≡◌, ◌++◌, ◌∷◌, ◌≤◌, ℕ, List, OnOk, codes, drop, length, map};
 ghost use Rattle.mcs_ticks.specs.declared.row.Row.{Row as TheRow};
 ghost use Rattle.mcs_fields.specs.Fields.{field_of, value_of};
 ghost use Rattle.mcs_text.specs.Text.{line};
 ghost use Rattle.mcs_why.specs.Account.{account_of};
 ghost use Rattle.mcs_check_lines.specs.Figures.{known};
-ghost use Rattle.mcs_check_lines.specs.Account.{account_lines, ended_of, idle_fields, idle_line, ran_fields, ran_line, ran_lines, span_fields, span_line, span_text, tick_words, told_ran, waited};
+ghost use Rattle.mcs_why_lines.specs.Account.{account_lines, ended_of, idle_fields, idle_line, ran_fields, ran_line, ran_lines, span_fields, span_line, span_text, tick_words, told_ran, waited};
 
-use crate::pairs::{behind_two, put_line};
+use mcs_check_lines::put_line;
 use mcs_check_words::Format;
 use mcs_fields::{Cell, Field, put_object, put_row};
 use mcs_system::System;
@@ -77,6 +77,14 @@ fn idle_fields(ticks: u64) -> [Field<'static>; 2]
     ensures { map field_of result ≡ idle_fields ticks }
 {
     [("kind", Cell::Name("idle")), ("ticks", Cell::Number(ticks))]
+}
+
+/// The values after the first two.
+fn behind_two<'a, 's>(fields: &'a [Field<'s>]) -> &'a [Field<'s>]
+    requires { 2 ≤ length fields.now }
+    ensures { map field_of result.now ≡ drop 2 (map field_of fields.now) }
+{
+    &fields[2..]
 }
 
 /// Appends the line of the round's times, as text.

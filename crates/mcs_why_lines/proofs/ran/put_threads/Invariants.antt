@@ -1,8 +1,8 @@
 use Rattle.std.proofs.Common.{◌≡◌, ◌++◌, ℕ, List, drop, length}
 use Rattle.mcs_ticks.specs.declared.row.Row.{Row}
 use Rattle.mcs_why.specs.Account.{account_of}
-use Rattle.mcs_check_lines.specs.Account.{ran_lines}
-use Rattle.mcs_check_lines.proofs.ran.put_threads.Given as goal
+use Rattle.mcs_why_lines.specs.Account.{ran_lines}
+use Rattle.mcs_why_lines.proofs.ran.put_threads.Given as goal
 
 abbrev pub invariant-loop-number : goal.invariant-loop-number
 invariant-loop-number l =

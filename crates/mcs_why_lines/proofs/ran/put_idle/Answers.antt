@@ -1,8 +1,8 @@
 use Rattle.std.proofs.Common.{rules, ◌≡◌, map}
 use Rattle.mcs_fields.specs.Fields.{field_of}
-use Rattle.mcs_check_lines.specs.Account.{idle_fields}
+use Rattle.mcs_why_lines.specs.Account.{idle_fields}
 use Rattle.mcs_check_lines.proofs.Values.{values-are}
-use Rattle.mcs_check_lines.proofs.ran.put_idle.Goals as goal
+use Rattle.mcs_why_lines.proofs.ran.put_idle.Goals as goal
 
 pub returns-in-Csv : goal.returns-in-Csv
 returns-in-Csv c =

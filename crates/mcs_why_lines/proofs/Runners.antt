@@ -5,7 +5,7 @@ use Rattle.mcs_system.specs.declared.part.ThreadPart.{ThreadPart}
 use Rattle.mcs_system.specs.System.{System}
 use Rattle.mcs_why.specs.Running.{ran_in}
 use Rattle.mcs_check_words.specs.declared.asked.Format.{Format}
-use Rattle.mcs_check_lines.specs.Account.{idle_line, ran_line, ran_lines}
+use Rattle.mcs_why_lines.specs.Account.{idle_line, ran_line, ran_lines}
 
 module _ (how : Format) (system : System) (core : ℕ) (past : List Row) (from to n : ℕ) (whole : List ℕ) where
   abbrev behind : ℕ → List ThreadPart → List ℕ

@@ -1,9 +1,9 @@
 use Rattle.std.proofs.Common.{length}
 use Rattle.std.proofs.lemmas.Result.{on_ok_weaker}
 use Rattle.mcs_why.specs.Running.{idle_in}
-use Rattle.mcs_check_lines.specs.Account.{ran_lines, span_line}
-use Rattle.mcs_check_lines.proofs.Runners.{accounted}
-use Rattle.mcs_check_lines.proofs.ran.put_account.Goals as goal
+use Rattle.mcs_why_lines.specs.Account.{ran_lines, span_line}
+use Rattle.mcs_why_lines.proofs.Runners.{accounted}
+use Rattle.mcs_why_lines.proofs.ran.put_account.Goals as goal
 
 pub returns : goal.returns
 returns c past account =

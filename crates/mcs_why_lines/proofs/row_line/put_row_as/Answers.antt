@@ -1,8 +1,8 @@
 use Rattle.std.proofs.Common.{rules, ◌≡◌, map}
 use Rattle.mcs_fields.specs.Fields.{field_of}
-use Rattle.mcs_check_lines.specs.RowFields.{row_fields}
+use Rattle.mcs_why_lines.specs.RowFields.{row_fields}
 use Rattle.mcs_check_lines.proofs.Values.{values-are}
-use Rattle.mcs_check_lines.proofs.format.put_row_as.Goals as goal
+use Rattle.mcs_why_lines.proofs.row_line.put_row_as.Goals as goal
 
 pub returns-in-Csv-clause-ok : goal.returns-in-Csv-clause-ok
 returns-in-Csv-clause-ok c =

@@ -3,7 +3,7 @@ ghost use Rattle.std.specs.Prelude.{◌≡◌, if◌then◌else◌, map};
 ghost use Rattle.mcs_system.specs.System.{is_server as is_a_server};
 ghost use Rattle.mcs_fields.specs.Fields.{field_of, value_of};
 ghost use Rattle.mcs_text.specs.Text.{why_word};
-ghost use Rattle.mcs_check_lines.specs.RowFields.{badge_of, charged_of, context_of, kind_of, maker_of, note_of, number_of, of_note, of_server, response_of, row_fields, server_of, source_of, thread_of, until_of, why_of, word_of};
+ghost use Rattle.mcs_why_lines.specs.RowFields.{badge_of, charged_of, context_of, kind_of, maker_of, note_of, number_of, of_note, of_server, response_of, row_fields, server_of, source_of, thread_of, until_of, why_of, word_of};
 
 use mcs_fields::{Cell, Field};
 use mcs_system::System;

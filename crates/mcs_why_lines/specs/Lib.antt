@@ -1,0 +1,3 @@
+pub mod RowFields
+pub mod Rows
+pub mod Account
