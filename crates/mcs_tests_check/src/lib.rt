@@ -1,5 +1,4 @@
-//! Tests of `mcs_check` and `mcs_explain`, and of calls of `mcs_verdict` and `mcs_hints` that they
-//! don't make.
+//! Tests of `mcs_check`, and of calls of `mcs_verdict` and `mcs_hints` that it doesn't make.
 #![tactic(auto)]
 
 #[cfg(test)]
@@ -20,5 +19,3 @@ mod progress;
 mod runs;
 #[cfg(test)]
 mod streams;
-#[cfg(test)]
-mod why;

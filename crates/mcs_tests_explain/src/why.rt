@@ -1,11 +1,10 @@
 //! Explanations of rounds, as text and as JSON.
-ghost use Rattle.std.specs.Prelude.{◌≤◌, ◌^◌};
 
+use crate::asked::{options, question};
 use mcs_check_run::Quiet;
-use mcs_check_words::{Format, Options, Question, Show};
+use mcs_check_words::{Format, Options, Question};
 use mcs_cli::{FromRead, IntoWrite, RunFault};
 use mcs_explain::{WhyFault, explain, explain_with};
-use mcs_ticks::Tick;
 use std::alloc::Global;
 use std::rt::Files;
 use std::str;
@@ -92,31 +91,6 @@ idle ticks 0
 ";
 
 const NOT_SO: &str = "mcscheck: --why: not with --show, --strict, --allow-lost or --format csv";
-
-fn options(alloc: Global, horizon: u64, workers: usize) -> Options
-    requires horizon { horizon ≤ 2 ^ 40 }
-    requires workers { (1 ≤ workers) × (workers ≤ 64) }
-{
-    Options {
-        file: None,
-        horizon: Tick::new(horizon).unwrap(),
-        workers,
-        allowed: Vec::new(alloc),
-        strict: false,
-        show: Show::Findings,
-        show_given: false,
-        format: Format::Text,
-        why: None,
-        forever: false,
-    }
-}
-
-fn question(alloc: Global, thread: &str, round: &str) -> Result<Question, Fail> {
-    Ok(Question {
-        thread: String::from_str(alloc, thread)?,
-        round: String::from_str(alloc, round)?,
-    })
-}
 
 /// The text about a round of the lock, followed by the exit code and line of the fault.
 fn written(

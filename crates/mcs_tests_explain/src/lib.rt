@@ -1,0 +1,9 @@
+//! Tests of `mcs_explain`.
+#![tactic(auto)]
+
+#[cfg(test)]
+mod alone;
+#[cfg(test)]
+mod asked;
+#[cfg(test)]
+mod why;
