@@ -1,0 +1,5 @@
+pub mod Counted
+pub mod Leading
+pub mod Nexts
+pub mod Standings
+mod Worked

@@ -1,0 +1,13 @@
+ghost use Rattle.mcs_way.specs.laws.Ways.{TicksSum, WaysLead};
+
+/// A law of all rows in the order of their times: the way of an answer, once its row has come,
+/// leads from the interrupt to the end of the round. Each leg begins where the one before it ended,
+/// and the ways in which a thread stood are all ticks of its leg.
+pub fn ways_lead()
+    ensures { WaysLead }
+{}
+
+/// A law of all legs: if they lead from a moment to another, their ticks sum to the time between.
+pub fn ticks_sum()
+    ensures { TicksSum }
+{}
