@@ -1,5 +1,5 @@
 -- The legs of each carrier's origin lead from the interrupt to the carrier.
-use Rattle.std.proofs.Common.{◌≡◌, ◌∙◌, ℕ, zero, suc, ◌+◌, ◌-◌, ◌≤◌, ◌⊎◌, inl, inr, Bool, true, false, eqb, not, List, [], ◌∷◌, ◌++◌, length, map, get_or, set, sum, Option, Some, None, refl, sym, ap, subst, arith}
+use Rattle.std.proofs.Common.{◌≡◌, ℕ, zero, suc, ◌+◌, ◌-◌, ◌≤◌, ◌⊎◌, inl, inr, Bool, true, false, not, List, [], ◌∷◌, ◌++◌, map, get_or, set, Option, Some, None, refl, sym, subst, arith}
 use Rattle.std.specs.Prelude.{if◌then◌else◌, ◌==◌, ◌&&◌, filter, fold}
 use Rattle.std.proofs.lemmas.Bool.{eqb-true}
 use Rattle.std.proofs.lemmas.List.Sums.{sum-map, sum_by-cons}
@@ -27,7 +27,7 @@ use Rattle.mcs_way.specs.declared.leg.Carrier.TheVariants as by
 use Rattle.mcs_way.specs.declared.leg.Leg.{Leg}
 use Rattle.mcs_way.specs.laws.Ways.{all_ticks_of, IsSplit, Lead}
 use Rattle.mcs_way.specs.Trace.{Trace, is_at, left, left_note, given, taken, joined, since_of, legs_to, ended_legs}
-use Rattle.mcs_way.specs.Course.{Sent, Course, no_course, sent_with, is_sent, arrived, landed, with_arrived, come_to, started, rest, ends, answers, kept, is_answer, is_origin, is_round, moved}
+use Rattle.mcs_way.specs.Course.{Sent, Course, sent_with, is_sent, arrived, landed, with_arrived, come_to, started, rest, ends, answers, kept, is_answer, is_origin, is_round, moved}
 use Rattle.mcs_way.specs.Stances.{stood_since}
 use Rattle.mcs_way.specs.Sums.{ticks_of}
 use Rattle.mcs_way.specs.Trail.{aim_of, stood_by, course_of, way_of}

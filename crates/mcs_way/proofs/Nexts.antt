@@ -1,22 +1,20 @@
 -- Which threads have the origin after a row: those that had it before, but for the row's own thread.
 use Rattle.std.proofs.Common.{◌≡◌, ◌∙◌, ℕ, ◌<◌, ◌≤◌, ◌⊎◌, inl, inr, Bool, true, false, List, length, get_or, set, Option, Some, None, refl, sym, ap, subst, arith}
-use Rattle.std.specs.Prelude.{if◌then◌else◌, ◌==◌, ◌&&◌}
+use Rattle.std.specs.Prelude.{if◌then◌else◌, ◌==◌}
 use Rattle.std.proofs.lemmas.Bool.{cases_lt}
 use Rattle.std.proofs.lemmas.Bool.Decides.{nat_tests}
 use Rattle.std.proofs.lemmas.List.{length-set, get_or-set_same, get_or-set_other, get_or_past, set_past}
 use Rattle.mcs_ticks.specs.declared.row.Row.{Row}
 use Rattle.mcs_ticks.specs.declared.row.What.{What}
 use Rattle.mcs_ticks.specs.declared.row.What.TheVariants as row
-use Rattle.mcs_system.specs.System.{System, is_server, note_part, thread_part}
+use Rattle.mcs_system.specs.System.{System, is_server, note_part}
 use Rattle.mcs_verdict.specs.declared.standing.Stood.{Stood}
 use Rattle.mcs_verdict.specs.Account.{subject}
-use Rattle.mcs_chain.specs.declared.moves.Move.{Move}
 use Rattle.mcs_chain.specs.declared.moves.Move.TheVariants.{Nothing, Give, Send}
 use Rattle.mcs_chain.specs.declared.moves.Taking.{Taking}
 use Rattle.mcs_chain.specs.declared.moves.Taking.TheVariants.{First, Later}
 use Rattle.mcs_chain.specs.declared.step.Gone.{Gone}
-use Rattle.mcs_chain.specs.declared.step.Step.{Step}
-use Rattle.mcs_chain.specs.Moves.{gives, moves_by}
+use Rattle.mcs_chain.specs.Moves.{moves_by}
 use Rattle.mcs_way.specs.declared.aim.Aim.{Aim}
 use Rattle.mcs_way.specs.Trace.{Trace, is_at, left_note, taken, joined, since_of}
 use Rattle.mcs_way.specs.Course.{Course, come_to, moved}

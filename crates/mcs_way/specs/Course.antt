@@ -9,7 +9,6 @@ use Rattle.mcs_chain.specs.declared.answer.Answer.{Answer}
 use Rattle.mcs_chain.specs.declared.moves.Move.{Move}
 use Rattle.mcs_chain.specs.declared.moves.Move.TheVariants.{Nothing, Start, Give, Send, Land, Hold, Wake, Got, End}
 use Rattle.mcs_way.specs.declared.aim.Aim.{Aim}
-use Rattle.mcs_way.specs.declared.leg.Carrier.{Carrier}
 use Rattle.mcs_way.specs.declared.leg.Carrier.TheVariants.{Thread, Signal}
 use Rattle.mcs_way.specs.declared.leg.Leg.{Leg}
 use Rattle.mcs_way.specs.Trace.{Trace, begun, left, given, taken, joined, ended_legs}

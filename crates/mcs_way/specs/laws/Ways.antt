@@ -1,12 +1,12 @@
 -- The legs of a way meet, and their ticks sum to the latency.
-use Rattle.std.specs.Prelude.{ℕ, ◌≡◌, ◌+◌, ◌-◌, ◌≤◌, ◌⊎◌, List, [], ◌∷◌, map, sum}
+use Rattle.std.specs.Prelude.{ℕ, ◌≡◌, ◌+◌, ◌≤◌, ◌⊎◌, List, [], ◌∷◌, map, sum}
 use Rattle.mcs_ticks.specs.declared.row.Row.{Row}
 use Rattle.mcs_system.specs.System.{System}
 use Rattle.mcs_verdict.specs.Findings.{InOrder, past_of}
 use Rattle.mcs_verdict.specs.Stood.{all_ticks}
 use Rattle.mcs_chain.specs.declared.answer.Answer.{Answer}
 use Rattle.mcs_way.specs.declared.leg.Carrier.{Carrier}
-use Rattle.mcs_way.specs.declared.leg.Carrier.TheVariants.{Note, Thread, Signal}
+use Rattle.mcs_way.specs.declared.leg.Carrier.TheVariants.{Thread}
 use Rattle.mcs_way.specs.declared.leg.Leg.{Leg}
 use Rattle.mcs_way.specs.Sums.{ticks_of}
 use Rattle.mcs_way.specs.Trail.{way_of}

@@ -1,6 +1,5 @@
-use Rattle.std.proofs.Common.{◌≡◌, ◌∙◌, List, [], None, map}
+use Rattle.std.proofs.Common.{◌∙◌}
 use Rattle.std.proofs.lemmas.Result.{IfOk-weaker}
-use Rattle.mcs_way.specs.Stances.{stance_of, stances_of}
 use Rattle.mcs_way.proofs.Standings.{stances-first}
 use Rattle.mcs_way.proofs.stance.all_new.Goals as goal
 

@@ -1,4 +1,4 @@
-use Rattle.std.proofs.Common.{◌≡◌, ◌∙◌, ◌<◌, ◌≤◌, length, get_or, None, subst, sym, arith}
+use Rattle.std.proofs.Common.{◌∙◌, ◌<◌, ◌≤◌, length, get_or, None, subst, sym, arith}
 use Rattle.mcs_way.specs.Stances.{IsNext}
 use Rattle.mcs_way.specs.Trace.{since_of}
 use Rattle.mcs_way.proofs.Standings.{own-stance, put-stance, past-stance}

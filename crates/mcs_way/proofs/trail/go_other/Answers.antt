@@ -1,7 +1,6 @@
 use Rattle.std.proofs.Common.{◌≡◌, ◌∙◌, ◌∷◌, ap, sym}
 use Rattle.std.proofs.lemmas.Result.{on_ok_weaker}
 use Rattle.mcs_chain.specs.Answers.{gone_after}
-use Rattle.mcs_chain.specs.Moves.{moves}
 use Rattle.mcs_chain.specs.Steps.{goer}
 use Rattle.mcs_way.specs.Course.{Course, moved}
 use Rattle.mcs_way.specs.Stances.{stances_of}
