@@ -1,4 +1,6 @@
+pub mod Answered
 pub mod Counted
+pub mod Having
 pub mod Leading
 pub mod Nexts
 pub mod Standings

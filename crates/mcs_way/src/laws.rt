@@ -1,4 +1,4 @@
-ghost use Rattle.mcs_way.specs.laws.Ways.{TicksSum, WaysLead};
+ghost use Rattle.mcs_way.specs.laws.Ways.{AnswersHaveWays, TicksSum, WaysLead};
 
 /// A law of all rows in the order of their times: the way of an answer, once its row has come,
 /// leads from the interrupt to the end of the round. Each leg begins where the one before it ended,
@@ -10,4 +10,9 @@ pub fn ways_lead()
 /// A law of all legs: if they lead from a moment to another, their ticks sum to the time between.
 pub fn ticks_sum()
     ensures { TicksSum }
+{}
+
+/// A law of all rows: each answer that a search finds has a way by the same rows.
+pub fn answers_have_ways()
+    ensures { AnswersHaveWays }
 {}

@@ -8,6 +8,8 @@ use Rattle.mcs_chain.specs.declared.answer.Answer.{Answer}
 use Rattle.mcs_way.specs.declared.leg.Carrier.{Carrier}
 use Rattle.mcs_way.specs.declared.leg.Carrier.TheVariants.{Thread}
 use Rattle.mcs_way.specs.declared.leg.Leg.{Leg}
+use Rattle.mcs_way.specs.declared.sought.Sought.TheVariants.{There}
+use Rattle.mcs_way.specs.Sought.{sought}
 use Rattle.mcs_way.specs.Sums.{ticks_of}
 use Rattle.mcs_way.specs.Trail.{way_of}
 
@@ -34,3 +36,9 @@ WaysLead =
 -- and the ticks of its legs sum to the time between them
 abbrev pub TicksSum : Type 0
 TicksSum = (from to : ℕ) (legs : List Leg) → Lead from legs to → from + all_ticks_of legs ≡ to
+
+-- each answer of a chain has a way
+abbrev pub AnswersHaveWays : Type 0
+AnswersHaveWays =
+    (system : System) (chain number : ℕ) (past : List Row) (answer : Answer) → sought system chain number past ≡ There answer →
+    way_of system answer past ≡ [] → ⊥
