@@ -1,4 +1,4 @@
-ghost use Rattle.mcs_way.specs.laws.Ways.{AnswersHaveWays, TicksSum, WaysLead};
+ghost use Rattle.mcs_way.specs.laws.Ways.{AnswersHaveWays, PartsSum, TicksSum, WaysLead};
 
 /// A law of all rows in the order of their times: the way of an answer, once its row has come,
 /// leads from the interrupt to the end of the round. Each leg begins where the one before it ended,
@@ -15,4 +15,10 @@ pub fn ticks_sum()
 /// A law of all rows: each answer that a search finds has a way by the same rows.
 pub fn answers_have_ways()
     ensures { AnswersHaveWays }
+{}
+
+/// A law of all legs: if they lead from a moment to another, their ticks are those of
+/// notifications, of signals between cores, and of threads, by how they stood.
+pub fn parts_sum()
+    ensures { PartsSum }
 {}

@@ -10,7 +10,7 @@ use Rattle.mcs_way.specs.declared.leg.Carrier.TheVariants.{Thread}
 use Rattle.mcs_way.specs.declared.leg.Leg.{Leg}
 use Rattle.mcs_way.specs.declared.sought.Sought.TheVariants.{There}
 use Rattle.mcs_way.specs.Sought.{sought}
-use Rattle.mcs_way.specs.Sums.{ticks_of}
+use Rattle.mcs_way.specs.Sums.{delay_in, held_in, stood_in, ticks_of}
 use Rattle.mcs_way.specs.Trail.{way_of}
 
 abbrev pub all_ticks_of : List Leg → ℕ
@@ -42,3 +42,10 @@ abbrev pub AnswersHaveWays : Type 0
 AnswersHaveWays =
     (system : System) (chain number : ℕ) (past : List Row) (answer : Answer) → sought system chain number past ≡ There answer →
     way_of system answer past ≡ [] → ⊥
+
+-- the ticks of a way are those of notifications, of signals and of threads
+abbrev pub PartsSum : Type 0
+PartsSum =
+    (from to : ℕ) (legs : List Leg) → Lead from legs to →
+    all_ticks_of legs
+    ≡ sum (map held_in legs) + sum (map delay_in legs) + sum (map (λ leg. all_ticks (stood_in leg)) legs)
