@@ -1,5 +1,5 @@
 -- Each answer has a way.
-use Rattle.std.proofs.Common.{◌≡◌, ◌∙◌, ℕ, zero, suc, ◌+◌, ◌-◌, ◌⊎◌, inl, inr, Bool, true, false, eqb, not, List, [], ◌∷◌, ◌++◌, length, map, reverse, get_or, Option, Some, None, refl, sym, ap, subst, arith}
+use Rattle.std.proofs.Common.{◌≡◌, ◌∙◌, ℕ, zero, suc, ◌+◌, ◌-◌, ◌⊎◌, inl, inr, Bool, true, false, List, [], ◌∷◌, ◌++◌, length, map, reverse, get_or, Option, Some, None, refl, sym, ap, subst, arith}
 use Rattle.std.specs.Prelude.{if◌then◌else◌, ◌==◌, ◌&&◌, filter, slice_get}
 use Rattle.std.proofs.lemmas.Bool.{eq-eqb}
 use Rattle.std.proofs.lemmas.List.{reverse-append}
@@ -16,20 +16,19 @@ use Rattle.mcs_chain.specs.declared.moves.Move.{Move}
 use Rattle.mcs_chain.specs.declared.moves.Move.TheVariants.{Nothing, Start, Give, Send, Land, Hold, Wake, Got, End}
 use Rattle.mcs_chain.specs.Answering.{answer_to, answers_to, answers_at}
 use Rattle.mcs_chain.specs.Answers.{gone_after, origins}
-use Rattle.mcs_chain.specs.Moves.{moves, reach}
+use Rattle.mcs_chain.specs.Moves.{reach}
 use Rattle.mcs_chain.specs.Origins as marks
-use Rattle.mcs_chain.specs.Steps.{gone_of, goer}
+use Rattle.mcs_chain.specs.Steps.{gone_of}
 use Rattle.mcs_way.specs.declared.aim.Aim.{Aim}
 use Rattle.mcs_way.specs.declared.leg.Carrier.{Carrier}
 use Rattle.mcs_way.specs.declared.leg.Carrier.TheVariants as by
 use Rattle.mcs_way.specs.declared.leg.Leg.{Leg}
-use Rattle.mcs_way.specs.declared.sought.Sought.{Sought}
-use Rattle.mcs_way.specs.declared.sought.Sought.TheVariants.{There, Missing}
+use Rattle.mcs_way.specs.declared.sought.Sought.TheVariants.{There}
 use Rattle.mcs_way.specs.Trace.{Trace, ended_legs}
 use Rattle.mcs_way.specs.Course.{Course, answers, ends, is_answer, is_origin, kept, moved, started, rest}
 use Rattle.mcs_way.specs.Sought.{answers_of, is_of, numbered, sought, sought_by}
 use Rattle.mcs_way.specs.Trail.{aim_of, course_of, no_chain, stood_by, way_of}
-use Rattle.mcs_way.proofs.Having.{Covers, Covered, AreCovered, get-covered, course-covered}
+use Rattle.mcs_way.proofs.Having.{Covers, Covered, get-covered, course-covered}
 
 -- one of a list
 abbrev IsIn : {A : Type 0} → A → List A → Type 0

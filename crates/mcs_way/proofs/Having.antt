@@ -1,5 +1,5 @@
 -- What a chain's sets have of an origin, the origin's course has too.
-use Rattle.std.proofs.Common.{◌≡◌, ◌∙◌, ℕ, zero, suc, ◌<◌, ◌≤◌, ◌⊎◌, inl, inr, Bool, true, false, eqb, not, List, [], ◌∷◌, ◌++◌, length, map, get_or, set, min, max, Option, Some, None, refl, sym, ap, subst, arith}
+use Rattle.std.proofs.Common.{◌≡◌, ◌∙◌, ℕ, zero, suc, ◌≤◌, ◌⊎◌, inl, inr, Bool, true, false, not, List, [], ◌∷◌, ◌++◌, map, get_or, set, min, max, Option, Some, None, refl, sym, ap, subst, arith}
 use Rattle.std.specs.Prelude.{if◌then◌else◌, ◌==◌, ◌&&◌, nat_lt, bit_and, bit_or, filter, fold}
 use Rattle.std.specs.Int.{bit_at}
 use Rattle.std.proofs.lemmas.Bool.{cases_eq, eqb-true, eq-eqb, ne_eqb}
@@ -20,7 +20,7 @@ use Rattle.mcs_chain.specs.Answers.{gone_after, origins}
 use Rattle.mcs_chain.specs.Moves.{moves}
 use Rattle.mcs_way.specs.declared.aim.Aim.{Aim}
 use Rattle.mcs_way.specs.declared.leg.Carrier.{Carrier}
-use Rattle.mcs_way.specs.Trace.{Trace, is_at, left, left_note, given, taken, joined}
+use Rattle.mcs_way.specs.Trace.{Trace, left, left_note, given, taken, joined}
 use Rattle.mcs_way.specs.Course.{Sent, Course, sent_with, is_sent, arrived, landed, with_arrived, come_to, started, rest, ends, answers, is_answer, is_origin, moved}
 use Rattle.mcs_way.specs.Trail.{course_of}
 

@@ -1,5 +1,5 @@
 -- The ticks of a way in parts.
-use Rattle.std.proofs.Common.{◌≡◌, ◌∙◌, ℕ, ◌+◌, ◌-◌, List, [], ◌∷◌, map, sum, refl, sym, arith}
+use Rattle.std.proofs.Common.{◌≡◌, ℕ, ◌+◌, List, [], ◌∷◌, map, sum, refl, arith}
 use Rattle.std.proofs.lemmas.List.Sums.{sum-map, sum_by-cons}
 use Rattle.mcs_verdict.specs.Stood.{all_ticks}
 use Rattle.mcs_way.specs.declared.leg.Carrier.{Carrier}

@@ -5,10 +5,10 @@ ghost use Rattle.mcs_way.specs.Sought.{count_of, is_of, sought_by};
 use crate::Sought;
 use mcs_chain::{Answer, ChainId};
 
-/// The answers of a chain that were counted so far, and the one that is looked for.
+/// The answers of a chain that were counted so far, and the one to look for.
 #[derive(Clone, Copy, Debug, PartialEq, Eq)]
 pub(crate) struct Count {
-    /// The number of the answer that is looked for, from 1.
+    /// The number to look for, from 1.
     number: u64,
     /// How many answers were counted, at most 2^64 - 1.
     many: u64,
@@ -56,7 +56,7 @@ impl Count {
         }
     }
 
-    /// The answer that is looked for, or how many there are.
+    /// The result: the answer of this number, or how many answers there are.
     pub(crate) fn sought(&self) -> Sought
         ensures { result ≡ sought_by self.now.many self.now.found }
     {

@@ -1,10 +1,12 @@
 //! The course of one interrupt, an origin.
-ghost use Rattle.std.specs.Prelude.{◌≡◌, [], ◌++◌, filter, get_or, map, not, slice_set, Some, None, IfOk, OnOk};
-ghost use Rattle.mcs_way.specs.Trace.{begun, ended_legs, given as given_of, since_of as since_of_spot, taken as taken_of};
-ghost use Rattle.mcs_way.specs.Course.{answers, arrived, come_to, ends, gets, holds, is_answer, is_origin, is_round, is_sent, kept, landed, lands, moved, no_course, note_of, rest, sent_with, sets_out, started, takes};
+ghost use Rattle.std.specs.Prelude.{◌≡◌, get_or, None, IfOk, OnOk};
+ghost use Rattle.mcs_way.specs.Trace.{ended_legs, given as given_of, since_of as since_of_spot, taken as taken_of};
+ghost use Rattle.mcs_way.specs.Course.{answers, ends, gets, holds, is_answer, is_origin, is_round, kept, lands, moved, no_course, note_of, rest, sets_out, started, takes};
 
 use crate::aim::Aim;
-use crate::trace::{Trace, ended_legs, given, join, since_of, taken};
+use crate::sent::{Sent, drop_sent, landed, send};
+use crate::spots::{clear, come_to, given_by, none_carried, none_held, taken_from, way_of};
+use crate::trace::{Trace, since_of, taken};
 use crate::{Carrier, Leg};
 use mcs_chain::{Answer, Move, Taking};
 use mcs_system::SystemParts;
@@ -12,23 +14,6 @@ use mcs_ticks::{CoreId, NoMemory, NoteId, Row, SourceId, ThreadId, Tick, What};
 use mcs_verdict::Stood;
 use std::alloc::Global;
 use std::marker::Model;
-
-/// A signal to another core that carries the origin.
-#[derive(Drop)]
-struct Sent {
-    maker: CoreId,
-    /// The moment at which the signal was made.
-    made: u64,
-    trace: Trace,
-}
-
-impl Model for Sent {
-    ghost use Rattle.mcs_way.specs.Course.{Sent};
-
-    ghost Value = { Sent };
-
-    ghost view = { λ a. record { maker = a.maker; made = a.made; trace = a.trace } };
-}
 
 /// The carriers that have the origin, and for each the legs on which it came there.
 #[derive(Drop)]
@@ -46,157 +31,6 @@ impl Model for Course {
     ghost Value = { Course };
 
     ghost view = { λ a. record { held = a.held.items; carried = a.carried.items; under_way = a.under_way.items; posted = a.posted; way = a.way.items } };
-}
-
-fn nowhere() -> Option<Trace>
-    ensures { result ≡ None }
-{
-    None
-}
-
-fn none_held(alloc: Global, parts: &SystemParts) -> Result<Vec<Option<Trace>>, NoMemory>
-    ensures { IfOk result (λ spots. spots.items ≡ map (λ _. None) parts.now.notes) }
-{
-    let notes = parts.notes.as_slice();
-    Ok(notes.iter().map(|_| nowhere()).collect(alloc)?)
-}
-
-fn none_carried(alloc: Global, parts: &SystemParts) -> Result<Vec<Option<Trace>>, NoMemory>
-    ensures { IfOk result (λ spots. spots.items ≡ map (λ _. None) parts.now.threads) }
-{
-    let threads = parts.threads.as_slice();
-    Ok(threads.iter().map(|_| nowhere()).collect(alloc)?)
-}
-
-/// What a thread's signal carries.
-fn given_by(
-    alloc: Global,
-    carried: &[Option<Trace>],
-    thread: ThreadId,
-    stood: Stood,
-    moment: Tick,
-    signal: (u64, u32),
-) -> Result<Option<Trace>, NoMemory>
-    ensures { IfOk result (λ trace. trace ≡ given_of signal.0 signal.1 (Carrier.Thread thread stood) moment (get_or carried.now thread None)) }
-{
-    if thread.0 < carried.len() {
-        let carrier = Carrier::Thread(thread, stood);
-        given(alloc, &carried[thread.0], carrier, moment, signal)
-    } else {
-        Ok(None)
-    }
-}
-
-/// What a thread takes from a notification.
-fn taken_from(
-    alloc: Global,
-    held: &[Option<Trace>],
-    note: NoteId,
-    taking: Taking,
-    moment: Tick,
-) -> Result<Option<Trace>, NoMemory>
-    ensures { IfOk result (λ trace. trace ≡ taken_of taking note moment (get_or held.now note None)) }
-{
-    if note.0 < held.len() {
-        taken(alloc, &held[note.0], taking, note, moment)
-    } else {
-        Ok(None)
-    }
-}
-
-/// The legs of the way on which a thread has the origin when its round ends.
-fn way_of(
-    alloc: Global,
-    carried: &[Option<Trace>],
-    thread: ThreadId,
-    stood: Stood,
-    moment: Tick,
-) -> Result<Vec<Leg>, NoMemory>
-    ensures { IfOk result (λ legs. legs.items ≡ ended_legs (Carrier.Thread thread stood) moment (get_or carried.now thread None)) }
-{
-    if thread.0 < carried.len() {
-        let carrier = Carrier::Thread(thread, stood);
-        ended_legs(alloc, &carried[thread.0], carrier, moment)
-    } else {
-        Ok(Vec::new(alloc))
-    }
-}
-
-/// The origin comes to the carrier with this number.
-fn come_to(spots: &mut [Option<Trace>], number: usize, more: Option<Trace>)
-    ensures { spots.new ≡ come_to number more spots.old }
-{
-    if number < spots.len() {
-        join(&mut spots[number], more);
-    }
-}
-
-/// The carrier with this number does not have it.
-fn clear(spots: &mut [Option<Trace>], number: usize)
-    ensures { spots.new ≡ slice_set spots.old number None }
-{
-    if number < spots.len() {
-        spots[number] = None;
-    }
-}
-
-fn is_sent(sent: &Sent, maker: CoreId, made: u64) -> bool
-    ensures { result ≡ is_sent maker made sent.now }
-{
-    sent.maker == maker && sent.made == made
-}
-
-/// Adds a signal to another core, if it carries the origin.
-fn send(
-    under_way: &mut Vec<Sent>,
-    maker: CoreId,
-    made: u64,
-    given: Option<Trace>,
-) -> Result<(), NoMemory>
-    ensures { OnOk result (under_way.new.items ≡ under_way.old.items ++ sent_with maker made given) }
-{
-    let Some(trace) = given else {
-        return Ok(());
-    };
-    under_way.push(Sent { maker, made, trace })?;
-    Ok(())
-}
-
-/// The origin as a signal brings it to another core.
-fn arrived(alloc: Global, sent: &Sent, home: CoreId, moment: Tick) -> Result<Trace, NoMemory>
-    ensures { IfOk result (λ trace. trace ≡ arrived home moment sent.now) }
-{
-    let carrier = Carrier::Signal(sent.maker, home);
-    sent.trace
-        .leave(alloc, carrier, moment, sent.trace.places())
-}
-
-/// What the signal that this core made at this moment brings to another core.
-fn landed(
-    alloc: Global,
-    under_way: &[Sent],
-    maker: CoreId,
-    made: u64,
-    home: CoreId,
-    moment: Tick,
-) -> Result<Option<Trace>, NoMemory>
-    ensures { IfOk result (λ trace. trace ≡ landed maker made home moment under_way.now) }
-{
-    let mut all = nowhere();
-    for sent in under_way {
-        if is_sent(sent, maker, made) {
-            let trace = arrived(alloc, sent, home, moment)?;
-            join(&mut all, Some(trace));
-        }
-    }
-    Ok(all)
-}
-
-/// Lets go of the signal that this core made at this moment.
-fn drop_sent(under_way: &mut Vec<Sent>, maker: CoreId, made: u64)
-    ensures { under_way.new.items ≡ filter (λ sent. not (is_sent maker made sent)) under_way.old.items }
-{
-    under_way.retain(|sent| !is_sent(sent, maker, made));
 }
 
 /// The first way stays.

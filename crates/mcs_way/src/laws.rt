@@ -1,8 +1,8 @@
 ghost use Rattle.mcs_way.specs.laws.Ways.{AnswersHaveWays, PartsSum, TicksSum, WaysLead};
 
 /// A law of all rows in the order of their times: the way of an answer, once its row has come,
-/// leads from the interrupt to the end of the round. Each leg begins where the one before it ended,
-/// and the ways in which a thread stood are all ticks of its leg.
+/// leads from the interrupt to the end of the round. Each leg begins when the one before it ended,
+/// and the counts of a thread sum to the ticks of its leg.
 pub fn ways_lead()
     ensures { WaysLead }
 {}
@@ -12,7 +12,7 @@ pub fn ticks_sum()
     ensures { TicksSum }
 {}
 
-/// A law of all rows: each answer that a search finds has a way by the same rows.
+/// A law of all rows: if a search finds an answer, it has a way by the same rows.
 pub fn answers_have_ways()
     ensures { AnswersHaveWays }
 {}

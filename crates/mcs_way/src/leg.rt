@@ -1,7 +1,7 @@
 use mcs_ticks::{CoreId, NoteId, ThreadId, Tick};
 use mcs_verdict::Stood;
 
-/// What has the interrupt during a leg.
+/// The carrier of the interrupt during a leg.
 #[derive(Clone, Copy, Debug, PartialEq, Eq)]
 pub enum Carrier {
     /// A notification, which holds it.

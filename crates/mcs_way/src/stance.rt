@@ -160,7 +160,7 @@ impl Stance {
         }
     }
 
-    /// The origin may come to the thread at this moment, or leave it.
+    /// The thread may take the origin at this moment, or lose it.
     fn turn(&mut self, moment: Tick, before: Option<Tick>, after: Option<Tick>)
         ensures { (rows : List TheRow) → self.old ≡ stance_of before rows → since_of rows ≤ moment → IsNext moment before after →
             self.new ≡ stance_of after rows }

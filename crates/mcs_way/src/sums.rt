@@ -1,4 +1,4 @@
-//! The ticks of a way, by what had the interrupt.
+//! The ticks of a way, by the carriers of the interrupt.
 ghost use Rattle.std.specs.Prelude.{◌≡◌, ◌∷◌, [], ◌++◌, List};
 ghost use Rattle.mcs_way.specs.declared.leg.Leg.{Leg as TheLeg};
 ghost use Rattle.mcs_way.specs.Sums.{delay_in, held_in, stood_in, sums_of, ticks_of};
@@ -50,7 +50,7 @@ impl Leg {
         }
     }
 
-    /// How a thread stands in the leg.
+    /// How the leg's thread stood.
     fn stood(&self) -> Stood
         ensures { result ≡ stood_in self.now }
     {

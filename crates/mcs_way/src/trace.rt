@@ -126,7 +126,7 @@ impl Trace {
         }
     }
 
-    /// What a thread's first wait takes.
+    /// The origin as a thread's first wait takes it.
     fn take_first(
         &self,
         alloc: Global,
@@ -143,7 +143,7 @@ impl Trace {
         Ok(Some(taken))
     }
 
-    /// What a thread's later wait puts at these places.
+    /// The origin as a thread's later wait puts it at these places.
     fn take_later(
         &self,
         alloc: Global,
@@ -164,7 +164,7 @@ impl Trace {
     }
 }
 
-/// What a signal with this badge carries of what its thread has at these places.
+/// The origin as a signal with this badge carries it, if its thread has it at these places.
 pub(crate) fn given(
     alloc: Global,
     spot: &Option<Trace>,
@@ -185,7 +185,7 @@ pub(crate) fn given(
     Ok(Some(given))
 }
 
-/// What a thread takes from a notification.
+/// The origin as a thread takes it from a notification.
 pub(crate) fn taken(
     alloc: Global,
     spot: &Option<Trace>,
@@ -204,7 +204,7 @@ pub(crate) fn taken(
     }
 }
 
-/// The origin comes to a carrier. If it is there already, the first way stays.
+/// Gives the origin to a carrier. If the carrier has it already, the first way stays.
 pub(crate) fn join(spot: &mut Option<Trace>, more: Option<Trace>)
     ensures { spot.new ≡ joined more spot.old }
 {

@@ -40,7 +40,7 @@ impl Model for Trail {
     ghost view = { λ a. record { aim = a.aim; gone = a.steps; course = a.course; stances = a.stances.items } };
 }
 
-/// The answer that is looked for, and the source of its chain.
+/// The answer to follow, and the source of its chain.
 fn aim_of(parts: &SystemParts, answer: &Answer) -> Aim
     ensures { result ≡ aim_of parts.now answer.now }
 {
