@@ -1,4 +1,4 @@
-use Rattle.std.proofs.Common.{◌≡◌, ◌∙◌, ◌++◌, ap, append_assoc, flat_map}
+use Rattle.std.proofs.Common.{◌∙◌, ◌++◌, ap, append_assoc, flat_map}
 use Rattle.mcs_way.specs.Sums.{sums_of}
 use Rattle.mcs_way_lines.specs.Lines.{leg_text, sum_text}
 use Rattle.mcs_way_lines.proofs.way.put_way.Goals as goal
