@@ -16,23 +16,3 @@ get-other [] a zero e = absurd (e refl)
 get-other [] a (suc i) e = refl
 get-other (x ∷ answers) a zero e = refl
 get-other (x ∷ answers) a (suc i) e = get-other answers a i (λ h. e (omega arith))
-
--- it is the one that is looked for
-pub numbered-here : (number : ℕ) (answers : List Answer) (a : Answer) → number ≡ length answers + 1 → numbered number (answers ++ a ∷ []) ≡ Some a
-numbered-here number answers a e =
-    ap (λ b. if b then None else slice_get (answers ++ a ∷ []) (number - 1)) (ne_eqb number 0 (λ h. omega arith))
-    ∙ get-last answers a (number - 1) (omega arith)
-
--- it is another one
-pub numbered-other : (number : ℕ) (answers : List Answer) (a : Answer) → (number ≡ length answers + 1 → ⊥)
-    → numbered number (answers ++ a ∷ []) ≡ numbered number answers
-numbered-other number answers a differ = by (cases_eq number 0)
-  where
-    by : (number ≡ 0) ⊎ (number ≡ 0 → ⊥) → numbered number (answers ++ a ∷ []) ≡ numbered number answers
-    by (inl e) =
-        ap (λ b. if b then None else slice_get (answers ++ a ∷ []) (number - 1)) (eq-eqb number 0 e)
-        ∙ sym (ap (λ b. if b then None else slice_get answers (number - 1)) (eq-eqb number 0 e))
-    by (inr h) =
-        ap (λ b. if b then None else slice_get (answers ++ a ∷ []) (number - 1)) (ne_eqb number 0 h)
-        ∙ get-other answers a (number - 1) (λ e. differ (omega arith))
-        ∙ sym (ap (λ b. if b then None else slice_get answers (number - 1)) (ne_eqb number 0 h))

@@ -40,20 +40,6 @@ pub stance-told : (from : Option ℕ) (r : Row) (rows : List Row) → since_of r
 stance-told None r rows h = refl
 stance-told (Some from) r rows h = passed-from from r.moment (Some r.what) rows h
 
--- the origin comes to the thread or leaves it, and no tick is counted yet
-pub begins : (m : ℕ) (before after : Option ℕ) (rows : List Row) → since_of rows ≤ m → IsNext m before after → (before ≡ None) ⊎ (after ≡ None)
-    → no_ticks ≡ stood_of after rows
-begins m before None rows h next none = refl
-begins m None (Some from) rows h next none = sym (ap (λ f. stood_of (Some f) rows) next ∙ (none_yet rows m h).0)
-begins m (Some before) (Some from) rows h next (inl e) = absurd (cc)
-begins m (Some before) (Some from) rows h next (inr e) = absurd (cc)
-
--- it stays there
-pub stays : (m : ℕ) (before after : Option ℕ) (b a : ℕ) → before ≡ Some b → after ≡ Some a → IsNext m before after → before ≡ after
-stays m None after b a e f next = absurd (cc)
-stays m (Some before) None b a e f next = absurd (cc)
-stays m (Some before) (Some from) b a e f next = ap Some (sym next)
-
 -- whether a row decides how a thread stands
 tells-by : (what : What) (x k : ℕ) → subject what ≡ Some x → (x ≡ k → ⊥) → tells k what ≡ false
 tells-by (row.Release y) x k e differ = ne_eqb y k (λ h. differ (cc))

@@ -6,8 +6,3 @@ after-append : (xs ys : List (List ℕ)) → after (xs ++ ys) ≡ after xs ++ af
 after-append [] ys = refl
 after-append (x ∷ xs) ys =
     ap (λ l. 32 ∷ (x ++ l)) (after-append xs ys) ∙ ap (λ l. 32 ∷ l) (sym (append_assoc x (after xs) (after ys)))
-
--- words behind words
-pub then-words : (old now last : List ℕ) (xs ys : List (List ℕ)) → now ≡ old ++ after xs → last ≡ now ++ after ys → last ≡ old ++ after (xs ++ ys)
-then-words old now last xs ys before more =
-    more ∙ ap (λ l. l ++ after ys) before ∙ append_assoc old (after xs) (after ys) ∙ ap (λ l. old ++ l) (sym (after-append xs ys))
