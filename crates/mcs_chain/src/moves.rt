@@ -18,7 +18,7 @@ const ALL_BITS: u64 = (1 << 32) - 1;
 
 /// At which places a thread holds the origins that a wait gives it.
 #[derive(Clone, Copy, Debug, PartialEq, Eq)]
-pub(crate) enum Taking {
+pub enum Taking {
     /// The script's first wait keeps them at their bits, as far as these are among the given ones.
     First(u64),
     /// A later wait puts them at these places.
@@ -27,7 +27,7 @@ pub(crate) enum Taking {
 
 /// The effect of a row on the sets of origins.
 #[derive(Clone, Copy, Debug, PartialEq, Eq)]
-pub(crate) enum Move {
+pub enum Move {
     /// No origins.
     Nothing,
     /// The source's interrupt is an origin, and is posted with this badge.

@@ -1,0 +1,3 @@
+pub mod Appended
+pub mod Behind
+mod Worked

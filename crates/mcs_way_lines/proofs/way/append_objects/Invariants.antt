@@ -1,0 +1,7 @@
+use Rattle.std.proofs.Common.{◌≡◌, ◌++◌, drop, flat_map}
+use Rattle.mcs_way_lines.specs.Lines.{leg_object}
+use Rattle.mcs_way_lines.proofs.way.append_objects.Given as goal
+
+abbrev pub invariant-loop-leg : goal.invariant-loop-leg
+invariant-loop-leg l =
+    l.text.items ++ flat_map (leg_object l.system) (drop l.leg-index l.way) ≡ l.initial.text.items ++ flat_map (leg_object l.system) l.way
