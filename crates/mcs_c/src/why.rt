@@ -1,4 +1,5 @@
-//! Why a round of a text took so long, or the line of what is wrong with the question.
+//! Why a round of a text took so long, the way of an answer, or the line of what is wrong with the
+//! question.
 ghost use Rattle.std.specs.Prelude.{◌≡◌, ◌≤◌, ◌<◌, ◌^◌, ◌⊎◌, ℕ, List, IsUtf8, Ok, false, true, length, take, drop, IfOk, IfSome, string_bytes};
 ghost use Rattle.mcs_cli.specs.Run.{loaded};
 ghost use Rattle.mcs_check_words.specs.CommandLine.{question_texts};
@@ -35,7 +36,7 @@ fn told(alloc: Global, fault: &WhyFault) -> Verdict
     }
 }
 
-/// Explains a round of a system.
+/// Explains a round or an answer of a system.
 fn answer_of(alloc: Global, system: System, options: &Options, question: &Question) -> Verdict
     requires { is_mixed options.now ≡ false }
     ensures verdict { (text : List ℕ) → loaded text ≡ Ok system
@@ -50,7 +51,7 @@ fn answer_of(alloc: Global, system: System, options: &Options, question: &Questi
     }
 }
 
-/// Explains a round of the system that a text describes.
+/// Explains a round or an answer of the system that a text describes.
 fn answer_on(alloc: Global, text: &[u8], options: &Options, question: &Question) -> Verdict
     requires { is_mixed options.now ≡ false }
     ensures verdict { IsVerdict (IsWhyText text.now (question_texts question.now) options.now.horizon options.now.format)
@@ -64,7 +65,7 @@ fn answer_on(alloc: Global, text: &[u8], options: &Options, question: &Question)
     }
 }
 
-/// The question for a round of a thread.
+/// The question for a round of a thread or an answer of a chain.
 fn question_of(alloc: Global, thread: &str, round: &str) -> Result<Question, AllocError>
     ensures { IfOk result (λ question. question_texts question ≡ (thread.now, round.now)) }
 {
@@ -74,17 +75,18 @@ fn question_of(alloc: Global, thread: &str, round: &str) -> Result<Question, All
     })
 }
 
-/// Explains why a round of a thread took so long, in the system that a text describes, up to a
-/// horizon of at most 2^40 ticks, on the calling thread only.
+/// Explains why a round of a thread took so long, or which way an answer of a chain came, in the
+/// system that a text describes, up to a horizon of at most 2^40 ticks, on the calling thread only.
 ///
-/// `thread` is the name of the thread, and `round` has the digits of the round's number, from 1.
-/// `format` selects the format of the lines: 0 text, 2 JSON.
+/// `thread` is the name of the thread, and `round` has the digits of the round's number, from 1. If
+/// no thread has the name, it is that of a chain, and the number is that of an answer. `format`
+/// selects the format of the lines: 0 text, 2 JSON.
 ///
 /// The lines are written to the start of the room, and their number of bytes to `length_of`. Later
 /// bytes of the room stay as they were. The result is one of these codes:
 /// - 0: the lines that `mcscheck --why` prints, each with its line feed.
-/// - 1: the line that `mcscheck` prints of the text's first fault, or of a thread or a round that
-///   is not there, without a line feed.
+/// - 1: the line that `mcscheck` prints of the text's first fault, or of a name, a round or an
+///   answer that is not there, without a line feed.
 /// - 2: the room is too small. `length_of` is the number of bytes needed, and the room is
 ///   unchanged.
 /// - 3: the horizon or `format` is invalid, or `thread` or `round` is not UTF-8. `length_of` is 0,

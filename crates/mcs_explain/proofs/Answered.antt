@@ -1,17 +1,19 @@
--- Explanations of rounds, worked by hand.
-use Rattle.std.specs.Prelude.{◌≡◌, ◌++◌, ℕ, List, [], ◌∷◌, Some, None, codes, refl}
+-- Explanations of rounds and of answers, worked by hand.
+use Rattle.std.specs.Prelude.{◌≡◌, ◌++◌, ℕ, List, [], ◌∷◌, Some, codes, refl}
 use Rattle.std.specs.Fmt.{digits}
 use Rattle.serde_json.proofs.OnLiterals.{serde_json_on_literals}
 use Rattle.mcs_script.specs.declared.item.Item.{Item}
 use Rattle.mcs_script.specs.declared.item.Item.TheVariants.{Compute, Signal, Wait}
 use Rattle.mcs_control.specs.declared.config.Mode.TheVariants as mode
+use Rattle.mcs_system.specs.declared.part.ChainPart.{ChainPart}
 use Rattle.mcs_system.specs.declared.part.ContextPart.{ContextPart}
 use Rattle.mcs_system.specs.declared.part.ThreadPart.{ThreadPart}
 use Rattle.mcs_system.specs.System.{System}
-use Rattle.mcs_why.specs.declared.span.Sought.TheVariants.{Missing}
 use Rattle.mcs_check_words.specs.declared.asked.Format.TheVariants as format
-use Rattle.mcs_explain.specs.Asked.{round_number, thread_named}
-use Rattle.mcs_explain.specs.Why.{round_of, why_text}
+use Rattle.mcs_explain.specs.declared.asked.Asked.TheVariants as asked
+use Rattle.mcs_explain.specs.declared.found.Found.TheVariants as found
+use Rattle.mcs_explain.specs.Asked.{asked_of, round_number, thread_named}
+use Rattle.mcs_explain.specs.Why.{found_of, why_text}
 
 abbrev context : List ℕ → ℕ → ContextPart
 context name budget =
@@ -60,21 +62,83 @@ unfolding system digits serde_json_on_literals
 as_objects = refl
 
 -- It has no third round, and the low one no second, since it is done after its first.
-two_rounds : round_of system 9 (codes "High", codes "3") ≡ Some (Missing 2)
+two_rounds : found_of system 9 (codes "High", codes "3") ≡ found.NoRound 2
 unfolding system
 two_rounds = refl
 
-one_round : round_of system 9 (codes "Low", codes "2") ≡ Some (Missing 1)
+one_round : found_of system 9 (codes "Low", codes "2") ≡ found.NoRound 1
 unfolding system
 one_round = refl
 
-no_thread : round_of system 9 (codes "Hihg", codes "1") ≡ None
+no_thread : found_of system 9 (codes "Hihg", codes "1") ≡ found.Nobody
 unfolding system
 no_thread = refl
 
 second_thread : thread_named system.threads (codes "High") ≡ Some 1
 unfolding system
 second_thread = refl
+
+-- a thread on a context of its own, whose budget is its period
+abbrev whole : List ℕ → ℕ → ContextPart
+whole name core =
+    record { name = name; core = core; config = record { budget = 100; period = 100; extra = 0 }; mode = mode.Sporadic }
+
+abbrev waiting : List ℕ → ℕ → List Item → ThreadPart
+waiting name context script =
+    record { name = name; context = context; priority = 5; start = 0; rounds = 0; deadline = 0; script = script }
+
+abbrev chain : List ℕ → ChainPart
+chain name = record { name = name; source = 0; thread = 1; badges = 0; deadline = 7 }
+
+-- An interrupt each 10 ticks wakes D, the first one at 3. The signal of D leaves 3 ticks later and wakes C on the other core 2 later. The
+-- job of C takes 4. One chain has the name of the thread.
+two_cores : System
+two_cores =
+    record {
+      cores = 2;
+      delay = 2;
+      call = 1;
+      min_budget = 1;
+      contexts = whole (codes "d") 0 ∷ whole (codes "c") 1 ∷ [];
+      notes = record { name = codes "n"; core = 0; word = 0 } ∷ record { name = codes "p"; core = 1; word = 0 } ∷ [];
+      threads = waiting (codes "D") 0 (Wait 0 ∷ Compute 2 ∷ Signal 1 1 ∷ []) ∷ waiting (codes "C") 1 (Wait 1 ∷ Compute 4 ∷ []) ∷ [];
+      orders = [];
+      links = [];
+      servers = 0;
+      sources = record { name = codes "s"; note = 0; badge = 1 } ∷ [];
+      beats = record { source = 0; first = 3; period = 10; count = 0 } ∷ [];
+      chains = chain (codes "packet") ∷ chain (codes "C") ∷ [];
+    }
+
+way : why_text format.Text two_cores 12 (codes "packet", codes "1")
+    ≡ codes "12 1 answer packet round 1 origin 3 latency 9 deadline 7\n3 0 ran D to 6 ticks 3 ready 0 running 3 throttled 0 blocked 0\n"
+    ++ codes "6 0 delay core 1 to 8 ticks 2\n8 1 ran C to 12 ticks 4 ready 0 running 4 throttled 0 blocked 0\n"
+    ++ codes "sum ticks 9 held 0 delay 2 ready 0 running 7 throttled 0 blocked 0\n"
+unfolding two_cores digits
+way = refl
+
+-- the second interrupt is answered at 22
+one_answer : found_of two_cores 12 (codes "packet", codes "2") ≡ found.NoAnswer 1
+unfolding two_cores
+one_answer = refl
+
+-- no interrupt was answered up to 11
+no_answer : found_of two_cores 11 (codes "packet", codes "1") ≡ found.NoAnswer 0
+unfolding two_cores
+no_answer = refl
+
+-- names of a chain, of both, and of nobody
+chain_asked : asked_of two_cores (codes "packet") ≡ asked.Answer 0
+unfolding two_cores
+chain_asked = refl
+
+thread_first : asked_of two_cores (codes "C") ≡ asked.Round 1
+unfolding two_cores
+thread_first = refl
+
+nobody_asked : asked_of two_cores (codes "packt") ≡ asked.Nobody
+unfolding two_cores
+nobody_asked = refl
 
 -- texts as numbers
 twelve : round_number (codes "12") ≡ 12

@@ -1,4 +1,6 @@
 mod Seekers
+mod AnswerSeekers
+mod Followers
 mod Tellers
 mod Numbers
 mod Spans

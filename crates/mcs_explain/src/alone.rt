@@ -2,7 +2,7 @@
 ghost use Rattle.std.specs.Prelude.{◌≡◌, false, true, IfErr, IfOk, OnOk};
 ghost use Rattle.mcs_check_words.specs.CommandLine.{question_texts};
 ghost use Rattle.mcs_explain.specs.Explained.{IsUnexplained};
-ghost use Rattle.mcs_explain.specs.Why.{is_mixed, is_there, round_of, why_text};
+ghost use Rattle.mcs_explain.specs.Why.{found_of, is_mixed, is_there, why_text};
 
 use crate::WhyFault;
 use crate::refusals::is_mixed;
@@ -14,10 +14,11 @@ use mcs_system::System;
 use mcs_team::SimFault;
 use std::alloc::Global;
 
-/// Explains a round of a system on this thread alone, and returns the text that `explain` writes of
-/// it. Needs no handle.
+/// Explains a round or an answer of a system on this thread alone, and returns the text that
+/// `explain` writes of it. Needs no handle.
 ///
-/// Errors: `Mixed`, `NoThread` and `NoRound` as `explain` has them; `Sim` if an allocation failed.
+/// Errors: `Mixed`, `NoThread`, `NoName`, `NoRound` and `NoAnswer` as `explain` has them; `Sim` if
+/// an allocation failed.
 pub fn explain_alone(
     alloc: Global,
     system: System,
@@ -26,7 +27,7 @@ pub fn explain_alone(
 ) -> Result<Vec<u8>, WhyFault>
     ensures text { IfOk result (λ text. text.items
         ≡ why_text options.now.format system options.now.horizon (question_texts question.now)) }
-    ensures there { OnOk result (is_there (round_of system options.now.horizon (question_texts question.now)) ≡ true) }
+    ensures there { OnOk result (is_there (found_of system options.now.horizon (question_texts question.now)) ≡ true) }
     ensures matched { OnOk result (is_mixed options.now ≡ false) }
     ensures fault { IfErr result (IsUnexplained options.now (question_texts question.now) system) }
 {

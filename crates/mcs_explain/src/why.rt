@@ -1,4 +1,4 @@
-//! Why a round took so long, from the bytes read to the lines written.
+//! Why a round took so long, or the way of an answer, from the bytes read to the lines written.
 ghost use Rattle.std.specs.Prelude.{◌≡◌, ℕ, Bool, List, Option, None, Err, true, false, IfSome};
 ghost use Rattle.mcs_cli.specs.declared.fault.RunFault.TheVariants as fault;
 ghost use Rattle.mcs_check_words.specs.CommandLine.{question_texts};
@@ -6,23 +6,23 @@ ghost use Rattle.mcs_explain.specs.Explained.{IsExplained, IsTold};
 ghost use Rattle.mcs_explain.specs.declared.why_fault.WhyFault.TheVariants.{Run};
 
 use crate::WhyFault;
-use crate::asked::{round_number, thread_named};
-use crate::refusals::{is_mixed, no_round, no_thread};
-use crate::round::{find_round, write_span};
+use crate::found::{Found, find};
+use crate::refusals::{is_mixed, no_answer, no_round, nobody};
+use crate::round::write_span;
+use crate::way::write_way;
 use mcs_check_run::{Machine, Progress, Runner, Team};
 use mcs_check_words::{Options, Question};
 use mcs_cli::{FromRead, RunFault, Source, Target, read_system};
 use mcs_system::System;
 use mcs_team::SimFault;
-use mcs_why::Sought;
 use std::alloc::Global;
 use std::fs::File;
 use std::rt::Files;
 use std::sync::{Arc, Wait};
 use std::thread::Threads;
 
-/// Explains a round of the system in the file that the options name, or in the input if they name
-/// none. A file that cannot be opened is `Read`. No contract knows the bytes of a file: the lines
+/// Explains a round or an answer of the system in the file that the options name, or in the input
+/// if they name none. A file that cannot be opened is `Read`. No contract knows the bytes of a file: the lines
 /// are those of some text.
 pub fn explain_with<H: Files + Threads + Wait + Sync, S: Source, T: Target, P: Progress>(
     rt: &H,
@@ -58,14 +58,16 @@ pub fn explain_with<H: Files + Threads + Wait + Sync, S: Source, T: Target, P: P
     }
 }
 
-/// Reads a system, simulates it twice, and writes why the round that is asked about took so long.
+/// Reads a system, simulates it twice, and writes why the round that is asked about took so long, or
+/// which way the answer came. A name is that of a thread, or if none has it, that of a chain.
 ///
-/// The rows of its core come first. They begin at its activation, or when its thread began to wait
-/// for the word that began it, and end with the round or at the horizon. Then come the round's
-/// times, how long each thread ran meanwhile, and how long the core was idle. The bytes are the
-/// same for every number of workers. Neither device may have failed before; a device is blamed only
-/// if it has failed. After `Mixed`, `Read`, `Load`, `NoThread` and `NoRound` no byte was written,
-/// after `Sim` and `Write` a prefix.
+/// The rows of a round's core come first. They begin at its activation, or when its thread began to
+/// wait for the word that began it, and end with the round or at the horizon. Then come the round's
+/// times, how long each thread ran meanwhile, and how long the core was idle. Of an answer the legs
+/// from the interrupt to the end of the round are written. The bytes are the same for every number
+/// of workers. Neither device may have failed before; a device is blamed only if it has failed.
+/// After `Mixed`, `Read`, `Load`, `NoThread`, `NoName`, `NoRound` and `NoAnswer` no byte was
+/// written, after `Sim` and `Write` a prefix.
 pub fn explain<H: Threads + Wait + Sync, S: Source, T: Target, P: Progress>(
     rt: &H,
     alloc: Global,
@@ -97,7 +99,7 @@ pub fn explain<H: Threads + Wait + Sync, S: Source, T: Target, P: Progress>(
     answer(&machine, target, system, options, question, progress)
 }
 
-/// Explains a round of this system.
+/// Explains a round or an answer of this system.
 pub(crate) fn answer<R: Runner, T: Target, P: Progress>(
     machine: &Machine<'_, R>,
     target: &mut T,
@@ -112,18 +114,21 @@ pub(crate) fn answer<R: Runner, T: Target, P: Progress>(
         system result }
     ensures blamed { T.has_failed target.new ≡ true → result ≡ Err (Run fault.Write) }
 {
-    let Some(thread) = thread_named(system.parts(), question.thread.as_str()) else {
-        return Err(no_thread(machine.alloc, system.parts(), question.thread.as_str()));
-    };
     let Ok(system) = Arc::new(machine.alloc, system) else {
         return Err(WhyFault::Run(RunFault::Sim(SimFault::NoMemory)));
     };
-    let number = round_number(question.round.as_str());
-    match find_round(machine, &system, thread, number, options, progress)? {
-        Sought::There(span) => {
+    let found = find(machine, &system, question, options, progress)?;
+    match found {
+        Found::Round(span) => {
             write_span(machine, target, &system, &span, options, progress)?;
             Ok(())
         }
-        Sought::Missing(rounds) => Err(no_round(machine.alloc, question, rounds)),
+        Found::Answer(answer) => {
+            write_way(machine, target, &system, &answer, options, progress)?;
+            Ok(())
+        }
+        Found::NoRound(rounds) => Err(no_round(machine.alloc, question, rounds)),
+        Found::NoAnswer(answers) => Err(no_answer(machine.alloc, question, answers)),
+        Found::Nobody => Err(nobody(machine.alloc, system.parts(), question.thread.as_str())),
     }
 }

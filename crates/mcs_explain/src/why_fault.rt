@@ -1,25 +1,33 @@
-ghost use Rattle.std.specs.Prelude.{◌≡◌, Some};
-ghost use Rattle.mcs_explain.specs.WhyFault.{rounds_text, status_of, why_fault_text};
+ghost use Rattle.std.specs.Prelude.{◌≡◌, Some, option_map, string_bytes};
+ghost use Rattle.mcs_explain.specs.WhyFault.{answers_text, nearest_text, rounds_text, status_of, why_fault_text};
 ghost use Rattle.mcs_explain.specs.declared.why_fault.WhyFault.TheVariants.{Run};
 
 use mcs_check_run::CheckFault;
 use mcs_cli::RunFault;
 use std::fmt;
 
-/// Why a round could not be explained. Its text is the line that the program writes to standard
-/// error.
+/// Why a round or an answer could not be explained. Its text is the line that the program writes to
+/// standard error.
 #[derive(Debug, PartialEq, Eq, Drop)]
 pub enum WhyFault {
     /// The source failed, its text is no system, memory ran out, or the target failed.
     Run(RunFault),
     /// An option has nothing to do with a round: findings, figures, or rows of CSV.
     Mixed,
-    /// The system has no such thread.
+    /// The system has no such thread, and no chain.
     NoThread {
         /// The name that was given.
         name: String,
         /// The nearest name of a thread, the first of equally near ones. `None` if there is no
         /// thread, or if `name` has more than 64 bytes.
+        nearest: Option<String>,
+    },
+    /// The system has chains, but no thread and no chain of this name.
+    NoName {
+        /// The name that was given.
+        name: String,
+        /// The nearest name of a thread or a chain. Among equally near ones threads come first, in
+        /// file order. `None` if `name` has more than 64 bytes.
         nearest: Option<String>,
     },
     /// The thread has no such round.
@@ -29,6 +37,14 @@ pub enum WhyFault {
         /// The round that was given, as its argument has it.
         round: String,
         rounds: Rounds,
+    },
+    /// The chain has no such answer.
+    NoAnswer {
+        /// The chain's name.
+        chain: String,
+        /// The answer's number that was given, as its argument has it.
+        number: String,
+        answers: Answers,
     },
 }
 
@@ -52,6 +68,40 @@ impl fmt::Display for Rounds {
     }
 }
 
+/// The number of answers of a chain. Its text says which there are.
+#[derive(Clone, Copy, Debug, PartialEq, Eq)]
+pub struct Answers(pub u64);
+
+impl fmt::Display for Answers {
+    ghost output = { λ answers. Some (answers_text answers.0) };
+
+    fn fmt<W: fmt::Write>(&self, f: &mut fmt::Formatter<W>) -> fmt::Result {
+        let answers = self.0;
+        if answers == 0 {
+            f.write_str("there is none")
+        } else if answers == 1 {
+            f.write_str("there is answer 1")
+        } else {
+            write!(f, "there are answers 1 to {answers}")
+        }
+    }
+}
+
+/// The end of a line about a name that nothing has.
+#[derive(Clone, Copy, Drop)]
+struct Nearest<'a>(&'a Option<String>);
+
+impl fmt::Display for Nearest<'_> {
+    ghost output = { λ nearest. Some (nearest_text (option_map string_bytes nearest.0.now)) };
+
+    fn fmt<W: fmt::Write>(&self, f: &mut fmt::Formatter<W>) -> fmt::Result {
+        match self.0 {
+            Some(near) => write!(f, "the nearest is {near}"),
+            None => f.write_str("there is none"),
+        }
+    }
+}
+
 impl fmt::Display for WhyFault {
     ghost output = { why_fault_text };
 
@@ -64,20 +114,20 @@ impl fmt::Display for WhyFault {
             WhyFault::Mixed => f.write_str(
                 "mcscheck: --why: not with --show, --strict, --allow-lost or --format csv",
             ),
-            WhyFault::NoThread {
-                name,
-                nearest: Some(near),
-            } => write!(
-                f,
-                "mcscheck: --why: no thread is called {name:?}: the nearest is {near}"
-            ),
-            WhyFault::NoThread {
-                name,
-                nearest: None,
-            } => write!(
-                f,
-                "mcscheck: --why: no thread is called {name:?}: there is none"
-            ),
+            WhyFault::NoThread { name, nearest } => {
+                let nearest = Nearest(nearest);
+                write!(
+                    f,
+                    "mcscheck: --why: no thread is called {name:?}: {nearest}"
+                )
+            }
+            WhyFault::NoName { name, nearest } => {
+                let nearest = Nearest(nearest);
+                write!(
+                    f,
+                    "mcscheck: --why: no thread or chain is called {name:?}: {nearest}"
+                )
+            }
             WhyFault::NoRound {
                 thread,
                 round,
@@ -85,6 +135,14 @@ impl fmt::Display for WhyFault {
             } => write!(
                 f,
                 "mcscheck: --why: no round {round:?} of {thread}: {rounds}"
+            ),
+            WhyFault::NoAnswer {
+                chain,
+                number,
+                answers,
+            } => write!(
+                f,
+                "mcscheck: --why: no answer {number:?} of {chain}: {answers}"
             ),
         }
     }

@@ -6,4 +6,6 @@ mod alone;
 #[cfg(test)]
 mod asked;
 #[cfg(test)]
+mod chains;
+#[cfg(test)]
 mod why;
