@@ -22,8 +22,8 @@ use std::sync::{Arc, Wait};
 use std::thread::Threads;
 
 /// Explains a round or an answer of the system in the file that the options name, or in the input
-/// if they name none. A file that cannot be opened is `Read`. No contract knows the bytes of a file: the lines
-/// are those of some text.
+/// if they name none. A file that cannot be opened is `Read`. No contract knows the bytes of a
+/// file: the lines are those of some text.
 pub fn explain_with<H: Files + Threads + Wait + Sync, S: Source, T: Target, P: Progress>(
     rt: &H,
     alloc: Global,
@@ -58,8 +58,8 @@ pub fn explain_with<H: Files + Threads + Wait + Sync, S: Source, T: Target, P: P
     }
 }
 
-/// Reads a system, simulates it twice, and writes why the round that is asked about took so long, or
-/// which way the answer came. A name is that of a thread, or if none has it, that of a chain.
+/// Reads a system, simulates it twice, and writes why the round that is asked about took so long,
+/// or which way the answer came. A name is that of a thread, or if none has it, that of a chain.
 ///
 /// The rows of a round's core come first. They begin at its activation, or when its thread began to
 /// wait for the word that began it, and end with the round or at the horizon. Then come the round's
