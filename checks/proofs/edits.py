@@ -183,13 +183,13 @@ def try_together(rt: Any, crate: Any, edits: Sequence[pathlib.Path]) -> Iterator
     kept = f'{crate.folder}/out/incremental'
     os.makedirs(kept, exist_ok=True)
     planted = [edits_together.planted(rt, source, crate.folder, edit) for edit in edits]
-    for group in edits_together.groups(filter(None, planted)):
-        begun = used()
-        came = edits_together.tried(rt, crate, source, group, kept)
+    begun = used()
+    for group, came in edits_together.settled(rt, crate, source, filter(None, planted), kept):
         share = (used() - begun) / len(group)
         for edit, found in came.items():
             verdict = WEAK if found.is_named else GAVE_UP if found.is_at_limit else REFUSED
             yield Tried(f'{crate.name}/{edit.stem}', verdict, share, found.why)
+        begun = used()
 
 
 def try_alone(rt: Any, crate: Any, edits: Sequence[pathlib.Path], jobs: int) -> Iterator[Tried]:

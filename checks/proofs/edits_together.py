@@ -153,3 +153,16 @@ def tried(rt: Any, crate: Any, source: Any, group: Sequence[Planted], kept: str)
         return {}
     half = len(group) // 2
     return {**tried(rt, crate, source, group[:half], kept), **tried(rt, crate, source, group[half:], kept)}
+
+
+def settled(rt: Any, crate: Any, source: Any, edits: Iterable[Planted], kept: str) -> Iterator[tuple[list[Planted], dict[pathlib.Path, Found]]]:
+    """Each group that is tried, with those of its edits that are refused. Edits that are left are tried again while some are refused: a check says nothing of
+    a function if one that it calls is refused in the same group."""
+    left = list(edits)
+    while left:
+        came: dict[pathlib.Path, Found] = {}
+        for group in groups(left):
+            refused = tried(rt, crate, source, group, kept)
+            yield group, refused
+            came.update(refused)
+        left = [it for it in left if it.edit not in came] if came else []

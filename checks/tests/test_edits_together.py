@@ -5,6 +5,7 @@ import pathlib
 import types
 import unittest
 from typing import Any
+from unittest import mock
 
 from checks.proofs import edits_together
 from checks.proofs.edits_together import Found, Planted, Written
@@ -149,6 +150,31 @@ class Groups(Checkout):
 
     def test_a_function_of_another_name_is_left_out(self) -> None:
         self.assertEqual(self.tried('Sum::last', 'rattle: error: `crate` has no function `Sum::last`: help: write'), (['one'], 2))
+
+
+class Rounds(Checkout):
+    """What is left is tried again while some edits are refused."""
+
+    def rounds(self, *each: set[str]) -> list[tuple[list[str], list[str]]]:
+        """The groups and what was refused of them, if these names are refused one check after another."""
+        says = iter(each)
+
+        def tried(rt: Any, crate: Any, source: Any, group: list[Planted], kept: str) -> dict[pathlib.Path, Found]:
+            refused = next(says)
+            return {it.edit: Found(False, 'a goal') for it in group if it.edit.stem in refused}
+
+        with mock.patch.object(edits_together, 'tried', tried):
+            found = edits_together.settled(None, None, self.source, self.both(), 'kept')
+            return [([it.edit.stem for it in group], [edit.stem for edit in came]) for group, came in found]
+
+    def test_edits_that_are_all_refused_are_tried_once(self) -> None:
+        self.assertEqual(self.rounds({'one', 'other'}), [(['one', 'other'], ['one', 'other'])])
+
+    def test_a_caller_is_tried_again_without_what_it_calls(self) -> None:
+        self.assertEqual(self.rounds({'one'}, {'other'}), [(['one', 'other'], ['one']), (['other'], ['other'])])
+
+    def test_nothing_is_tried_again_after_a_round_without_a_refusal(self) -> None:
+        self.assertEqual(self.rounds({'one'}, set()), [(['one', 'other'], ['one']), (['other'], [])])
 
 
 if __name__ == '__main__':
