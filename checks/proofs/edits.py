@@ -12,7 +12,8 @@ refused there, and tells of each edit its share of the CPU seconds. It wants the
 
 Each edit is tried by the kit's own means, on a copy of the crate, over what a check of the crate as it stands proved. A line for each says
 what came of it, in how many CPU seconds, and the first words of the refusal. It passes where the prover refuses it for a goal; not
-where it is still proved, cannot be applied or read, is refused only since a proof names what it took away, or meets a limit of the whole check.
+where it is still proved, cannot be applied or read, is refused only since a proof names what it took away or since no proof covers what it does, or meets
+a limit of the whole check.
 'gave up' is a refusal at each goal of which a search met a limit of its own: such an edit costs more and tells less, so it has no place in must-fail.
 
 The last line is 'N passed, M failed', and the status is 0 where M is 0."""
@@ -40,7 +41,7 @@ TOP = pathlib.Path(__file__).resolve().parents[2]
 sys.path[0] = str(TOP)
 from checks.proofs import edits_table, edits_together
 
-REFUSED, GAVE_UP, WEAK, LIMIT, STANDS, BAD, UNKNOWN = 'refused', 'gave up', 'names gone', 'limit', 'NOT REFUSED', 'bad', 'not tried'
+REFUSED, GAVE_UP, WEAK, NO_GOAL, LIMIT, STANDS, BAD, UNKNOWN = 'refused', 'gave up', 'names gone', 'no goal', 'limit', 'NOT REFUSED', 'bad', 'not tried'
 # how many characters of a refusal are shown
 SHOWN = 160
 
@@ -129,6 +130,8 @@ def verdict_of(kind: str, said: str, output: str = '') -> tuple[str, str]:
         if first.startswith('(only because a proof file names'):
             return WEAK, first
         goals = edits_together.goals_of(output.split('\n'))
+        if not goals and not first:
+            return NO_GOAL, 'the check says nothing of a goal, as of a function that no proof covers'
         return (GAVE_UP, first) if goals and goals[0] else (REFUSED, goals[1] if goals else first)
     return {'limit': LIMIT, 'missed': STANDS, 'bad': BAD}.get(kind, UNKNOWN), first
 

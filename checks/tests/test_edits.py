@@ -77,6 +77,12 @@ class Verdicts(unittest.TestCase):
         found = edits.verdict_of('refused', f'must-fail low/a.edit: refused, as it must be: {lines[0]}', '\n'.join(lines))
         self.assertEqual(found, (edits.REFUSED, lines[1]))
 
+    def test_a_refusal_without_a_goal_shows_nothing(self) -> None:
+        output = 'fn Account::end: no proof: the borrow checker does not cover this function yet: src/account.rt:200:9: a field is written with a struct'
+        verdict, _ = edits.verdict_of('refused', 'must-fail low/a.edit: refused, as it must be', output)
+        self.assertEqual(verdict, edits.NO_GOAL)
+        self.assertFalse(edits.Tried('low/a', verdict, 1.0, '').passed)
+
     def test_a_proof_that_names_what_is_gone_shows_nothing(self) -> None:
         said = 'must-fail low/a.edit: refused, as it must be (only because a proof file names what the edit took away, so this says little): proofs/A.antt:1:1'
         self.assertEqual(edits.verdict_of('refused', said)[0], edits.WEAK)
