@@ -90,10 +90,17 @@ class Written:
             self.texts[file] = (text + source.data[file][at:]).decode()
 
 
+def name_of(block: Any) -> str:
+    """A check's name for an implementation of a trait: the type and the trait in one word, as `VecRowSink`, without modules, lifetimes and parameters."""
+    words = [*block.ty, *block.trait, '']
+    left_out = {*block.generics, 'mut', 'const', 'dyn', 'fn', 'Self'}
+    return ''.join(word for word, behind in zip(words, words[1:]) if word.isidentifier() and behind != ':' and word not in left_out)
+
+
 def end_of(function: Any) -> list[str]:
-    """The last words of a check's name for a function. A method's type may be declared in another module; a trait's method has a name of the check's own."""
+    """The last words of a check's name for a function. A method's type may be declared in another module."""
     if function.in_trait:
-        return [function.name]
+        return [name_of(function.block), function.name]
     return [function.owner, function.name] if function.block else [*function.module, function.name]
 
 

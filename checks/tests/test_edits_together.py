@@ -115,11 +115,11 @@ class Answers(Checkout):
         self.assertEqual(self.found(said)[1], None)
 
     def test_a_method_of_a_trait_has_the_name_that_fits(self) -> None:
-        block = types.SimpleNamespace(fits=lambda name: 'Sum' in name)
+        block = types.SimpleNamespace(fits=lambda name: 'Sum' in name, ty=['Sum', '<', "'_", ',', 'S', '>'], trait=['fmt', ':', ':', 'Sink'], generics=['S'])
         it = function('first', in_trait=True, block=block)
         known = ['crate::sum::SumSink::first', 'crate::sum::OtherSink::first', 'crate::sum::SumSink::last']
         self.assertEqual(edits_together.symbols('crate', it, known), known[:1])
-        self.assertEqual(edits_together.end_of(it), ['first'])
+        self.assertEqual(edits_together.end_of(it), ['SumSink', 'first'])
 
     def test_a_method_is_found_by_its_type_and_a_function_by_its_module(self) -> None:
         known = ['crate::parts::Sum::first', 'crate::sum::first', 'crate::sum::Other::first']
