@@ -307,7 +307,7 @@ class Book:
         """Puts a row into the table at once, and drops rows whose edit is gone."""
         if not self.is_kept:
             return
-        rows = {name: row for name, row in edits_table.read(edits_table.TABLE).items() if name in self.digests}
+        rows = edits_table.standing(edits_table.read(edits_table.TABLE), self.sources)
         crate, edit = tried.name.split('/')
         rows[tried.name] = edits_table.Row(crate, edit, tried.verdict, f'{tried.seconds:.0f}', edits_table.goal_of(tried.why)[:SHOWN], self.digests[tried.name])
         edits_table.write(edits_table.TABLE, rows.values())
