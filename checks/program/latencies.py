@@ -2,8 +2,9 @@
 """Checks that mcscheck reports chains as a second, plain reading of the rows finds them, byte for byte, on 200 random systems of version 3.
 
 First come four systems whose lines are worked by hand. Then each random system with a chain is tried: findings, jobs, the table, and findings with it, as
-text, CSV and JSON, with --strict and several workers or without, and the exit code. It is tried again with a deadline that an answer just meets or just misses, up to
-the end of this answer or about the time at which an interrupt had to be answered. The percentiles of latencies follow the rule of those of responses.
+text, CSV and JSON, with --strict and several workers or without, and the exit code; and of each chain the way of an answer (way_reading.py). It is tried
+again with a deadline that an answer just meets or just misses, up to the end of this answer or about the time at which an interrupt had to be answered.
+The percentiles of latencies follow the rule of those of responses.
 
 What was seen nowhere is a failure: a test that sees nothing of it tells nothing."""
 from __future__ import annotations
@@ -21,10 +22,11 @@ sys.dont_write_bytecode = True
 sys.path[0] = str(pathlib.Path(__file__).resolve().parents[2])
 from checks import common
 from checks.common import Ran
-from checks.program import reading, verdicts, ways
+from checks.program import reading, verdicts, way_reading, ways
 from checks.program.chain_reading import ChainReading
 from checks.program.chained import Chained, figures
 from checks.program.verdicts import System, answer, parted
+from checks.program.way_reading import Ways
 from checks.random_systems import text_of
 
 HORIZONS = (0, 1, 60, 200, 400, 1000, 1000)
@@ -33,7 +35,7 @@ SEEN = (
     'slow', 'unanswered', 'slow of two chains at one time', 'a row and an answer at one time', 'slow at the horizon', 'unanswered behind others',
     'found of chains alone', 'two slow answers of one job', 'a slow answer and another of one job', 'no answer', 'no deadline', 'margin above 0', 'margin 0',
     'margin below 0', 'a percentile below the greatest', 'a percentile at the end of its bucket', 'unjudged behind unanswered', 'judged by chains alone',
-    'no deadline of a thread', 'a job without an answer', 'two answers of one job', 'answers of two chains by one job', 'status 0', 'status 2', 'status 5', 'status 6',
+    'no such answer', *way_reading.SEEN, 'no deadline of a thread', 'a job without an answer', 'two answers of one job', 'answers of two chains by one job', 'status 0', 'status 2', 'status 5', 'status 6',
 )
 # how the lines of threads and contexts begin
 OF_OTHERS = ('thread ', 'thread,', 'context ', '{"kind":"thread"', '{"kind":"context"')
@@ -192,26 +194,30 @@ class Trial(verdicts.Trial):
     def worked(self, known: Known) -> None:
         """A system that was worked by hand."""
         system = System('worked', known.text, known.horizon)
-        if found := self.read(system):
-            self.seen.update(shown(found))
+        if read := self.read(system):
+            self.seen.update(shown(read.found))
         ran = self.check(system, known.words)
         lines = [line for line in ran.stdout.decode().splitlines(keepends=True) if not line.startswith(OF_OTHERS)]
         self.count.expect(f'--horizon {known.horizon} {known.words}: {ran}', (ran.status, ''.join(lines), ran.stderr) == (known.status, known.wanted, b''))
 
-    def read(self, system: System) -> Chained | None:
+    def read(self, system: System) -> Ways | None:
         """The second reading of a system, if it has a chain and is not refused."""
         simulated = common.run([self.simulator, '--horizon', str(system.horizon), '--show', 'both'], system.text.encode())
         tables = tomllib.loads(system.text)
         if simulated.status or not tables.get('chain'):
             return None
-        return Chained(tables, parted(simulated.stdout.decode())[0], system.horizon)
+        rows = parted(simulated.stdout.decode())[0]
+        return Ways(tables, rows, Chained(tables, rows, system.horizon))
 
     def looks(self, system: System, rng: random.Random) -> Chained | None:
         """Tries a system in all ways that say something of its chains."""
-        found = self.read(system)
-        if found is None:
+        read = self.read(system)
+        if read is None:
             return None
+        found = read.found
         self.seen.update(shown(found))
+        for chain in found.chains:
+            self.with_way(system, read, chain, rng)
         for show, form in FORMS:
             is_strict = rng.random() < 0.3
             words = [f'--show={show}', f'--format={form}', *['--strict'] * is_strict, *['--workers=2'] * (rng.random() < 0.2)]
@@ -221,6 +227,22 @@ class Trial(verdicts.Trial):
             else:
                 self.wants(system, words, answer(found.wanted((), show, form), is_strict))
         return found
+
+    def with_way(self, system: System, read: Ways, chain: ChainReading, rng: random.Random) -> None:
+        """The way of an answer: one that is there, mostly, or not."""
+        many, name = len(chain.answers), chain.chain['name']
+        if name in read.found.threads:
+            return
+        form = rng.choice(['text', 'text', 'json'])
+        words = [f'--format={form}', *['--workers=2'] * (rng.random() < 0.2), '--why', name]
+        if not many or rng.random() < 0.1:
+            number = rng.choice(['0', str(many + 1), 'last'])
+            self.seen['no such answer'] += 1
+            self.wants(system, [*words, number], Ran(2, b'', way_reading.refused(chain, number).encode()))
+            return
+        place = rng.randint(1, many)
+        self.seen.update(read.shown(chain, place))
+        self.wants(system, [*words, str(place)], Ran(0, read.written(chain, place, form).encode(), b''))
 
 
 def edged(system: System, found: Chained, rng: random.Random) -> System:
