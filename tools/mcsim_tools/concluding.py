@@ -13,6 +13,8 @@ from .tabling import Object
 from .verdict import COUNTED, FOUND, NOTHING, UNJUDGED
 
 MISS, HINT, COUNTS, SETS, WHY, RAN, IDLE = 'miss', 'hint', 'counts', 'sets', 'why', 'ran', 'idle'
+# the first and the last object of the way of an answer
+ANSWER, SUM = 'answer', 'sum'
 # kinds of lines that are no finding, and may be a mistake
 IN_DOUBT = (HINT, 'unjudged')
 # what a kind of finding says of whom it names, of one and of several
@@ -190,10 +192,22 @@ def of_job(facts: Facts, unit: scale.Unit) -> Sentence:
     return Sentence(printable(f'{name}, round {job.get("number")}, from {begin} to {end}{open_end}: {ran}'), TITLE)
 
 
+def of_answer(facts: Facts, unit: scale.Unit) -> Sentence:
+    """Where an answer spent its time."""
+    answer, sums = facts.last[ANSWER], facts.last[SUM]
+    begin, end = (time_of(int(answer.get(key, 0)), unit) for key in ('origin', 'moment'))
+    spent = [f'{key} {length_of(ticks, unit)}' for key, ticks in sums.items() if key != 'ticks' and isinstance(ticks, int) and ticks]
+    latency = length_of(int(answer.get('latency', 0)), unit)
+    said = f'{answer.get("chain")}, from the interrupt at {begin} to round {answer.get("number")} of {answer.get("thread")}, which ended at {end}'
+    return Sentence(printable(f'{said}: {latency}; {", ".join(spent) or "no time passed"}'), TITLE)
+
+
 def conclusion(facts: Facts, horizon: Optional[int], status: int, unit: scale.Unit) -> Optional[Sentence]:
     """The sentence of a verdict up to a horizon, if it is whole."""
     if WHY in facts.last:
         return of_job(facts, unit)
+    if SUM in facts.last and ANSWER in facts.last:
+        return of_answer(facts, unit)
     if SETS in facts.last:
         return of_all_time(facts, status, unit)
     return of_verdict(facts, horizon, status, unit) if COUNTS in facts.last else None

@@ -90,7 +90,7 @@ class Verdict:
 
     def add(self, line: Object) -> None:
         kind = str(line[KIND])
-        if self.is_why and 'moment' in line:
+        if self.is_why and 'moment' in line and kind != concluding.ANSWER:
             self.rows.add(ROWS, line)
             return
         self.facts.add(line)
@@ -145,9 +145,9 @@ class View:
         if many:
             self.say(f'and {many} more: --rows shows {MOST_ROWS}, and --format text, csv or json all of them')
 
-    def schedule(self, rows: Sequence[Object], many: int) -> None:
-        """Rows of a schedule, in their order: the time, the core, what happens, and the rest with its keys."""
-        self.title('rows', many)
+    def schedule(self, rows: Sequence[Object], many: int, title: str = 'rows') -> None:
+        """Rows of a schedule, or legs of a way, in their order: the time, the core, what happens, and the rest with its keys."""
+        self.title(title, many)
         unit = self.look.unit
         cells = [(tabling.text_of('moment', row['moment'], unit), str(row.get('core', '')), str(row[KIND]), rest_of(row, unit)) for row in rows]
         widths = [max(map(len, column)) for column in zip(*cells)]
@@ -156,6 +156,11 @@ class View:
             for line in tabling.folded((head + rest).rstrip(), self.look.width, ' ' * len(head)):
                 print(line, file=self.stream)
         self.more(many - len(rows))
+
+
+def without_zeros(leg: Object) -> Object:
+    """A leg of a way without the numbers that are 0."""
+    return {key: value for key, value in leg.items() if value != 0 or key in ('moment', 'core', 'home')}
 
 
 def rest_of(row: Object, unit: scale.Unit) -> str:
@@ -197,7 +202,9 @@ def show(verdict: Verdict, view: View, horizon: Optional[int], status: int) -> N
     for group in verdict.groups:
         view.group(group)
     if many := verdict.rows.many[ROWS]:
-        if verdict.wants_rows:
+        if concluding.ANSWER in verdict.facts.last:
+            view.schedule([without_zeros(row) for row in verdict.rows.kept[ROWS]], many, 'way')
+        elif verdict.wants_rows:
             view.schedule(verdict.rows.kept[ROWS], many)
         else:
             view.part()

@@ -21,7 +21,7 @@ KIND = 'kind'
 TIMES = frozenset((
     'moment', 'response', 'deadline', 'activated', 'begun', 'ended', 'queued', 'ready', 'running', 'throttled', 'blocked', 'woken', 'budget', 'period',
     'greatest', 'least', 'p50', 'p90', 'p99', 'margin', 'unused', 'from', 'to', 'waited', 'ticks', 'until', 'charged', 'horizon', 'ends_no_round_from',
-    'latency', 'origin', 'total',
+    'latency', 'origin', 'total', 'held', 'delay',
 ))
 TICKS = 'ticks_'
 # shares in millionths

@@ -29,6 +29,15 @@ WHY = [
     {'kind': 'why', 'thread': 'B', 'number': 2, 'from': 4, 'to': 24, 'waited': 0, 'activated': 4, 'begun': 4, 'ended': 24},
     {'kind': 'ran', 'thread': 'A', 'ticks': 3}, {'kind': 'ran', 'thread': 'B', 'ticks': 7}, {'kind': 'ran', 'thread': 'C', 'ticks': 4}, {'kind': 'idle', 'ticks': 6},
 ]
+# half of the latency is a delay between two cores
+WAY = [
+    {'moment': 20, 'core': 1, 'kind': 'answer', 'thread': 'B', 'number': 3, 'chain': 'c', 'latency': 16, 'origin': 4},
+    {'moment': 4, 'core': 0, 'kind': 'held', 'note': 'tick', 'to': 6, 'ticks': 2},
+    {'moment': 6, 'core': 0, 'kind': 'ran', 'thread': 'A', 'to': 9, 'ticks': 3, 'ready': 2, 'running': 1, 'throttled': 0, 'blocked': 0},
+    {'moment': 9, 'core': 0, 'kind': 'delay', 'home': 1, 'to': 17, 'ticks': 8},
+    {'moment': 17, 'core': 1, 'kind': 'ran', 'thread': 'B', 'to': 20, 'ticks': 3, 'ready': 0, 'running': 3, 'throttled': 0, 'blocked': 0},
+    {'kind': 'sum', 'ticks': 16, 'held': 2, 'delay': 8, 'ready': 2, 'running': 4, 'throttled': 0, 'blocked': 0},
+]
 MS = scale.Unit(Decimal('0.5'), 'ms')
 RED, END = '\x1b[1;31m', '\x1b[0m'
 
@@ -217,6 +226,14 @@ class Shown(unittest.TestCase):
         found = shown(*WHY, is_why=True, rows=True)
         self.assertEqual(found[:4], answer)
         self.assertEqual(found[-3:], ['rows (2)', ' 4  1  arrive  note tick  badge 1  from 2', '15  1  run     thread B'])
+
+    def test_a_way_says_where_the_time_went_and_has_its_legs(self) -> None:
+        found = shown(*WAY, is_why=True)
+        self.assertEqual(found[:2], ['c, from the interrupt at 4 to round 3 of B, which ended at 20: 16 ticks; held 2', '  ticks, delay 8 ticks, ready 2 ticks, running 4 ticks'])
+        self.assertEqual(found[-5:], [
+            'way (4)', ' 4  0  held   note tick  to 6  ticks 2', ' 6  0  ran    thread A  to 9  ticks 3  ready 2  running 1', ' 9  0  delay  home 1  to 17  ticks 8',
+            '17  1  ran    thread B  to 20  ticks 3  running 3',
+        ])
 
     def test_a_job_that_has_not_ended_says_so(self) -> None:
         job = {key: value for key, value in WHY[2].items() if key != 'ended'}
