@@ -203,6 +203,33 @@ class Explained(unittest.TestCase):
             wanted = [row for row in system.simulate(20) if row.core == core and shown.begin <= row.moment <= shown.end]
             self.assertEqual(list(shown.rows), wanted)
 
+    def test_the_way_of_an_answer(self) -> None:
+        # The second interrupt, at 13, wakes D, which signals at 14. C gets the signal at 16 and works on the first one until 19, and for 7 ticks more.
+        system = mcsim.System(
+            cores=2, delay=2, contexts=[mcsim.Context('d', 0, 100, 100), mcsim.Context('c', 1, 100, 100)], notes=[mcsim.Note('n', 0), mcsim.Note('p', 1)],
+            sources=[mcsim.Source('s', 'n', 1, 10, start=3)], threads=[
+                mcsim.Thread('D', 'd', 5, ['wait n', 'signal p 1']), mcsim.Thread('C', 'c', 5, ['wait p', 'compute 13']),
+            ],
+            chains=[mcsim.Chain('way', 's', 'C')],
+        )
+        found = system.way('way', 2, 40)
+        self.assertEqual(found.answer, mcsim.Answer(33, 1, 'C', 2, 'way', 20, 13))
+        self.assertEqual(list(found.legs), [
+            mcsim.Leg('ran', 13, 14, 0, thread='D', running=1), mcsim.Leg('delay', 14, 16, 0, home=1), mcsim.Leg('held', 16, 20, 1, note='p'),
+            mcsim.Leg('ran', 20, 33, 1, thread='C', running=13),
+        ])
+        self.assertEqual(found.sums, {'held': 4, 'delay': 2, 'ready': 0, 'running': 14, 'throttled': 0, 'blocked': 0})
+        with self.assertRaisesRegex(ValueError, 'no answer "9" of way: there are answers 1 to 2'):
+            system.way('way', 9, 40)
+        with self.assertRaisesRegex(ValueError, 'is a thread: why'):
+            system.way('C', 1)
+        with self.assertRaisesRegex(ValueError, 'is a chain: way'):
+            system.why('way', 1)
+
+    def test_a_way_that_was_cut_off(self) -> None:
+        with self.assertRaises(EOFError):
+            explained.way_of(b'{"moment":4,"core":0,"kind":"answer","thread":"A","number":1,"chain":"c","latency":1,"origin":3}\n')
+
     def test_what_is_not_there(self) -> None:
         with self.assertRaisesRegex(ValueError, 'no thread is called "X": the nearest is H'):
             TICKING.why('X', 1)

@@ -1,5 +1,5 @@
 """mcsim: a simulator of seL4 MCS scheduling, proved. Build a `System`, or read one, and simulate, check or view it."""
-from .explained import Explanation
+from .explained import Explanation, Leg, Way
 from .faults import Fault
 from .forever import CoreSet, EndsNever, EndsOverdue, EverFinding, Losses, Misses, Outlook, Response, Sets
 from .parts import Chain, Context, Link, Note, Order, Server, Source, Thread
@@ -10,6 +10,6 @@ from .views import View
 __version__ = '1.2'
 __all__ = [
     'Answer', 'Chain', 'Context', 'CoreSet', 'Counts', 'EndsNever', 'EndsOverdue', 'EverFinding', 'Explanation', 'Fault', 'Figures', 'Finding', 'Hint',
-    'Job', 'Link', 'Losses', 'Lost', 'Miss', 'Misses', 'Never', 'Note', 'Order', 'Other', 'Outlook', 'Overdue', 'Response', 'Server', 'Sets', 'Slow',
-    'Source', 'System', 'Thread', 'Unanswered', 'Unjudged', 'Verdict', 'View',
+    'Job', 'Leg', 'Link', 'Losses', 'Lost', 'Miss', 'Misses', 'Never', 'Note', 'Order', 'Other', 'Outlook', 'Overdue', 'Response', 'Server', 'Sets', 'Slow',
+    'Source', 'System', 'Thread', 'Unanswered', 'Unjudged', 'Verdict', 'View', 'Way',
 ]

@@ -134,7 +134,15 @@ class System:
 
     def why(self, thread: str, round: int, horizon: int = HORIZON) -> explained.Explanation:
         """Why the job of this number, from 1, of a thread took so long in the schedule up to a horizon. A thread or a job that is not there is a ValueError."""
+        if all(part.name != thread for part in self.threads) and any(part.name == thread for part in self.chains):
+            raise ValueError(f'{thread!r} is a chain: way() has its answers')
         return explained.explanation_of(library.why(self.data(), horizon, thread, round))
+
+    def way(self, chain: str, number: int, horizon: int = HORIZON) -> explained.Way:
+        """The way of the answer of this number, from 1, of a chain in the schedule up to a horizon. A chain or an answer that is not there is a ValueError."""
+        if any(part.name == chain for part in self.threads):
+            raise ValueError(f'{chain!r} is a thread: why() has its jobs')
+        return explained.way_of(library.why(self.data(), horizon, chain, number))
 
     def forever(self, horizon: int = SEARCH, allow_lost: Sequence[str] = ()) -> forever.Outlook:
         """What is wrong with the schedule for all time: a repetition is searched for up to a horizon."""
