@@ -128,7 +128,7 @@ def speaks_of(part: str, about: str) -> str:
 def silent_types(root: Root, known: Collection[Place]) -> list[Place]:
     """The types that heads of a part name, and of which no clause speaks."""
     named = {place for clause in root.clauses for place in types_in(clause.file, contract_of(clause)[0])}
-    return sorted(named.difference(known), key=lambda place: place.name)
+    return sorted(named.difference(known), key=lambda place: (place.name, place.file))
 
 
 def calls_of(root: Root) -> Iterator[tuple[str, str, str]]:

@@ -423,8 +423,44 @@ SAYS = {
         'idle_line': 'the line of how long the core was idle',
     },
     'mcs_explain/specs/Why.antt': {
-        'is_there': 'whether the job that is asked about is there',
-        'why_text': 'the text about the job that is asked about',
+        'is_there': 'whether there is such a job or answer',
+        'why_text': 'the text about the job or the answer',
+        'answer_found': 'the result of a search for an answer',
+    },
+    'mcs_way/specs/Sought.antt': {
+        'sought_by': 'the answer if there is one, or how many there are',
+    },
+    'mcs_way/specs/Trace.antt': {
+        'Trace': 'an origin at a carrier: since when, at which places, and on which legs it came',
+        'taken': 'an origin that a thread takes from a notification, if the wait gives it a place',
+    },
+    'mcs_way/specs/Course.antt': {
+        'Course': 'an origin at all its carriers, and the way to its answer',
+        'sets_out': 'a signal to another core leaves with what its thread has',
+        'landed': 'the origin, if the signal that arrives has it',
+        'lands': 'a signal of another core arrives, and is under way no more',
+        'holds': 'a notification holds what is posted',
+        'takes': 'a thread has what it takes',
+        'gets': 'a thread has what it takes, and the notification holds nothing',
+        'is_answer': 'whether a row ends the round that answers',
+        'answers': 'the way is that of the thread, whose round ends',
+    },
+    'mcs_way/specs/Trail.antt': {
+        'chain_part': 'the chain with this number',
+        'aim_of': 'an answer, and the source of its chain',
+        'course_of': 'the course of the origin of an answer, by the rows so far',
+    },
+    'mcs_way/specs/Sums.antt': {
+        'held_in': 'the ticks of a leg at a notification; of others 0',
+        'delay_in': 'the ticks of a leg between two cores; of others 0',
+        'stood_in': 'how the thread of a leg stood; no ticks if the leg has no thread',
+        'sums_of': 'the ticks of all legs, by what they were spent on',
+    },
+    'mcs_way_lines/specs/Lines.antt': {
+        'Fields': 'names with values',
+        'words_by': 'the words of a leg behind its time and core',
+        'leg_object': 'a leg as a JSON object',
+        'way_objects': 'the legs and the sums as JSON objects',
     },
     'mcs_why/specs/Running.antt': {
         'is_thread': 'whether it is this thread that runs',
@@ -523,6 +559,8 @@ PLAIN = {
     'mcs_check_lines/specs/Told.antt': 'is_miss'.split(),
     'mcs_explain/specs/Why.antt': 'is_csv'.split(),
     'mcs_check_forever/specs/Foretold.antt': 'is_rows'.split(),
+    'mcs_way/specs/Sought.antt': 'is_of'.split(),
+    'mcs_way_lines/specs/Lines.antt': 'leg_fields sum_fields'.split(),
     'mcs_control/specs/Context.antt': (
         'context_charged context_chosen context_ready context_unblocked context_woken '
         'head_amount head_moment left_shown max_refills_of moment_of refills_shown'

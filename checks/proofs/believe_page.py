@@ -105,7 +105,7 @@ def twins_of(file: str, piece: Sequence[Definition], found: Iterable[Place]) -> 
     """Which of several definitions of one name a piece cites from another file, without a prefix."""
     own = definitions_of(file)
     cited = {place for definition in piece for place in definition.cites if place.file != file and place.name not in own}
-    for place in sorted(cited, key=lambda place: place.name):
+    for place in sorted(cited, key=lambda place: (place.name, place.file)):
         if any(other.name == place.name and other.file != place.file and is_source(other) == is_source(place) for other in found):
             yield f'`{place.name}` is from `{place.file}`'
 
