@@ -50,7 +50,7 @@ enum {
                           findings or the name are there. Of a check: nothing was found */
     MCS_FAULT = 1,     /* the text is not a system, or a name is unknown: the room begins with the
                           line of the first fault, without a line feed. Of mcs_why also: there is
-                          no such thread or round */
+                          no such thread, chain, round or answer */
     MCS_ROOM = 2,      /* the room is too small: *length bytes, or *many findings, are needed */
     MCS_REFUSED = 3,   /* an argument is out of range */
     MCS_NO_MEMORY = 4, /* out of memory */
@@ -127,22 +127,24 @@ uint32_t mcs_version(void);
  * The call keeps no rows. */
 uint32_t mcs_check(const uint8_t *text, size_t text_bytes, uint64_t horizon, uint32_t part, uint32_t format, const uint8_t *allowed, size_t allowed_bytes, uint8_t *room, size_t room_bytes, size_t *length);
 
-/* Explains why a round of a thread took so long: what mcscheck --why prints.
+/* Explains why a round of a thread or an answer of a chain took so long: what mcscheck --why
+ * prints.
  *
  *   text, text_bytes    The text, as above.
  *   horizon             The last time of the run, in ticks: 0 to MCS_HORIZON_MAX.
- *   thread,             The name of the thread, in UTF-8.
- *   thread_bytes
- *   round, round_bytes  The number of the round in digits, from 1: "3" is the third.
+ *   thread,             The name of the thread, in UTF-8. If no thread has the name, it is that of
+ *   thread_bytes        a chain.
+ *   round, round_bytes  The number of the round or the answer in digits, from 1: "3" is the third.
  *   format              MCS_TEXT or MCS_JSON.
  *   room, room_bytes    Memory for the output.
  *   length              Receives the number of bytes of the output.
  *
  *   Result              *length                      Room
  *   MCS_LINES           bytes of the lines           the lines: the rows of the round's core, its
- *                                                    times, and who ran meanwhile
+ *                                                    times, and who ran meanwhile; or the answer
+ *                                                    and the legs of its way
  *   MCS_FAULT           bytes of the fault's line    the line, as mcscheck writes it: of the text,
- *                                                    or of a thread or round that is not there
+ *                                                    or of a name or number that is not there
  *   MCS_ROOM            bytes needed                 unchanged
  *   MCS_REFUSED         0                            unchanged: horizon or format is out of range,
  *                                                    format is MCS_CSV, or thread or round is not
