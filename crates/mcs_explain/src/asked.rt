@@ -6,7 +6,7 @@ use mcs_chain::ChainId;
 use mcs_system::SystemParts;
 use mcs_ticks::ThreadId;
 
-/// What a name asks about.
+/// The meaning of a name.
 #[derive(Clone, Copy, Debug, PartialEq, Eq)]
 pub(crate) enum Asked {
     /// A round of this thread.
@@ -17,7 +17,7 @@ pub(crate) enum Asked {
     Nobody,
 }
 
-/// What a name asks about. It is looked for among the threads first, then among the chains.
+/// Returns the meaning of a name. It is looked for among the threads first, then among the chains.
 pub(crate) fn asked_of(parts: &SystemParts, name: &str) -> Asked
     ensures named { result ≡ asked_of parts.now name.now }
     ensures known { HasThread parts.now result }

@@ -1,4 +1,4 @@
-//! The round or the answer that `--why` asks about, if there is one.
+//! The search for the round or the answer in question.
 ghost use Rattle.std.specs.Prelude.{◌≡◌, IfErr, IfOk};
 ghost use Rattle.std.specs.Arc.{arc_value};
 ghost use Rattle.mcs_check_words.specs.CommandLine.{question_texts};
@@ -17,7 +17,7 @@ use mcs_way::Sought as AnswerSought;
 use mcs_why::{Sought, Span};
 use std::sync::Arc;
 
-/// What there is of a round or an answer that is asked about.
+/// The result of a search for a round or an answer.
 #[derive(Clone, Copy, Debug, PartialEq, Eq)]
 pub(crate) enum Found {
     /// The interval of the round.
@@ -31,7 +31,7 @@ pub(crate) enum Found {
     Nobody,
 }
 
-/// What there is of a round.
+/// The result for a round.
 fn round_found(sought: Sought) -> Found
     ensures { result ≡ round_found sought }
 {
@@ -41,7 +41,7 @@ fn round_found(sought: Sought) -> Found
     }
 }
 
-/// What there is of an answer.
+/// The result for an answer.
 fn answer_found(sought: AnswerSought) -> Found
     ensures { result ≡ answer_found sought }
 {
@@ -51,7 +51,7 @@ fn answer_found(sought: AnswerSought) -> Found
     }
 }
 
-/// Looks for the round or the answer that is asked about.
+/// Looks for the round or the answer in question.
 pub(crate) fn find<R: Runner, P: Progress>(
     machine: &Machine<'_, R>,
     system: &Arc<System>,

@@ -1,5 +1,5 @@
-//! The refusals: options that have nothing to do with the question, and a name, a round or an
-//! answer that is not there.
+//! The refusals: options that have nothing to do with the question, and names and numbers without a
+//! round or an answer.
 ghost use Rattle.std.specs.Prelude.{◌≡◌, IfOk, None, option_map, string_bytes};
 ghost use Rattle.mcs_check_words.specs.CommandLine.{question_texts};
 ghost use Rattle.mcs_explain.specs.Asked.{IsNoAnswer, IsNoRound, IsNobody, nearest_chain, nearest_name, nearest_of, nearest_thread};
@@ -134,7 +134,7 @@ pub(crate) fn no_round(alloc: Global, question: &Question, rounds: u64) -> WhyFa
     }
 }
 
-/// The fault of an answer that does not exist, or `Sim` if memory runs out.
+/// The fault of a number without an answer, or `Sim` if memory runs out.
 pub(crate) fn no_answer(alloc: Global, question: &Question, answers: u64) -> WhyFault
     ensures { IsNoAnswer (question_texts question.now) answers result }
 {

@@ -58,13 +58,13 @@ pub fn explain_with<H: Files + Threads + Wait + Sync, S: Source, T: Target, P: P
     }
 }
 
-/// Reads a system, simulates it twice, and writes why the round that is asked about took so long,
-/// or which way the answer came. A name is that of a thread, or if none has it, that of a chain.
+/// Reads a system, simulates it twice, and writes why the round in question took so long, or which
+/// way the answer came. A name is that of a thread, or if none has it, that of a chain.
 ///
 /// The rows of a round's core come first. They begin at its activation, or when its thread began to
 /// wait for the word that began it, and end with the round or at the horizon. Then come the round's
-/// times, how long each thread ran meanwhile, and how long the core was idle. Of an answer the legs
-/// from the interrupt to the end of the round are written. The bytes are the same for every number
+/// times, how long each thread ran meanwhile, and how long the core was idle. An answer has a line
+/// for each leg from the interrupt to the end of the round. The bytes are the same for every number
 /// of workers. Neither device may have failed before; a device is blamed only if it has failed.
 /// After `Mixed`, `Read`, `Load`, `NoThread`, `NoName`, `NoRound` and `NoAnswer` no byte was
 /// written, after `Sim` and `Write` a prefix.
