@@ -133,7 +133,7 @@ def words_of(values: Values) -> str:
 def wanted(found: Reading, thread: str, number: str, form: str = 'text') -> Ran:
     """What a run that asks for a round has to come to."""
     if thread not in found.threads:
-        return Ran(2, b'', unknown_thread(thread, list(found.threads)).encode())
+        return Ran(2, b'', unknown_name(thread, list(found.threads), found.chain_names).encode())
     rounds = Rounds(found, thread)
     spans = rounds.all()
     span = next((span for span in spans if str(span.number) == number), None)
@@ -144,7 +144,8 @@ def wanted(found: Reading, thread: str, number: str, form: str = 'text') -> Ran:
     return Ran(0, rounds.written(span, form).encode(), b'')
 
 
-def unknown_thread(name: str, threads: Sequence[str]) -> str:
-    """What is said of a thread that the system has not; `min` takes the first of the nearest."""
-    near = f'the nearest is {min(threads, key=lambda thread: distance(name, thread))}' if threads else 'there is none'
-    return f'mcscheck: --why: no thread is called "{name}": {near}\n'
+def unknown_name(name: str, threads: Sequence[str], chains: Sequence[str]) -> str:
+    """What is said of a name that no thread and no chain has; `min` takes the first of the nearest."""
+    names = [*threads, *chains]
+    near = f'the nearest is {min(names, key=lambda other: distance(name, other))}' if names else 'there is none'
+    return f'mcscheck: --why: no {"thread or chain" if chains else "thread"} is called "{name}": {near}\n'

@@ -245,6 +245,7 @@ class Reading:
         self.threads = {thread['name']: thread for thread in tables.get('thread', [])}
         self.servers = scripts_of(tables)
         self.notes = [note['name'] for note in tables.get('note', [])]
+        self.chain_names = [chain['name'] for chain in tables.get('chain', [])]
         self.signalled = {source['note'] for source in tables.get('source', [])}
         self.uses = Uses(tables)
         self.cores = tables['cores']
