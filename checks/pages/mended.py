@@ -34,7 +34,7 @@ WITHOUT_FILE = 'no memory'
 OF_OPTIONS = {
     'Options that are not understood': 'error: ',
     'A notification that is not there': 'mcscheck: --allow-lost: no notification is called "',
-    'A thread or a job that is not there': 'mcscheck: --why: ',
+    'A thread, a chain, a job or an answer that is not there': 'mcscheck: --why: ',
 }
 COMMANDS = ('./mcsim', './mcscheck')
 
