@@ -16,10 +16,11 @@ compiler() {
     done
 }
 
-# makes the shared library $3 of the archive $2 with the compiler $1, which may be a command with options
+# makes the shared library $3 of the archive $2 with the compiler $1, which may be a command with options; its code and its constants are in one segment,
+# which saves 8 KB of padding
 make_shared() {
     printf '{ global: mcs_*; local: *; };\n' >"$3.map" &&
-        $1 -shared -s -Wl,-soname,libmcs.so.1 -Xlinker --version-script="$3.map" -Wl,-z,defs -Wl,-z,relro,-z,now -Wl,--gc-sections \
+        $1 -shared -s -Wl,-soname,libmcs.so.1 -Xlinker --version-script="$3.map" -Wl,-z,defs -Wl,-z,relro,-z,now -Wl,-z,noseparate-code -Wl,--gc-sections \
             -o "$3" -Wl,--whole-archive "$2" -Wl,--no-whole-archive &&
         rm -f "$3.map"
 }
