@@ -11,9 +11,10 @@ from unittest import mock
 
 from checks import common
 from checks.common import Ran
-from checks.program import latencies, reading, verdicts
+from checks.program import latencies, reading, verdicts, way_reading
 from checks.program.chained import Chained, reading_of
 from checks.program.latencies import LOOP, LOOP_FIGURES, LOOP_JOBS, LOOP_OBJECTS, LOOP_ROWS, LOOP_TABLE, TWO_CORES, TWO_CORES_FOUND, TWO_CORES_JOBS
+from checks.program.way_reading import Ways
 
 # the schedule of LOOP up to 52
 ROWS = '''0 0 release L
@@ -76,6 +77,16 @@ def loop() -> Chained:
     return Chained(tomllib.loads(LOOP), ROWS, 52)
 
 
+def way(command: Sequence[str]) -> Ran:
+    """What a right checker writes of an answer of LOOP."""
+    found = loop()
+    number, chain = command[command.index('--why') + 2], found.chains[0]
+    if number not in map(str, range(1, len(chain.answers) + 1)):
+        return Ran(2, b'', way_reading.refused(chain, number).encode())
+    form = 'json' if '--format=json' in command else 'text'
+    return Ran(0, Ways(tomllib.loads(LOOP), ROWS, found).written(chain, int(number), form).encode(), b'')
+
+
 def of_chains(text: str) -> str:
     """The lines without those of threads and contexts."""
     return ''.join(line for line in text.splitlines(keepends=True) if not line.startswith(latencies.OF_OTHERS))
@@ -128,6 +139,19 @@ class Readings(unittest.TestCase):
         self.assertNotIn('slow', reading_of(tables, ROWS, 52).wanted().text)
 
 
+class WayReadings(unittest.TestCase):
+    def test_the_notification_holds_an_interrupt_until_the_job_before_has_ended(self) -> None:
+        # that of 12 is held to 23, and the job computes to 43
+        self.assertEqual(way(['--why', 'c', '2']), Ran(0, b'''43 0 answer c round 2 origin 12 latency 31 deadline 20
+12 0 held n to 23 ticks 11
+23 0 ran L to 43 ticks 20 ready 0 running 20 throttled 0 blocked 0
+sum ticks 31 held 11 delay 0 ready 0 running 20 throttled 0 blocked 0
+''', b''))
+
+    def test_a_number_that_no_answer_has(self) -> None:
+        self.assertEqual(way(['--why', 'c', '4']), Ran(2, b'', b'mcscheck: --why: no answer "4" of c: there are answers 1 to 3\n'))
+
+
 class WrongCheckers(unittest.TestCase):
     def failed(self, wrong: Callable[[Ran], Ran]) -> int:
         """How many tries fail with a checker that is wrong in this way."""
@@ -137,6 +161,8 @@ class WrongCheckers(unittest.TestCase):
             command = [str(word) for word in given]
             if command[0] == 'mcsim':
                 return Ran(0, (ROWS + REPORTS).encode(), b'')
+            if '--why' in command:
+                return way(command)
             show, form = (next(word.partition('=')[2] for word in command if word.startswith(f'--{key}=')) for key in ('show', 'format'))
             if (show, form) == ('both', 'csv'):
                 return Ran(2, b'', reading.MIXED.encode())
