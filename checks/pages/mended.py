@@ -34,7 +34,7 @@ WITHOUT_FILE = 'no memory'
 OF_OPTIONS = {
     'Options that are not understood': 'error: ',
     'A notification that is not there': 'mcscheck: --allow-lost: no notification is called "',
-    'A thread, a chain, a job or an answer that is not there': 'mcscheck: --why: ',
+    'An unknown thread, chain, job or answer': 'mcscheck: --why: ',
 }
 COMMANDS = ('./mcsim', './mcscheck')
 
