@@ -25,6 +25,15 @@ use Rattle.mcs_core.proofs.Soundness.{IsOneEach, itself, placed-same, re_stands,
 use Rattle.mcs_core.proofs.Enters.{date-early, enters_back-sound, enters_front-sound}
 use Rattle.mcs_core.proofs.Stopping.{place-within, woken-early, woken-budget, reworded}
 
+-- a thread that moves on in its script leaves its context as it is
+pub date_moved : (system : System) (t x : ℕ) (core : Core) → date_of system t x (moves_on system t x core).core ≡ date_of system t x core
+date_moved system t x core = by (move_of system x core)
+  where
+    by : (m : Moved) → date_of system t x (moves system t x m core).core ≡ date_of system t x core
+    by Next = refl
+    by RoundEnds = refl
+    by AllDone = refl
+
 -- a thread that waits stands blocked
 blocked_from : (s : Standing) (n : ℕ) → n ≡ times_blocked s → 1 ≤ n → s ≡ Blocked
 blocked_from s n e h = grind arith

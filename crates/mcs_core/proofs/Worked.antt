@@ -64,7 +64,7 @@ two_cores_at_work : schedule two_cores 7 ≡
     ∷ at 4 1 (row.Stop 2 why.Order 3 None)
     ∷ at 4 1 (row.Run 2)
     ∷ at 5 0 (row.Arrive 0 5 1)
-    ∷ at 5 0 (row.Wake 0 0 5)
+    ∷ at 5 0 (row.Wake 0 0 5 None)
     ∷ at 5 0 (row.Run 0)
     ∷ at 6 0 (row.Round 0 1 1)
     ∷ at 6 0 (row.Stop 0 why.Done 1 None)
@@ -123,7 +123,7 @@ one_core_at_work : schedule one_core 11 ≡
     ∷ at 7 0 (row.Release 3)
     ∷ at 7 0 (row.Run 3)
     ∷ at 9 0 (row.Signal 3 0 1)
-    ∷ at 9 0 (row.Wake 4 0 1)
+    ∷ at 9 0 (row.Wake 4 0 1 None)
     ∷ at 9 0 (row.Stop 3 why.Spent 2 None)
     ∷ at 9 0 (row.Run 4)
     ∷ at 10 0 (row.Round 4 1 1)
@@ -166,7 +166,7 @@ a_signal_arrives_at_its_home : schedule from_core_0 5 ≡
     ∷ at 2 0 (row.Round 0 1 2)
     ∷ at 2 0 (row.Stop 0 why.Done 2 None)
     ∷ at 4 1 (row.Arrive 0 4 0)
-    ∷ at 4 1 (row.Wake 1 0 4)
+    ∷ at 4 1 (row.Wake 1 0 4 None)
     ∷ at 4 1 (row.Run 1)
     ∷ at 5 1 (row.Round 1 1 1)
     ∷ at 5 1 (row.Stop 1 why.Done 1 None)
@@ -226,7 +226,7 @@ handlers_at_work : schedule handlers 12 ≡
     ∷ at 0 0 (row.Run 0)
     ∷ at 1 0 (row.Stop 0 why.Wait 1 None)
     ∷ at 2 0 (row.Interrupt 0 0 1)
-    ∷ at 2 0 (row.Wake 0 0 1)
+    ∷ at 2 0 (row.Wake 0 0 1 None)
     ∷ at 2 0 (row.Interrupt 1 0 2)
     ∷ at 2 0 (row.Hold 0 2)
     ∷ at 2 0 (row.Run 0)
@@ -235,7 +235,7 @@ handlers_at_work : schedule handlers 12 ≡
     ∷ at 8 0 (row.Round 0 2 3)
     ∷ at 9 0 (row.Stop 0 why.Wait 7 None)
     ∷ at 12 0 (row.Interrupt 0 0 1)
-    ∷ at 12 0 (row.Wake 0 0 1)
+    ∷ at 12 0 (row.Wake 0 0 1 None)
     ∷ at 12 0 (row.Run 0)
     ∷ []
 handlers_at_work = refl
@@ -276,9 +276,70 @@ a_server_at_work : schedule a_server 22 ≡
     ∷ at 20 0 (row.Release 0)
     ∷ at 20 0 (row.Run 0)
     ∷ at 21 0 (row.Signal 0 0 1)
-    ∷ at 21 0 (row.Wake 1 0 1)
+    ∷ at 21 0 (row.Wake 1 0 1 None)
     ∷ at 21 0 (row.Round 0 1 21)
     ∷ at 21 0 (row.Stop 0 why.Done 1 None)
     ∷ at 21 0 (row.Run 1)
     ∷ []
 a_server_at_work = refl
+
+-- Thread 0 spends its one tick of 10 on the wait. The signal at 3 wakes it, and it waits until 10 for its budget.
+abbrev a_small_budget : System
+a_small_budget = record {
+  cores = 1;
+  delay = 1;
+  call = 1;
+  min_budget = 1;
+  contexts = context 0 1 10 ∷ context 0 9 20 ∷ [];
+  notes = record { name = []; core = 0; word = 0 } ∷ [];
+  threads =
+      thread 0 7 0 (Wait 0 ∷ Compute 1 ∷ [])
+      ∷ thread 1 5 0 (Compute 1 ∷ Signal 0 1 ∷ [])
+      ∷ [];
+  orders = [];
+  links = [];
+  servers = 0;
+  sources = [];
+  beats = [];
+  chains = [];
+}
+
+a_woken_thread_waits_for_its_budget : schedule a_small_budget 11 ≡
+    at 0 0 (row.Release 0)
+    ∷ at 0 0 (row.Release 1)
+    ∷ at 0 0 (row.Run 0)
+    ∷ at 1 0 (row.Stop 0 why.Wait 1 None)
+    ∷ at 1 0 (row.Run 1)
+    ∷ at 3 0 (row.Signal 1 0 1)
+    ∷ at 3 0 (row.Wake 0 0 1 (Some 10))
+    ∷ at 3 0 (row.Round 1 1 3)
+    ∷ at 3 0 (row.Stop 1 why.Done 2 None)
+    ∷ at 10 0 (row.Release 0)
+    ∷ at 10 0 (row.Run 0)
+    ∷ at 11 0 (row.Round 0 1 8)
+    ∷ at 11 0 (row.Stop 0 why.Done 1 None)
+    ∷ []
+a_woken_thread_waits_for_its_budget = refl
+
+-- The server as above, whose second caller has spent its one tick of 50 on the call at 4: it is let in at 21, and waits until 54.
+a_caller_that_is_let_in_waits_for_its_budget : schedule (record a_server { contexts = context 0 3 10 ∷ context 0 1 50 ∷ [] }) 54 ≡
+    at 0 0 (row.Release 0)
+    ∷ at 0 0 (row.Run 0)
+    ∷ at 1 0 (row.Got 0 0 1)
+    ∷ at 3 0 (row.Stop 0 why.Spent 3 (Some 10))
+    ∷ at 4 0 (row.Release 1)
+    ∷ at 4 0 (row.Run 1)
+    ∷ at 5 0 (row.Stop 1 why.Call 1 None)
+    ∷ at 10 0 (row.Release 0)
+    ∷ at 10 0 (row.Run 0)
+    ∷ at 13 0 (row.Stop 0 why.Spent 3 (Some 20))
+    ∷ at 20 0 (row.Release 0)
+    ∷ at 20 0 (row.Run 0)
+    ∷ at 21 0 (row.Signal 0 0 1)
+    ∷ at 21 0 (row.Wake 1 0 1 (Some 54))
+    ∷ at 21 0 (row.Round 0 1 21)
+    ∷ at 21 0 (row.Stop 0 why.Done 1 None)
+    ∷ at 54 0 (row.Release 1)
+    ∷ at 54 0 (row.Run 1)
+    ∷ []
+a_caller_that_is_let_in_waits_for_its_budget = refl

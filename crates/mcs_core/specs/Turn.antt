@@ -212,6 +212,10 @@ abbrev pub with_chosen_context : System → ℕ → ℕ → Core → Core
 with_chosen_context system t thread core =
     with_its_context system thread (context_chosen t (its_context system thread core)) core
 
+-- the date until which a thread that is woken at t must wait for its context, if it is not ready
+abbrev pub woken_until : System → ℕ → ℕ → Core → Option ℕ
+woken_until system t thread core = date_of system t thread (with_woken_context system t thread core)
+
 -- posts at moment t
 module _ (queue : Discipline) (system : System) (t : ℕ) where
   -- a thread that has got what it waited for moves on, and enters a queue
@@ -232,7 +236,8 @@ module _ (queue : Discipline) (system : System) (t : ℕ) where
 
   abbrev pub posts_as : ℕ → Posted → Core → Turn
   posts_as note (Woke thread word) core =
-      says (row.Wake thread note word) (with_note note (after_post (Woke thread word) (note_of core note)) core)
+      says (row.Wake thread note word (woken_until system t thread core))
+      (with_note note (after_post (Woke thread word) (note_of core note)) core)
       followed_by wakes thread word
   posts_as note (Held word) core =
       says (row.Hold note word) (with_note note (after_post (Held word) (note_of core note)) core)
@@ -243,7 +248,8 @@ module _ (queue : Discipline) (system : System) (t : ℕ) where
   -- a server is left: it is taken by the first waiter, or free
   abbrev pub frees_as : ℕ → Posted → Core → Turn
   frees_as server (Woke thread word) core =
-      says (row.Wake thread server word) (with_note server (after_post (Woke thread word) (note_of core server)) core)
+      says (row.Wake thread server word (woken_until system t thread core))
+      (with_note server (after_post (Woke thread word) (note_of core server)) core)
       followed_by let_in thread
   frees_as server (Held word) core = silent (with_note server (after_post (Held word) (note_of core server)) core)
 

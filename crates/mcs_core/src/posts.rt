@@ -1,82 +1,81 @@
 ghost use Rattle.std.specs.Prelude.{◌≡◌, ◌^◌, ◌≤◌, ◌<◌, OnOk, length};
 ghost use Rattle.mcs_ticks.specs.Queue.{by_priority};
-ghost use Rattle.mcs_core.specs.Turn.{with_woken_context, resumes, wakes, let_in, frees, posts};
+ghost use Rattle.mcs_ticks.specs.declared.row.What.TheVariants.{Wake};
+ghost use Rattle.mcs_core.specs.Turn.{with_woken_context, woken_until, ◌followed_by◌, says, wakes, let_in, frees, posts};
 ghost use Rattle.mcs_core.specs.stored.Parts.{Makes};
 ghost use Rattle.mcs_core.specs.stored.Sound.{IsFree, WakesFree};
 
 use crate::local::Local;
 use crate::log::{Here, Log};
 use mcs_notify::Posted;
-use mcs_ticks::{FlowFault, NoteId, Sink, ThreadId, What};
+use mcs_ticks::{FlowFault, NoteId, Sink, ThreadId, Tick, What};
 
 impl Local {
-    /// Unblocks the context of a woken thread, unless it is in bandwidth mode.
+    /// Unblocks the context of a woken thread, unless it is in bandwidth mode. Returns the date
+    /// until which the thread waits for it, or `None` if the thread is ready.
     #[inline(always)]
-    pub(crate) fn wake_its_context(&mut self, here: &Here<'_>, thread: ThreadId)
+    fn wake_its_context(&mut self, here: &Here<'_>, thread: ThreadId) -> Option<Tick>
         requires free { IsFree here.now.system.now thread self.old }
         requires soon { here.now.moment ≤ 2 ^ 40 }
         ensures core { self.new ≡ with_woken_context here.now.system.now here.now.moment thread self.old }
+        ensures until { result ≡ woken_until here.now.system.now here.now.moment thread self.old }
         ensures free { IsFree here.now.system.now thread self.new }
     {
         self.wake_context(here.system.thread(thread).context, here.moment);
+        self.date_of(here, thread)
     }
 
-    /// Moves a thread on that has got what it waited for, and puts it into a queue.
+    /// Wakes a thread that has left the waiters of a notification, with its word.
     #[inline(always)]
-    fn resume<S: Sink>(
+    #[tactic(auto, using(crate::proofs::Wakes::date_moved))]
+    fn wake<S: Sink>(
         &mut self,
         here: &Here<'_>,
         thread: ThreadId,
-        log: &mut Log<'_, S>,
-    ) -> Result<(), FlowFault>
-        requires free { IsFree here.now.system.now thread self.old }
-        ensures { OnOk result
-            (Makes S.takes here.now (resumes by_priority here.now.system.now here.now.moment thread self.old)
-            self.new log.old log.new) }
-    {
-        self.move_on(here, thread, log)?;
-        let until = self.date_of(here, thread);
-        self.enter_back(thread, until);
-        Ok(())
-    }
-
-    /// Wakes a thread that has left the waiters, with a word.
-    #[inline(always)]
-    pub(crate) fn wake<S: Sink>(
-        &mut self,
-        here: &Here<'_>,
-        thread: ThreadId,
+        note: NoteId,
         word: u32,
         log: &mut Log<'_, S>,
     ) -> Result<(), FlowFault>
         requires free { IsFree here.now.system.now thread self.old }
         requires soon { here.now.moment ≤ 2 ^ 40 }
         ensures { OnOk result
-            (Makes S.takes here.now (wakes by_priority here.now.system.now here.now.moment thread word self.old)
+            (Makes S.takes here.now
+            (says (Wake thread note word (woken_until here.now.system.now here.now.moment thread self.old)) self.old
+            followed_by wakes by_priority here.now.system.now here.now.moment thread word)
             self.new log.old log.new) }
     {
-        self.wake_its_context(here, thread);
+        let until = self.wake_its_context(here, thread);
+        let date = until;
+        log.tell(here, woken(thread, note, word, date))?;
         self.give(here, thread, word);
-        self.resume(here, thread, log)
+        self.move_on(here, thread, log)?;
+        self.enter_back(thread, until);
+        Ok(())
     }
 
     /// Lets a thread that has left the waiters into the server for which it waited.
     #[inline(always)]
+    #[tactic(auto, using(crate::proofs::Wakes::date_moved))]
     fn let_in<S: Sink>(
         &mut self,
         here: &Here<'_>,
         thread: ThreadId,
+        server: NoteId,
+        word: u32,
         log: &mut Log<'_, S>,
     ) -> Result<(), FlowFault>
         requires free { IsFree here.now.system.now thread self.old }
         requires soon { here.now.moment ≤ 2 ^ 40 }
         ensures { OnOk result
-            (Makes S.takes here.now (let_in by_priority here.now.system.now here.now.moment thread self.old)
+            (Makes S.takes here.now
+            (says (Wake thread server word (woken_until here.now.system.now here.now.moment thread self.old)) self.old
+            followed_by let_in by_priority here.now.system.now here.now.moment thread)
             self.new log.old log.new) }
     {
-        self.wake_its_context(here, thread);
+        let until = self.wake_its_context(here, thread);
+        let date = until;
+        log.tell(here, woken(thread, server, word, date))?;
         self.move_on(here, thread, log)?;
-        let until = self.date_of(here, thread);
         self.enter_front(thread, until);
         Ok(())
     }
@@ -106,17 +105,7 @@ impl Local {
             },
         )?;
         match self.post_note(server, 1) {
-            Posted::Woke(thread, word) => {
-                log.tell(
-                    here,
-                    What::Wake {
-                        thread,
-                        note: server,
-                        word,
-                    },
-                )?;
-                self.let_in(here, thread, log)
-            }
+            Posted::Woke(thread, word) => self.let_in(here, thread, server, word, log),
             Posted::Held(_) => Ok(()),
         }
     }
@@ -138,11 +127,21 @@ impl Local {
             self.new log.old log.new) }
     {
         match self.post_note(note, badge) {
-            Posted::Woke(thread, word) => {
-                log.tell(here, What::Wake { thread, note, word })?;
-                self.wake(here, thread, word, log)
-            }
+            Posted::Woke(thread, word) => self.wake(here, thread, note, word, log),
             Posted::Held(word) => log.tell(here, What::Hold { note, word }),
         }
+    }
+}
+
+/// The row of a thread that is woken.
+#[inline(always)]
+fn woken(thread: ThreadId, note: NoteId, word: u32, until: Option<Tick>) -> What
+    ensures { result ≡ Wake thread note word until }
+{
+    What::Wake {
+        thread,
+        note,
+        word,
+        until,
     }
 }

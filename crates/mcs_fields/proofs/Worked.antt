@@ -1,8 +1,8 @@
 -- Lines of named values, worked by hand.
-use Rattle.std.proofs.Common.{◌≡◌, ◌∷◌, [], List, codes, refl}
+use Rattle.std.proofs.Common.{◌≡◌, ◌∷◌, [], List, codes, false, refl}
 use Rattle.std.specs.Fmt.{digits}
 use Rattle.serde_json.proofs.OnLiterals.{serde_json_on_literals}
-use Rattle.mcs_fields.specs.Fields.{Text, Value, amount, below, empty, name, names_text, object_text, row_text}
+use Rattle.mcs_fields.specs.Fields.{Text, Value, amount, below, empty, joined, listed, name, names_text, object_text, row_text}
 
 -- a signal that was lost has a word and no response
 abbrev lost : List (Text × Value)
@@ -27,3 +27,15 @@ margins = refl
 margin : object_text ((codes "margin", below 3) ∷ []) ≡ codes "{\"margin\":-3}\n"
 unfolding serde_json_on_literals digits
 margin = refl
+
+-- names, and no name
+takers : object_text ((codes "by", listed (codes "Worker" ∷ codes "Other" ∷ [])) ∷ (codes "word", amount 1) ∷ []) ≡ codes "{\"by\":[\"Worker\",\"Other\"],\"word\":1}\n"
+unfolding serde_json_on_literals digits
+takers = refl
+
+nobody : object_text ((codes "by", listed []) ∷ []) ≡ codes "{\"by\":[]}\n"
+unfolding serde_json_on_literals
+nobody = refl
+
+takers_joined : joined false (codes "Worker" ∷ codes "Other" ∷ []) ≡ codes "Worker,Other"
+takers_joined = refl

@@ -2,7 +2,7 @@
 use Rattle.std.specs.Prelude.{ℕ, ℤ, pos, neg_ℤ, Bool, true, false, List, [], ◌∷◌, ◌++◌, map, decimal}
 use Rattle.std.specs.Fmt.{signed_decimal}
 use Rattle.std.specs.Borrow.{Bor}
-use Rattle.serde_json.specs.Data.{Members, member, negative, no_members, number, object, string, unsigned}
+use Rattle.serde_json.specs.Data.{Items, Members, array, item, member, negative, no_items, no_members, number, object, string, unsigned}
 use Rattle.serde_json.specs.Written.{comma_if, compact_text}
 use Rattle.mcs_fields.specs.declared.cell.Cell.{Cell}
 use Rattle.mcs_fields.specs.declared.cell.Cell.TheVariants as cell
@@ -10,11 +10,12 @@ use Rattle.mcs_fields.specs.declared.cell.Cell.TheVariants as cell
 abbrev pub Text : Type 0
 Text = List ℕ
 
--- a number, the negative of a number, a name, or empty
+-- a number, the negative of a number, a name, names in this order, or empty
 pub data Value : Type 0 where
   amount : ℕ → Value
   below : ℕ → Value
   name : Text → Value
+  listed : List Text → Value
   empty : Value
 
 -- the value of a cell
@@ -22,6 +23,7 @@ abbrev pub value_of : Cell → Value
 value_of (cell.Number n) = amount n
 value_of (cell.Below n) = below n
 value_of (cell.Name text) = name text.now
+value_of (cell.Names texts) = listed (map (λ text. text.now) texts.now)
 value_of cell.Empty = empty
 
 abbrev pub is_empty : Cell → Bool
@@ -36,6 +38,11 @@ abbrev pub parts_text : Bool → List Text → Text
 parts_text later [] = 10 ∷ []
 parts_text later (part ∷ parts) = comma_if later ++ (part ++ parts_text true parts)
 
+-- texts separated by commas
+abbrev pub joined : Bool → List Text → Text
+joined later [] = []
+joined later (part ∷ parts) = comma_if later ++ (part ++ joined true parts)
+
 -- the negative of n
 abbrev pub below_zero : ℕ → ℤ
 below_zero n = neg_ℤ (pos n)
@@ -43,11 +50,13 @@ below_zero n = neg_ℤ (pos n)
 abbrev pub below_text : ℕ → Text
 below_text n = signed_decimal (below_zero n)
 
--- the text of a value without quotes: names have no comma, no quote and no line feed
+-- the text of a value without quotes: names have no comma, no quote and no line feed. A row has no
+-- lists of names
 abbrev pub value_text : Value → Text
 value_text (amount n) = decimal n
 value_text (below n) = below_text n
 value_text (name text) = text
+value_text (listed texts) = []
 value_text empty = []
 
 -- a row of CSV
@@ -58,11 +67,17 @@ row_text values = parts_text false (map value_text values)
 abbrev pub names_text : List Text → Text
 names_text names = parts_text false names
 
+-- texts as an array
+abbrev pub items_of : List Text → Items
+items_of [] = no_items
+items_of (text ∷ texts) = item (string text) (items_of texts)
+
 -- the members of an object, in this order; an empty value adds no member
 abbrev pub with_member : Text → Value → Members → Members
 with_member key (amount n) members = member key (number (unsigned n)) members
 with_member key (below n) members = member key (number (negative (below_zero n))) members
 with_member key (name text) members = member key (string text) members
+with_member key (listed texts) members = member key (array (items_of texts)) members
 with_member key empty members = members
 
 abbrev pub members_of : List (Text × Value) → Members

@@ -13,6 +13,8 @@ pub enum Cell<'a> {
     Below(u64),
     /// A name of the system, or a word of this program: letters, digits, `_` and `-`.
     Name(&'a str),
+    /// Names, in this order: an array in JSON. A row of CSV has no such value.
+    Names(&'a [&'a str]),
     /// A value that this line does not have.
     Empty,
 }

@@ -7,4 +7,4 @@ mod row;
 
 pub use cell::{Cell, Field, append_below};
 pub use object::put_object;
-pub use row::{put_names, put_row};
+pub use row::{append_joined, put_names, put_row};

@@ -1,8 +1,8 @@
 ghost use Rattle.std.specs.Prelude.{◌≡◌, ◌++◌, ◌∷◌, [], false, true, map, OnOk, OnErr};
 ghost use Rattle.std.specs.Io.{StartsWith};
-ghost use Rattle.serde_json.specs.Data.{Members, string};
-ghost use Rattle.serde_json.specs.Written.{comma_if, compact_text, members_text};
-ghost use Rattle.mcs_fields.specs.Fields.{field_of, is_empty, members_of, object_text, value_of, with_member};
+ghost use Rattle.serde_json.specs.Data.{Members, array, string};
+ghost use Rattle.serde_json.specs.Written.{comma_if, compact_text, items_text, members_text};
+ghost use Rattle.mcs_fields.specs.Fields.{field_of, is_empty, items_of, members_of, object_text, value_of, with_member};
 
 use crate::cell::{append_below, append_number};
 use crate::row::append_comma;
@@ -70,6 +70,7 @@ fn append_member(
         Cell::Number(number) => append_number(text, number),
         Cell::Below(number) => append_below(text, number),
         Cell::Name(name) => append_quoted(alloc, text, name),
+        Cell::Names(names) => append_array(alloc, text, names),
         Cell::Empty => Ok(()),
     }
 }
@@ -83,6 +84,32 @@ fn append_key(alloc: Global, text: &mut Vec<u8>, later: bool, name: &str) -> Res
     append_comma(text, later)?;
     append_quoted(alloc, text, name)?;
     text.push(b':')?;
+    Ok(())
+}
+
+/// Appends texts as a JSON array of strings.
+fn append_array(alloc: Global, text: &mut Vec<u8>, words: &[&str]) -> Result<(), NoMemory>
+    ensures ok { OnOk result (text.new.items
+        ≡ text.old.items ++ compact_text (array (items_of (map (λ word. word.now) words.now)))) }
+    ensures kept { StartsWith text.new.items text.old.items }
+{
+    text.push(b'[')?;
+    append_items(alloc, text, words)
+}
+
+/// Appends the items of an array, and the closing bracket.
+fn append_items(alloc: Global, text: &mut Vec<u8>, words: &[&str]) -> Result<(), NoMemory>
+    ensures ok { OnOk result (text.new.items
+        ≡ text.old.items ++ items_text false (items_of (map (λ word. word.now) words.now))) }
+    ensures kept { StartsWith text.new.items text.old.items }
+{
+    let mut later = false;
+    for word in words {
+        append_comma(text, later)?;
+        append_quoted(alloc, text, word)?;
+        later = true;
+    }
+    text.push(b']')?;
     Ok(())
 }
 

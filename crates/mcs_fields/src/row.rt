@@ -1,7 +1,7 @@
-ghost use Rattle.std.specs.Prelude.{◌≡◌, ◌++◌, map, OnOk, OnErr};
+ghost use Rattle.std.specs.Prelude.{◌≡◌, ◌++◌, false, map, OnOk, OnErr};
 ghost use Rattle.std.specs.Io.{StartsWith};
 ghost use Rattle.serde_json.specs.Written.{comma_if};
-ghost use Rattle.mcs_fields.specs.Fields.{names_text, row_text, value_of, value_text};
+ghost use Rattle.mcs_fields.specs.Fields.{joined, names_text, row_text, value_of, value_text};
 
 use crate::cell::{append_below, append_number};
 use crate::{Cell, Field};
@@ -61,6 +61,21 @@ fn append_names(text: &mut Vec<u8>, names: &[&str]) -> Result<(), NoMemory>
     Ok(())
 }
 
+/// Appends texts separated by commas. If memory runs out, a first part of them may have been
+/// appended.
+pub fn append_joined(text: &mut Vec<u8>, words: &[&str]) -> Result<(), NoMemory>
+    ensures ok { OnOk result (text.new.items ≡ text.old.items ++ joined false (map (λ word. word.now) words.now)) }
+    ensures kept { StartsWith text.new.items text.old.items }
+{
+    let mut later = false;
+    for word in words {
+        append_comma(text, later)?;
+        text.extend_from_slice(word.as_bytes())?;
+        later = true;
+    }
+    Ok(())
+}
+
 /// Appends a comma if `later` is set.
 pub(crate) fn append_comma(text: &mut Vec<u8>, later: bool) -> Result<(), NoMemory>
     ensures ok { OnOk result (text.new.items ≡ text.old.items ++ comma_if later) }
@@ -83,6 +98,6 @@ fn append_value(text: &mut Vec<u8>, cell: &Cell<'_>) -> Result<(), NoMemory>
             text.extend_from_slice(name.as_bytes())?;
             Ok(())
         }
-        Cell::Empty => Ok(()),
+        Cell::Names(_) | Cell::Empty => Ok(()),
     }
 }

@@ -1,7 +1,7 @@
 -- The dates that charges take ascend, and none comes sooner than the date that the server had in its place.
-use Rattle.std.proofs.Common.{ℕ, zero, suc, ◌+◌, ◌<◌, ◌≤◌, List, [], ◌∷◌, ◌++◌, length, map, take, drop, arith}
+use Rattle.std.proofs.Common.{◌≡◌, ℕ, zero, suc, ◌+◌, ◌<◌, ◌≤◌, List, [], ◌∷◌, ◌++◌, length, map, take, drop, arith}
 use Rattle.std.specs.Prelude.{slice_index}
-use Rattle.mcs_refills.specs.Server.{charged, with_enough, unblocked}
+use Rattle.mcs_refills.specs.Server.{charged, with_enough, unblocked, first_date}
 use Rattle.mcs_refills.specs.laws.Spacing.{IsUnder, IsWithin, AreKept, after_use, Step, consumed, AreProper}
 use Rattle.mcs_refills.specs.laws.Spacing.Step.{Charge, Unblock}
 use Rattle.mcs_refills.proofs.Spaces.{kept-charged, kept-unblocked}
@@ -75,6 +75,29 @@ ascends budget period max_refills (Charge k min_budget ∷ steps) low (u ∷ us)
         from-lower u low (take k (u ∷ us) ++ consumed period max_refills steps vs) f
         (then-ascending u s.mid (take k (u ∷ us)) (consumed period max_refills steps vs) s.from s.used
         (rest (first-after period u s.mid (drop k (u ∷ us)) (take k (u ∷ us)) vs s.to s.left s.used under)))
+
+-- a charge leaves no date before the first one
+pub charged-first : (budget period max_refills k min_budget u : ℕ) (us : List ℕ) → AreKept budget period (u ∷ us) → 1 ≤ k →
+    u ≤ first_date (with_enough min_budget (charged k period max_refills (u ∷ us)))
+charged-first budget period max_refills k min_budget u us h some =
+    by (with_enough min_budget (charged k period max_refills (u ∷ us))) kept.1.all
+    (first-after period u s.mid (drop k (u ∷ us)) (take k (u ∷ us)) (with_enough min_budget (charged k period max_refills (u ∷ us))) s.to s.left s.used kept.0)
+  where
+    kept : IsUnder (after_use k period (u ∷ us)) (with_enough min_budget (charged k period max_refills (u ∷ us))) × AreKept budget period (with_enough min_budget (charged k period max_refills (u ∷ us)))
+    kept = kept-charged budget period max_refills k min_budget (u ∷ us) some h
+
+    s : IsSplit u (u + period) k (u ∷ us)
+    s = split k u (u + period) (u ∷ us) (omega arith) (based u h.low (h.low + period) (u + period) (u ∷ us) (omega (arith, h.within.0)) (omega arith) h.within)
+
+    by : (vs : List ℕ) → length vs ≡ budget → IsFrom s.mid vs → u ≤ first_date vs
+    by [] e f = absurd (omega (arith, e, h.all))
+    by (v ∷ vs) e f = omega (arith, s.from, f)
+
+-- each date of ascending ones is from `low` on
+pub ascending-from : (low : ℕ) (dates : List ℕ) → IsAscending low dates → (i : ℕ) → i < length dates → low ≤ slice_index dates i
+ascending-from low [] h i l = absurd (omega (arith, l))
+ascending-from low (date ∷ dates) h zero l = h.0
+ascending-from low (date ∷ dates) h (suc i) l = omega (arith, h.0, ascending-from (date + 1) dates h.1 i (omega (arith, l)))
 
 pub ascending-at : (low : ℕ) (dates : List ℕ) (i j : ℕ) → IsAscending low dates → i ≤ j → j < length dates → slice_index dates i ≤ slice_index dates j
 ascending-at low [] i j h l m = absurd (omega (arith, m))

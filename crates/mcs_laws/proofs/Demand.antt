@@ -1,201 +1,284 @@
 -- A thread runs at most the budget for each period that begins.
-use Rattle.std.proofs.Common.{◌≡◌, ℕ, zero, suc, ◌+◌, ◌*◌, ◌<◌, ◌≤◌, Bool, true, false, cond, List, [], ◌∷◌, ◌++◌, length, Option, Some, None, refl, sym, ap, subst, ◌∙◌, arith}
-use Rattle.std.specs.Prelude.{◌==◌, filter, sum, slice_index}
+use Rattle.std.proofs.Common.{◌≡◌, ◌≢◌, ℕ, zero, suc, ◌+◌, ◌-◌, ◌*◌, ◌<◌, ◌≤◌, ◌⊎◌, inl, inr, Bool, true, false, cond, List, [], ◌∷◌, ◌++◌, length, min, max, refl, sym, ap, subst, ◌∙◌, arith}
+use Rattle.std.specs.Prelude.{◌==◌, ◌&&◌, filter}
+use Rattle.std.specs.List.{AllByRecursion}
 use Rattle.std.proofs.lemmas.Bool.Decides.{nat_tests}
 use Rattle.std.proofs.lemmas.Nat.{mul-le}
-use Rattle.std.proofs.lemmas.List.Sums.{sum_by-append}
-use Rattle.mcs_refills.specs.laws.Spacing.{IsSpaced}
+use Rattle.mcs_refills.specs.Server as server
 use Rattle.mcs_control.specs.declared.config.Config.{Config}
-use Rattle.mcs_control.specs.declared.config.Kind.TheVariants.{Sporadic, RoundRobin}
+use Rattle.mcs_control.specs.declared.config.Kind.TheVariants.{Sporadic}
+use Rattle.mcs_control.specs.declared.config.Mode.{Mode}
+use Rattle.mcs_control.specs.declared.config.Mode.TheVariants as modes
+use Rattle.mcs_control.specs.declared.config.Order.{Order}
 use Rattle.mcs_control.specs.Control.{kind_of}
-use Rattle.mcs_control.specs.Context.{Context, head_amount, head_moment}
-use Rattle.mcs_core.specs.declared.standing.Chosen.{Chosen}
-use Rattle.mcs_system.specs.System.{System, thread_part, context_part, no_context}
-use Rattle.mcs_core.specs.Core.{Core}
-use Rattle.mcs_core.specs.Turn.{Turn}
-use Rattle.mcs_core.specs.Clock as clocks
-use Rattle.mcs_core.proofs.Clock.{turn_of-kept}
+use Rattle.mcs_control.specs.Context.{Context, Budget, head_moment, moment_of, max_refills_of, budget_charged, budget_unblocked, budget_ordered, woken_by, chosen_by}
+use Rattle.mcs_control.specs.Context.Budget.{Dates, Slice}
+use Rattle.mcs_control.specs.laws.Contexts.{IsWhole, IsBudgetOf}
+use Rattle.mcs_control.proofs.Contexts.{less-sporadic}
+use Rattle.mcs_system.specs.System.{System, context_part}
 use Rattle.mcs_system.specs.WellFormed.{IsWellFormed}
-use Rattle.mcs_laws.specs.Changes.{Change, charges_of, AreSound, changed_by, taken_by, GivesBudget}
-use Rattle.mcs_laws.specs.Changes.Change.{Charged}
+use Rattle.mcs_core.specs.Turn.{is_for_now}
+use Rattle.mcs_laws.specs.Changes.{Change, orders_of, changed, changed_by, IsSound, AreSound, GivesBudget, KeepsItsBudget}
+use Rattle.mcs_laws.specs.Changes.Change.{Charged, Woken, Picked, Ordered}
 use Rattle.mcs_laws.specs.Histories as told
-use Rattle.mcs_laws.specs.Places.{times_running}
-use Rattle.mcs_laws.specs.Demand.{ticks_run, periods_begun, ThreadsRunWithinDemand}
-use Rattle.mcs_laws.proofs.Histories.{gives-budgets, histories, budgets-kept}
-use Rattle.mcs_laws.proofs.Kept.{sound-append}
-use Rattle.mcs_laws.proofs.Traces.{Same, same, carry, charges_of-append, orders_of-append}
-use Rattle.mcs_laws.proofs.Traces.Same.{Are, Differ}
-use Rattle.mcs_laws.proofs.Spaced.{changes-spaced, no-orders, all-after, all-sound, changes-next}
-use Rattle.mcs_laws.proofs.Taken.{IsDates, one_charge_more, places-fit, periods-more, periods-cover}
-use Rattle.mcs_laws.proofs.Moments.{bound, on-time, before-next}
-use Rattle.mcs_laws.proofs.Spends.{used, charged_by, UsesLess, turn-spends}
+use Rattle.mcs_laws.specs.Demand.{ticks_run, periods_begun, head_from, StretchesAreWithinDemand, OrdersBeginDemand, ThreadsRunWithinDemand}
+use Rattle.mcs_laws.proofs.Histories.{budgets-kept}
+use Rattle.mcs_laws.proofs.InForce.{has-the-budget, in-force, kind-kept}
+use Rattle.mcs_laws.proofs.Kept.{keeps-change}
+use Rattle.mcs_laws.proofs.Stretches.{never-unordered, file-in-force}
+use Rattle.mcs_laws.proofs.Consumed.{charged-first, ascending-from}
+use Rattle.mcs_laws.proofs.Taken.{IsDates, stays, places-fit, periods-more, periods-cover}
+use Rattle.mcs_laws.proofs.Runs as runs
+
+-- no change moves the head to an earlier date
+unblocked-later : (t : ℕ) (budget : Budget) → moment_of budget ≤ moment_of (budget_unblocked t budget)
+unblocked-later t (Dates []) = omega arith
+unblocked-later t (Dates (date ∷ dates)) = omega arith
+unblocked-later t (Slice left) = omega arith
+
+-- an order leaves no date before its moment
+ordered-first : (t budget period : ℕ) (dates : List ℕ) → 1 ≤ budget → budget ≤ period → max (server.first_date dates) t ≤ server.first_date (server.reconfigured t budget period dates)
+ordered-first t budget period dates some fits = by (min (server.head_amount dates) budget)
+  where
+    begins : ℕ
+    begins = max (server.first_date dates) t
+
+    second : (starts amount : ℕ) → begins ≤ starts → 1 ≤ amount → begins ≤ server.first_date (server.dates_from starts amount)
+    second starts zero l p = absurd (omega (arith, p))
+    second starts (suc amount) l p = l
+
+    by : (amount : ℕ) → begins ≤ server.first_date (server.dates_from begins amount ++ server.dates_from (begins + period - (budget - amount)) (budget - amount))
+    by zero = second (begins + period - (budget - 0)) (budget - 0) (omega (arith, fits)) (omega (arith, some))
+    by (suc amount) = omega arith
+
+module _ (least : ℕ) where
+  grows : (change : Change) (context : Context) → KeepsItsBudget context → IsSound least change context → head_moment context ≤ head_moment (changed least context change)
+  grows (Charged k) context keeps sound = by context.budget keeps.whole
+    where
+      by : (budget : Budget) → IsWhole context.config budget → moment_of budget ≤ moment_of (budget_charged k least context.config budget)
+      by (Dates []) whole = omega arith
+      by (Dates (date ∷ dates)) whole = charged-first context.config.budget context.config.period (max_refills_of context.config) k least date dates whole sound.0
+      by (Slice left) whole = omega arith
+  grows (Woken t) context keeps sound = by context.mode
+    where
+      by : (mode : Mode) → head_moment context ≤ head_moment (woken_by mode t context)
+      by modes.Sporadic = unblocked-later t context.budget
+      by modes.Bandwidth = omega arith
+  grows (Picked t) context keeps sound = by context.mode
+    where
+      by : (mode : Mode) → head_moment context ≤ head_moment (chosen_by mode t context)
+      by modes.Sporadic = omega arith
+      by modes.Bandwidth = unblocked-later t context.budget
+  grows (Ordered order) context keeps sound = by context.budget
+    where
+      by : (budget : Budget) → moment_of budget ≤ moment_of (budget_ordered order.moment order.config budget)
+      by (Dates dates) = omega (arith, ordered-first order.moment order.config.budget order.config.period dates sound.some sound.fits)
+      by (Slice left) = omega arith
+
+  all-grow : (changes : List Change) (context : Context) → KeepsItsBudget context → AreSound least changes context → head_moment context ≤ head_moment (changed_by least changes context)
+  all-grow [] context keeps sound = omega arith
+  all-grow (change ∷ changes) context keeps sound =
+      omega (
+        arith,
+        grows change context keeps sound.0,
+        all-grow changes (changed least context change) (keeps-change least change context keeps sound.0) sound.1,
+      )
+
+  -- so it is not before an order among them
+  from-order : (t : ℕ) (changes : List Change) (context : Context) → IsDates context.budget → KeepsItsBudget context → AreSound least changes context →
+      AllByRecursion (λ (order : Order). order.moment ≡ t) (orders_of changes) → orders_of changes ≢ [] → t ≤ head_moment (changed_by least changes context)
+  from-order t [] context dates keeps sound at some = absurd (some refl)
+  from-order t (Charged k ∷ changes) context dates keeps sound at some =
+      from-order t changes (changed least context (Charged k)) (stays least (Charged k) context dates) (keeps-change least (Charged k) context keeps sound.0) sound.1 at some
+  from-order t (Woken m ∷ changes) context dates keeps sound at some =
+      from-order t changes (changed least context (Woken m)) (stays least (Woken m) context dates) (keeps-change least (Woken m) context keeps sound.0) sound.1 at some
+  from-order t (Picked m ∷ changes) context dates keeps sound at some =
+      from-order t changes (changed least context (Picked m)) (stays least (Picked m) context dates) (keeps-change least (Picked m) context keeps sound.0) sound.1 at some
+  from-order t (Ordered order ∷ changes) context dates keeps sound at some =
+      omega (
+        arith,
+        at.0,
+        here context.budget dates,
+        all-grow changes (changed least context (Ordered order)) (keeps-change least (Ordered order) context keeps sound.0) sound.1,
+      )
+    where
+      here : (budget : Budget) → IsDates budget → order.moment ≤ moment_of (budget_ordered order.moment order.config budget)
+      here (Dates dates) d = omega (arith, ordered-first order.moment order.config.budget order.config.period dates sound.0.some sound.0.fits)
+      here (Slice left) d = absurd d
+
+-- the orders of a moment are of that moment
+module _ (system : System) (x t : ℕ) where
+  at-moment : (os : List Order) → AllByRecursion (λ (order : Order). order.moment ≡ t) (filter (told.is_order_for x) (filter (is_for_now system (told.home_of system x) t) os))
+  at-moment [] = tt
+  at-moment (o ∷ os) = by (is_for_now system (told.home_of system x) t o) refl (o.context == x) refl (at-moment os)
+    where
+      others : List Order
+      others = filter (is_for_now system (told.home_of system x) t) os
+
+      Are : List Order → Type 0
+      Are orders = AllByRecursion (λ (order : Order). order.moment ≡ t) orders
+
+      moment_is : (moment c : ℕ) → (moment == t) && (c == told.home_of system x) ≡ true → moment ≡ t
+      moment_is moment c e = grind (arith, nat_tests)
+
+      by : (a : Bool) → is_for_now system (told.home_of system x) t o ≡ a → (b : Bool) → (o.context == x) ≡ b → Are (filter (told.is_order_for x) others) →
+          Are (filter (told.is_order_for x) (cond a (o ∷ others) others))
+      by false e b f rest = rest
+      by true e false f rest = rw f rest
+      by true e true f rest = rw f (moment_is o.moment (context_part system o.context).core e, rest)
 
 module _ (system : System) (well : IsWellFormed system) (x : ℕ) (known : x < length system.threads) where
   abbrev context : ℕ
-  context = (thread_part system x).context
+  context = runs.context system well x known
 
-  abbrev home : ℕ
-  home = told.home_of system context
-
-  abbrev before : ℕ → Core
-  before t = clocks.core_shown system (clocks.world system t) home
-
-  abbrev running : ℕ → Option Chosen
-  running t = (before t).running
-
-  abbrev config : Config
-  config = (context_part system context).config
+  abbrev now : ℕ → Context
+  now t = told.context_before system context t
 
   context_known : context < length system.contexts
-  context_known = bound system well x known
+  context_known = runs.context_known system well x known
 
-  pub is_budget : GivesBudget config
-  is_budget = (gives-budgets system well).contexts context no_context context_known
+  -- the bound over n ticks from s on, by the context after the turn at s
+  abbrev most : ℕ → ℕ → ℕ
+  most s n = (now (suc s)).config.budget * periods_begun (s + n - head_moment (now (suc s))) (now (suc s)).config.period
 
-  -- at most a tick at each moment
-  at_most_one : (o : Option Chosen) → times_running x o ≤ 1
-  at_most_one None = omega arith
-  at_most_one (Some chosen) = by (chosen.thread == x)
-    where
-      by : (b : Bool) → cond b 1 0 ≤ 1
-      by true = omega arith
-      by false = omega arith
+  is_budget : (s : ℕ) → GivesBudget (now (suc s)).config
+  is_budget s = (budgets-kept system well context (suc s) context_known).keeps.config
 
-  at_most_all : (t : ℕ) → ticks_run system x t ≤ t
-  at_most_all zero = omega arith
-  at_most_all (suc t) = omega (arith, at_most_all t, at_most_one (running (suc t)))
+  some_period : (s : ℕ) → 1 ≤ (now (suc s)).config.period
+  some_period s = omega (arith, (is_budget s).some, (is_budget s).fits)
 
-  round_robin : config.budget ≡ config.period → (t : ℕ) → ticks_run system x t ≤ config.budget * periods_begun t config.period
-  round_robin e t =
-      omega (arith, at_most_all t, periods-cover t config.period (omega (arith, is_budget.some, is_budget.fits)), ap (λ n. n * periods_begun t config.period) e)
-
-  -- what has been charged before a moment
-  changes : ℕ → List Change
-  changes t = told.changes_before system context (histories system well context context_known) t
-
-  charged : ℕ → ℕ
-  charged t = sum (charges_of (changes t))
-
-  charged-next : (t : ℕ) → charged (suc t) ≡ charged t + charged_by system home t x (clocks.turn_of system home t).rows
-  unfolding changes charged
-  charged-next t =
-      let history = histories system well context context_known in
-      ap (λ cs. sum (charges_of cs)) (changes-next system context history t)
-      ∙ ap sum (charges_of-append (changes t) (history.changes t))
-      ∙ sum_by-append (λ n. n) (charges_of (changes t)) (charges_of (history.changes t))
-      ∙ ap (λ ks. sum (charges_of (changes t)) + sum ks) (sym (history.charges t))
-
-  pub less : (t : ℕ) → UsesLess system home t x (running t) (before t)
-  less t = by (running t) (budgets-kept system well context t context_known).uses
-    where
-      by : (o : Option Chosen) → told.UsesLess system context o (told.context_before system context t) → UsesLess system home t x o (before t)
-      by None p = tt
-      by (Some chosen) p = λ own. p (ap (λ y. (thread_part system y).context) own)
-
-  -- the ticks run have been charged or are in use
-  counted : (t : ℕ) → ticks_run system x t ≤ charged t + used system home t x (running t) + times_running x (running t)
-  counted zero = omega arith
-  counted (suc t) =
+  -- a round robin context has its period as budget
+  round_robin : (s n : ℕ) → (now (suc s)).config.budget ≡ (now (suc s)).config.period → ticks_run system x (s + n) ≤ ticks_run system x s + (now (suc s)).config.budget * periods_begun n (now (suc s)).config.period
+  round_robin s n e =
       omega (
         arith,
-        counted t,
-        charged-next t,
-        ap (λ (made : Turn). charged_by system home t x made.rows) (turn_of-kept system home t),
-        turn-spends system home t x (filter (clocks.arrives_at system t home) (clocks.world system t).mails) (before t) (less t),
-        ap (λ (k : Core). used system home t x k.running) (before-next system well x known t),
+        runs.at_most_all system well x known s n,
+        periods-cover n (now (suc s)).config.period (some_period s),
+        ap (λ k. k * periods_begun n (now (suc s)).config.period) e,
       )
 
-  module _ (unordered : told.IsNeverReconfigured system context) (kind : kind_of config ≡ Sporadic) where
-    -- while it runs, the last tick that it uses of the head has a date before the moment
-    while_running : (t using : ℕ) → running (suc t) ≡ Some (record { thread = x; using = using }) → ticks_run system x (suc t) ≤ config.budget * periods_begun (suc t) config.period
-    unfolding changes charged
-    while_running t using e =
+  -- more periods begin over more ticks
+  budgets-more : (s a b : ℕ) → a ≤ b → (now (suc s)).config.budget * periods_begun a (now (suc s)).config.period ≤ (now (suc s)).config.budget * periods_begun b (now (suc s)).config.period
+  budgets-more s a b l =
+      mul-le (now (suc s)).config.budget (periods_begun a (now (suc s)).config.period) (now (suc s)).config.budget (periods_begun b (now (suc s)).config.period) (omega arith)
+      (periods-more a b (now (suc s)).config.period (some_period s) l)
+
+  module _ (s ticks : ℕ) (unordered : told.IsUnordered system context (suc s) (ticks - 1)) (less : (now (suc s)).config.budget < (now (suc s)).config.period) (dates : IsDates (now (suc s)).budget) where
+    -- a tick that it runs is among the budgets of the periods begun
+    while_running : (n using : ℕ) → n < ticks → runs.Runs system well x known (s + n) using → ticks_run system x (s + suc n) ≤ ticks_run system x s + most s (suc n)
+    while_running n using l r =
         omega (
           arith,
-          counted (suc t),
-          ap (λ o. used system home t x o + times_running x o) e,
-          itself,
-          places-fit config.budget config.period t (charged (suc t)) using (taken_by system.min_budget (changes (suc t) ++ Charged (suc using) ∷ []) first)
-              is_budget.some (omega (arith, is_budget.some, is_budget.fits)) spaced more.0 come,
+          one_more,
+          runs.counted system well x known s n,
+          runs.used-by system well x known (s + n) using r,
+          fit,
         )
       where
-        first : Context
-        first = told.opening_context system context
+        kind : kind_of (now (suc s)).config ≡ Sporadic
+        kind = less-sporadic (now (suc s)).config less
 
-        history : told.History system context
-        history = histories system well context context_known
+        none : orders_of (runs.changes system well x known (suc s) n) ≡ []
+        none = runs.quiet system well x known s ticks n unordered l
 
-        itself : used system home t x (Some (record { thread = x; using = using })) + times_running x (Some (record { thread = x; using = using })) ≡ using + 1
-        itself = by (x == x) refl
-          where
-            no : (x == x) ≡ false → ⊥
-            no f = grind (arith, nat_tests)
+        next : s + suc n ≡ suc (s + n)
+        next = omega arith
 
-            by : (b : Bool) → (x == x) ≡ b → cond b using 0 + cond b 1 0 ≡ using + 1
-            by true f = omega arith
-            by false f = absurd (no f)
+        one_more : ticks_run system x (s + suc n) ≤ ticks_run system x (s + n) + 1
+        one_more = rw next (omega (arith, runs.at_most_one system well x known (runs.running system well x known (suc (s + n)))))
 
-        uses : using < head_amount (told.context_before system context (suc t))
-        uses = let P : Option Chosen → Type 0 = λ o. UsesLess system home (suc t) x o (before (suc t)) in (subst P e (less (suc t))) refl
+        fit : runs.charged system well x known (suc s) n + using + 1 ≤ most s (suc n)
+        fit =
+            let P : ℕ → Type 0 = λ m. runs.charged system well x known (suc s) n + using + 1 ≤ (now (suc s)).config.budget * periods_begun (m - head_moment (now (suc s))) (now (suc s)).config.period in
+            subst P (sym next)
+            (places-fit (head_moment (now (suc s))) (now (suc s)).config.budget (now (suc s)).config.period (s + n) (runs.charged system well x known (suc s) n) using
+            (runs.taken system well x known s n using kind dates none r) (is_budget s).some (some_period s) (runs.spaced system well x known s n using kind dates none r)
+            (ascending-from (head_moment (now (suc s))) (runs.taken system well x known s n using kind dates none r) (runs.ascending system well x known s n using kind dates none r))
+            (runs.long system well x known s n using kind dates none r) (runs.there system well x known s n using kind dates none r))
 
-        now : told.context_before system context (suc t) ≡ changed_by system.min_budget (changes (suc t)) first
-        now = all-after system context history (suc t)
-
-        in_head : using < head_amount (changed_by system.min_budget (changes (suc t)) first)
-        in_head = carry (λ k. using < head_amount k) (told.context_before system context (suc t)) (changed_by system.min_budget (changes (suc t)) first) now uses
-
-        dates : IsDates first.budget
-        dates = rw kind tt
-
-        sound : AreSound system.min_budget (changes (suc t)) first
-        sound = all-sound system context history (suc t)
-
-        more : (charged (suc t) + using < length (taken_by system.min_budget (changes (suc t) ++ Charged (suc using) ∷ []) first))
-            × (slice_index (taken_by system.min_budget (changes (suc t) ++ Charged (suc using) ∷ []) first) (charged (suc t) + using) ≡ head_moment (changed_by system.min_budget (changes (suc t)) first) + using)
-        more = one_charge_more system.min_budget (changes (suc t)) first using dates sound in_head
-
-        runs : head_moment (told.context_before system context (suc t)) + using < suc t
-        runs = (rw e at (on-time system well x known unordered (suc t)).runs) refl
-
-        come : slice_index (taken_by system.min_budget (changes (suc t) ++ Charged (suc using) ∷ []) first) (charged (suc t) + using) ≤ t
-        come = omega (arith, more.1, ap head_moment now, runs)
-
-        spaced : IsSpaced config.budget config.period (taken_by system.min_budget (changes (suc t) ++ Charged (suc using) ∷ []) first)
-        spaced =
-            changes-spaced system well context context_known kind (changes (suc t) ++ Charged (suc using) ∷ [])
-            (orders_of-append (changes (suc t)) (Charged (suc using) ∷ []) ∙ ap (λ os. os ++ []) (no-orders system context history unordered (suc t)))
-            (sound-append system.min_budget (changes (suc t)) (Charged (suc using) ∷ []) first sound ((omega arith, omega (arith, in_head)), tt))
-
-    while_not : (t : ℕ) → times_running x (running (suc t)) ≡ 0 → ticks_run system x t ≤ config.budget * periods_begun t config.period →
-        ticks_run system x (suc t) ≤ config.budget * periods_begun (suc t) config.period
-    while_not t e l =
-        omega (
-          arith,
-          e,
-          l,
-          mul-le config.budget (periods_begun t config.period) config.budget (periods_begun (suc t) config.period) (omega arith)
-              (periods-more t config.period (omega (arith, is_budget.some, is_budget.fits))),
-        )
-
-    at_next : (t : ℕ) (o : Option Chosen) → running (suc t) ≡ o → ticks_run system x t ≤ config.budget * periods_begun t config.period →
-        ticks_run system x (suc t) ≤ config.budget * periods_begun (suc t) config.period
-    at_next t None e l = while_not t (ap (times_running x) e) l
-    at_next t (Some chosen) e l = own (same chosen.thread x)
+    sporadic : (n : ℕ) → n ≤ ticks → ticks_run system x (s + n) ≤ ticks_run system x s + most s n
+    sporadic zero l = let e : s + 0 ≡ s = omega arith in omega (arith, ap (ticks_run system x) e)
+    sporadic (suc n) l = by (sporadic n (omega (arith, l))) (runs.tick-of system well x known (s + n))
       where
-        own : Same chosen.thread x → ticks_run system x (suc t) ≤ config.budget * periods_begun (suc t) config.period
-        own (Are f g) = while_running t chosen.using (e ∙ ap (λ y. Some (record { thread = y; using = chosen.using })) g)
-        own (Differ f g) = while_not t (ap (times_running x) e ∙ ap (λ b. cond b 1 0) f) l
+        next : s + suc n ≡ suc (s + n)
+        next = omega arith
 
-    sporadic : (t : ℕ) → ticks_run system x t ≤ config.budget * periods_begun t config.period
-    sporadic zero = omega arith
-    sporadic (suc t) = at_next t (running (suc t)) refl (sporadic t)
+        by : ticks_run system x (s + n) ≤ ticks_run system x s + most s n →
+            ((using : ℕ) × runs.Runs system well x known (s + n) using) ⊎ (ticks_run system x (suc (s + n)) ≡ ticks_run system x (s + n)) → ticks_run system x (s + suc n) ≤ ticks_run system x s + most s (suc n)
+        by i (inl (using, r)) = while_running n using (omega (arith, l)) r
+        by i (inr still) =
+            omega (
+              arith,
+              ap (ticks_run system x) next,
+              still,
+              i,
+              budgets-more s (s + n - head_moment (now (suc s))) (s + suc n - head_moment (now (suc s))) (omega arith),
+            )
 
-  demand : told.IsNeverReconfigured system context → (t : ℕ) → ticks_run system x t ≤ config.budget * periods_begun t config.period
-  demand unordered t = by (same config.budget config.period)
+  -- the kind of the context, by its budget
+  kind_is : (t : ℕ) → (now t).config.budget < (now t).config.period → kind_of (context_part system context).config ≡ Sporadic
+  kind_is t less = sym (kind-kept system well context context_known t) ∙ less-sporadic (now t).config less
+
+  over : (s ticks : ℕ) → told.IsUnordered system context (suc s) (ticks - 1) → ticks_run system x (s + ticks) ≤ ticks_run system x s + most s ticks
+  over s ticks unordered = by (now (suc s)).budget refl (has-the-budget system well context context_known (suc s)).whole.budget
     where
-      by : Same config.budget config.period → ticks_run system x t ≤ config.budget * periods_begun t config.period
-      by (Are f e) = round_robin e t
-      by (Differ f e) = sporadic unordered (ap (λ b. cond b RoundRobin Sporadic) f) t
+      by : (budget : Budget) → (now (suc s)).budget ≡ budget → IsBudgetOf (now (suc s)).config budget → ticks_run system x (s + ticks) ≤ ticks_run system x s + most s ticks
+      by (Slice left) e h =
+          omega (
+            arith,
+            round_robin s ticks h.0,
+            budgets-more s ticks (s + ticks - head_moment (now (suc s))) (omega (arith, ap moment_of e)),
+          )
+      by (Dates dates) e h = sporadic s ticks unordered h.0 (runs.dates-at system well x known (suc s) (kind_is (suc s) h.0)) ticks (omega arith)
+
+  -- an order at s leaves no date before s
+  head-since : (s : ℕ) → told.orders_at system context s ≢ [] → kind_of (context_part system context).config ≡ Sporadic → s ≤ head_moment (now (suc s))
+  head-since s some kind =
+      let past = runs.history system well x known in
+      omega (
+        arith,
+        ap head_moment (past.after s),
+        from-order system.min_budget s (past.changes s) (now s) (runs.dates-at system well x known s kind) (budgets-kept system well context s context_known).keeps (past.sound s)
+            (subst (AllByRecursion (λ (order : Order). order.moment ≡ s)) (past.orders s) (at-moment system context s system.orders))
+            (λ e. some (past.orders s ∙ e)),
+      )
+
+  since : (s ticks : ℕ) → told.orders_at system context s ≢ [] → told.IsUnordered system context (suc s) (ticks - 1) →
+      ticks_run system x (s + ticks) ≤ ticks_run system x s + (now (suc s)).config.budget * periods_begun ticks (now (suc s)).config.period
+  since s ticks some unordered = by (now (suc s)).budget (has-the-budget system well context context_known (suc s)).whole.budget
+    where
+      by : (budget : Budget) → IsBudgetOf (now (suc s)).config budget →
+          ticks_run system x (s + ticks) ≤ ticks_run system x s + (now (suc s)).config.budget * periods_begun ticks (now (suc s)).config.period
+      by (Slice left) h = round_robin s ticks h.0
+      by (Dates dates) h =
+          omega (
+            arith,
+            over s ticks unordered,
+            budgets-more s (s + ticks - head_moment (now (suc s))) ticks (omega (arith, head-since s some (kind_is (suc s) h.0))),
+          )
+
+  whole : told.IsNeverReconfigured system context → (t : ℕ) →
+      ticks_run system x t ≤ (context_part system context).config.budget * periods_begun t (context_part system context).config.period
+  whole never t =
+      subst (λ (c : Config). ticks_run system x t ≤ c.budget * periods_begun t c.period) (file-in-force system well context 1 context_known never)
+      (omega (
+        arith,
+        ap (ticks_run system x) (let e : 0 + t ≡ t = omega arith in e),
+        over 0 t (never-unordered system context 1 (t - 1) never),
+        budgets-more 0 (0 + t - head_moment (now 1)) t (omega arith),
+      ))
+
+pub stretches-within-demand : (system : System) → IsWellFormed system → StretchesAreWithinDemand system
+stretches-within-demand system well x from ticks known unordered =
+    subst (λ (c : Config). ticks_run system x (from + ticks) ≤ ticks_run system x from + c.budget * periods_begun (from + ticks - head_from system x from) c.period)
+    (in-force system well (context system well x known) (context_known system well x known) (suc from))
+    (over system well x known from ticks unordered)
+
+pub orders-begin-demand : (system : System) → IsWellFormed system → OrdersBeginDemand system
+orders-begin-demand system well x from ticks known some unordered =
+    subst (λ (c : Config). ticks_run system x (from + ticks) ≤ ticks_run system x from + c.budget * periods_begun ticks c.period)
+    (in-force system well (context system well x known) (context_known system well x known) (suc from))
+    (since system well x known from ticks some unordered)
 
 pub within-demand : (system : System) → IsWellFormed system → ThreadsRunWithinDemand system
-within-demand system well x t known unordered = demand system well x known unordered t
+within-demand system well x t known unordered = whole system well x known unordered t

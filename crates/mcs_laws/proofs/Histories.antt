@@ -76,7 +76,7 @@ module _ (system : System) (well : IsWellFormed system) (x : ℕ) (known : x < l
   before-next : (t : ℕ) → before (suc t) ≡ (turn_kept system home t).core
   before-next t = core_shown-kept system (takes-time system well) t home home-known
 
-  abbrev Uses : ℕ → Option Chosen → Context → Type 0
+  abbrev pub Uses : ℕ → Option Chosen → Context → Type 0
   Uses t = traces.Uses by_priority system home t x 0 1 1
 
   -- after the turn at t
@@ -99,18 +99,18 @@ module _ (system : System) (well : IsWellFormed system) (x : ℕ) (known : x < l
       ∙ ap (λ n. new_context (context_part system x).config (context_part system x).mode (start_of system.threads n)) (omega arith)
 
   -- what is known before moment t
-  record Life (t : ℕ) : Type 0 where
-    many : length (before t).contexts ≡ length system.contexts
-    keeps : KeepsItsBudget (context_of (before t) x)
-    uses : Uses t (before t).running (context_of (before t) x)
+  pub record Life (t : ℕ) : Type 0 where
+    pub many : length (before t).contexts ≡ length system.contexts
+    pub keeps : KeepsItsBudget (context_of (before t) x)
+    pub uses : Uses t (before t).running (context_of (before t) x)
 
   idle : (k : Core) → k ≡ opening_core system home → Uses 0 k.running (context_of k x)
   idle k e = rw e tt
 
-  inside : (t : ℕ) → Life t → x < length (before t).contexts
+  pub inside : (t : ℕ) → Life t → x < length (before t).contexts
   inside t life = rw life.many known
 
-  life : (t : ℕ) → Life t
+  pub life : (t : ℕ) → Life t
   life zero =
       record {
         many = ap (λ (k : Core). length k.contexts) before-first ∙ opening-many system home 0 system.contexts;

@@ -214,7 +214,7 @@ chosen-config t modes.Sporadic context = refl
 chosen-config t modes.Bandwidth context = refl
 
 -- what changes make of a context
-config-changed : (least : ℕ) (changes : List Change) (context : Context) → (changed_by least changes context).config ≡ last_config context.config (orders_of changes)
+pub config-changed : (least : ℕ) (changes : List Change) (context : Context) → (changed_by least changes context).config ≡ last_config context.config (orders_of changes)
 config-changed least [] context = refl
 config-changed least (Charged k ∷ changes) context = config-changed least changes (changed least context (Charged k))
 config-changed least (Woken t ∷ changes) context = config-changed least changes (changed least context (Woken t)) ∙ ap (λ config. last_config config (orders_of changes)) (woken-config t context.mode context)

@@ -16,9 +16,11 @@ pub mod Consumed
 pub mod Places
 pub mod Homes
 pub mod Links
+pub mod Releases
 pub mod OnTime
 pub mod Moments
 pub mod Spends
+pub mod Runs
 pub mod Demand
 pub mod Bandwidth
 pub mod Taken

@@ -19,13 +19,15 @@ use Rattle.mcs_core.specs.Core.{Core, context_of, opening_core, opening_releases
 use Rattle.mcs_core.specs.Clock as clocks
 use Rattle.mcs_system.specs.WellFormed.{IsWellFormed}
 use Rattle.mcs_core.proofs.Clock.{turn_kept, core_shown-first, core_shown-kept}
+use Rattle.mcs_laws.specs.Changes.{GivesBudget}
 use Rattle.mcs_laws.specs.Histories as told
 use Rattle.mcs_laws.specs.Places.{places}
 use Rattle.mcs_core.specs.Places.{times_dated}
 use Rattle.mcs_laws.specs.OnTime.{IsOnTime, ThreadsAreOnTime}
 use Rattle.mcs_laws.proofs.Ranges.{by_recursion}
 use Rattle.mcs_laws.proofs.Places as held
-use Rattle.mcs_laws.proofs.Histories.{takes-time, before-opening}
+use Rattle.mcs_laws.proofs.Histories.{takes-time, gives-budgets, before-opening, life, inside}
+use Rattle.mcs_laws.proofs.Releases.{AreFrom, all-from-zero, turn-later}
 use Rattle.mcs_laws.proofs.OnTime.{IsAlone, WasOnTime, OnTime, one-same, turn-on_time}
 
 -- the start of the only thread that has a context
@@ -147,8 +149,15 @@ module _ (system : System) (well : IsWellFormed system) (x : ℕ) (known : x < l
         start,
       )
 
-  pub on-time : told.IsNeverReconfigured system context → (t : ℕ) → WasOnTime system home t x (before t)
-  on-time unordered zero =
+  -- no date in the release queue has passed
+  dates-to-come : (t : ℕ) → AreFrom t (before t).releases
+  dates-to-come zero = all-from-zero (before 0).releases
+  dates-to-come (suc t) =
+      let P : Core → Type 0 = λ k. AreFrom (suc t) k.releases in
+      subst P (sym (before-next t)) (turn-later system home t (filter (clocks.arrives_at system t home) (clocks.world system t).mails) (before t))
+
+  pub on-time : (t : ℕ) → WasOnTime system home t x (before t)
+  on-time zero =
       let P : Core → Type 0 = λ k. IsOnTime x (head_moment (context_of (before 0) context)) 0 k.running k.ready k.releases in
       subst P (sym before-first)
       (record {
@@ -159,15 +168,16 @@ module _ (system : System) (well : IsWellFormed system) (x : ℕ) (known : x < l
     where
       started : (i : ℕ) → i ≡ x → head_moment (context_of (before 0) context) ≤ (get_or system.threads i no_thread).start
       started i e = let P : ℕ → Type 0 = λ j. head_moment (context_of (before 0) context) ≤ (get_or system.threads j no_thread).start in subst P (sym e) opening-head
-  on-time unordered (suc t) =
+  on-time (suc t) =
       let P : Core → Type 0 = OnTime system t x in
+      let l = life system well context bound t in
       subst P (sym (before-next t))
-      (turn-on_time system home t x (by_recursion (λ (order : Order). order.context ≢ context) system.orders unordered)
-      (filter (clocks.arrives_at system t home) (clocks.world system t).mails) (before t) (alone t) (on-time unordered t))
+      (turn-on_time system home t x (by_recursion (λ (order : Order). GivesBudget order.config) system.orders (gives-budgets system well).orders)
+      (filter (clocks.arrives_at system t home) (clocks.world system t).mails) (before t) (inside system well context bound t l) l.keeps l.uses (dates-to-come t) (alone t) (on-time t))
 
 pub threads-on-time : (system : System) → IsWellFormed system → ThreadsAreOnTime system
-threads-on-time system well x t known unordered =
-    let h = on-time system well x known unordered t in
+threads-on-time system well x t known =
+    let h = on-time system well x known t in
     record {
       runs = h.runs;
       ready = λ l. h.ready (omega (arith, l, held.sorted-queued x (told.home_before system (context system well x known) t).ready));

@@ -1,5 +1,5 @@
 -- Threads are ready and run only when the dates of their contexts have come.
-use Rattle.std.proofs.Common.{◌≡◌, ◌≢◌, ℕ, suc, ◌+◌, ◌<◌, ◌≤◌, ◌⊎◌, inl, inr, Bool, true, false, not, cond, List, [], ◌∷◌, ◌++◌, length, set, get_or, Option, Some, None, refl, sym, ap, subst, ◌∙◌, arith}
+use Rattle.std.proofs.Common.{◌≡◌, ◌≢◌, ℕ, zero, suc, ◌+◌, ◌-◌, ◌<◌, ◌≤◌, ◌&&◌, ◌⊎◌, inl, inr, Bool, true, false, not, cond, List, [], ◌∷◌, ◌++◌, length, min, max, set, get_or, Option, Some, None, refl, sym, ap, subst, ◌∙◌, arith}
 use Rattle.std.specs.Prelude.{filter, ◌==◌, nat_lt, nat_le}
 use Rattle.std.specs.List.{AllByRecursion}
 use Rattle.std.proofs.lemmas.Bool.{cases_lt}
@@ -16,10 +16,11 @@ use Rattle.mcs_notify.specs.declared.posted.Posted.TheVariants.{Woke, Held}
 use Rattle.mcs_notify.specs.declared.posted.Waited.{Waited}
 use Rattle.mcs_notify.specs.declared.posted.Waited.TheVariants.{Got, Blocks}
 use Rattle.mcs_release.specs.declared.dated.Dated.{Dated}
+use Rattle.mcs_control.specs.declared.config.Config.{Config}
 use Rattle.mcs_control.specs.declared.config.Order.{Order}
 use Rattle.mcs_control.specs.declared.config.Mode.{Mode}
 use Rattle.mcs_control.specs.declared.config.Mode.TheVariants as modes
-use Rattle.mcs_control.specs.Context.{Context, Budget, context_chosen, chosen_by, budget_unblocked, context_ready, budget_ready, moment_of, head_moment, head_amount}
+use Rattle.mcs_control.specs.Context.{Context, Budget, context_charged, context_chosen, chosen_by, budget_unblocked, context_ordered, budget_ordered, context_ready, budget_ready, amount_of, moment_of, head_moment, head_amount}
 use Rattle.mcs_control.specs.Context.Budget.{Dates, Slice}
 use Rattle.mcs_refills.specs.Server as server
 use Rattle.mcs_script.specs.declared.item.Item.{Item}
@@ -33,16 +34,21 @@ use Rattle.mcs_core.specs.declared.alarm.Alarm.{Alarm}
 use Rattle.mcs_core.specs.declared.standing.AfterItem.{AfterItem}
 use Rattle.mcs_core.specs.declared.standing.AfterItem.TheVariants as after
 use Rattle.mcs_core.specs.declared.standing.Chosen.{Chosen}
-use Rattle.mcs_system.specs.System.{System, note_part, thread_part}
+use Rattle.mcs_system.specs.System.{System, note_part, thread_part, context_part}
 use Rattle.mcs_core.specs.Core.{Core, context_of, note_of, thread_of, with_note, off}
 use Rattle.mcs_release.specs.Release.{is_due}
 use Rattle.mcs_core.specs.Turn as turns
 use Rattle.mcs_core.specs.Turn.{Turn, each, silent, says, ◌followed_by◌, is_for_now}
+use Rattle.mcs_laws.specs.Changes.{GivesBudget, KeepsItsBudget, changed_by}
+use Rattle.mcs_laws.specs.Changes.Change.{Charged}
 use Rattle.mcs_laws.specs.Places.{times_running, places}
 use Rattle.mcs_core.specs.Places.{times_queued, times_dated}
 use Rattle.mcs_laws.specs.OnTime.{IsOnTime, RunsInTime}
+use Rattle.mcs_laws.proofs.Kept.{head_amount-some, keeps-change, keeps-changes}
 use Rattle.mcs_laws.proofs.Places as held
-use Rattle.mcs_laws.proofs.Traces.{Same, same, set-same, set-other}
+use Rattle.mcs_laws.proofs.Releases.{AreFrom, tick-from, interrupts-from, arrives-from, obeys-from}
+use Rattle.mcs_laws.proofs.Traces as traces
+use Rattle.mcs_laws.proofs.Traces.{Same, same, carry, set-same, set-other}
 use Rattle.mcs_laws.proofs.Traces.Same.{Are, Differ}
 
 -- a thread counts once at itself
@@ -303,26 +309,6 @@ module _ (system : System) (t x : ℕ) where
       (applied-on_time order (off charged) other (charged-on_time chosen.thread chosen.using k (runs-alone chosen.thread chosen.using k e alone) h)))
       (applied-on_time order k other h)
 
-  obeys-on_time : (order : Order) (k : Core) → order.context ≢ own_context → IsAlone k → OnTime k → OnTime (turns.obeys by_priority system t order k).core
-  obeys-on_time order k other alone h = orders_running-on_time order k.running k refl other alone h
-
-  each-obeys-on_time : (orders : List Order) (k : Core) → AllByRecursion (λ (order : Order). order.context ≢ own_context) orders → IsAlone k → OnTime k →
-      OnTime (each (turns.obeys by_priority system t) orders k).core
-  each-obeys-on_time [] k others alone h = h
-  each-obeys-on_time (order ∷ orders) k others alone h =
-      let after = (turns.obeys by_priority system t order k).core in
-      each-obeys-on_time orders after others.1 (alone-less k after (λ y. held.obeys-held system t y order k) alone) (obeys-on_time order k others.0 alone h)
-
-  some-orders : (p : Order → Bool) (orders : List Order) → AllByRecursion (λ (order : Order). order.context ≢ own_context) orders →
-      AllByRecursion (λ (order : Order). order.context ≢ own_context) (filter p orders)
-  some-orders p [] h = tt
-  some-orders p (order ∷ orders) h = by (p order) (some-orders p orders h.1)
-    where
-      by : (b : Bool) → AllByRecursion (λ (order : Order). order.context ≢ own_context) (filter p orders) →
-          AllByRecursion (λ (order : Order). order.context ≢ own_context) (cond b (order ∷ filter p orders) (filter p orders))
-      by true i = (h.0, i)
-      by false i = i
-
   -- releases
   abbrev AreNotBefore : ℕ → List Dated → Type 0
   AreNotBefore m releases = AllByRecursion (λ (dated : Dated). dated.thread ≡ x → m ≤ dated.date) releases
@@ -573,10 +559,160 @@ module _ (system : System) (c t x : ℕ) where
           same : (z : ℕ) → times_running z (Some (record { thread = chosen.thread; using = chosen.using + 1 })) ≡ times_running z k.running
           same z = rw e refl
 
+  -- what is known of the thread's context and of the release queue between the parts of the turn
+  record IsGood (k : Core) : Type 0 where
+    inside : own_context system t x < length k.contexts
+    keeps : KeepsItsBudget (context_of k (own_context system t x))
+    uses : traces.Uses by_priority system c t (own_context system t x) 1 1 0 k.running (context_of k (own_context system t x))
+    dates : AreFrom t k.releases
+
+  -- an order moves the head to now at most, and no other head
+  reconfigured-head : (budget period : ℕ) (dates : List ℕ) (m : ℕ) → 1 ≤ server.head_amount dates → 1 ≤ budget → server.first_date dates ≤ m → t ≤ m →
+      server.first_date (server.reconfigured t budget period dates) ≤ m
+  reconfigured-head budget period dates m some gives l now = by (min (server.head_amount dates) budget) (omega (arith, some, gives))
+    where
+      begins : ℕ
+      begins = max (server.first_date dates) t
+
+      by : (amount : ℕ) → 1 ≤ amount → server.first_date (server.dates_from begins amount ++ server.dates_from (begins + period - (budget - amount)) (budget - amount)) ≤ m
+      by zero p = absurd (omega (arith, p))
+      by (suc amount) p = omega (arith, l, now)
+
+  ordered-head : (config : Config) (context : Context) (m : ℕ) → GivesBudget config → KeepsItsBudget context → head_moment context ≤ m → t ≤ m →
+      head_moment (context_ordered t config context) ≤ m
+  ordered-head config context m gives keeps l now = by context.budget (head_amount-some context keeps) l
+    where
+      by : (budget : Budget) → 1 ≤ amount_of budget → moment_of budget ≤ m → moment_of (budget_ordered t config budget) ≤ m
+      by (Dates dates) some l = reconfigured-head config.budget config.period dates m some gives.some l now
+      by (Slice left) some l = omega arith
+
+  -- an order for the thread's context
+  module _ (order : Order) (gives : GivesBudget order.config) (is_own : order.context ≡ own_context system t x) where
+    abbrev after_order : Core → Core
+    after_order k = turns.applied t order k
+
+    own-head : (k : Core) (m : ℕ) → own_context system t x < length k.contexts → KeepsItsBudget (context_of k (own_context system t x)) → head system t x k ≤ m → t ≤ m →
+        head system t x (after_order k) ≤ m
+    own-head k m inside keeps l now = rw (set-same (own_context system t x) order.context k.contexts next is_own inside) come
+      where
+        next : Context
+        next = context_ordered t order.config (context_of k order.context)
+
+        come : head_moment (context_ordered t order.config (context_of k order.context)) ≤ m
+        come =
+            let P : ℕ → Type 0 = λ n. head_moment (context_ordered t order.config (context_of k n)) ≤ m in
+            subst P (sym is_own) (ordered-head order.config (context_of k (own_context system t x)) m gives keeps l now)
+
+    -- a date that has not passed is not before the moved head
+    still-dated : (a b : ℕ) (releases : List Dated) → ((date : ℕ) → a ≤ date → t ≤ date → b ≤ date) → AllByRecursion (λ (dated : Dated). dated.thread ≡ x → a ≤ dated.date) releases → AreFrom t releases →
+        AllByRecursion (λ (dated : Dated). dated.thread ≡ x → b ≤ dated.date) releases
+    still-dated a b [] f h from = tt
+    still-dated a b (dated ∷ others) f h from = (λ own. f dated.date (h.0 own) from.0, still-dated a b others f h.1 from.1)
+
+    applied-own : (k : Core) → own_context system t x < length k.contexts → KeepsItsBudget (context_of k (own_context system t x)) → AreFrom t k.releases →
+        RunsInTime x (head system t x (after_order k)) (suc t) k.running → On k → On (after_order k)
+    applied-own k inside keeps from runs h =
+        record {
+          runs = runs;
+          ready = λ l. omega (arith, own-head k t inside keeps (omega (arith, h.ready l)) (omega arith));
+          pends = still-dated (head system t x k) (head system t x (after_order k)) k.releases (λ date. own-head k date inside keeps) h.pends from;
+        }
+
+    nobody : (m : ℕ) (o : Option Chosen) → o ≡ None → RunsInTime x m (suc t) o
+    nobody m o e = rw e tt
+
+    -- the context of the thread that an order stops
+    charged-keeps : (y using : ℕ) (k : Core) → k.running ≡ Some (record { thread = y; using = using }) → Owns system t x y → IsGood k →
+        KeepsItsBudget (context_of (turns.charged system y using k) (own_context system t x))
+    charged-keeps y using k e own good =
+        carry KeepsItsBudget (context_charged using system.min_budget (turns.its_context system y k)) (context_of (turns.charged system y using k) (own_context system t x))
+        (sym (set-same (own_context system t x) (thread_part system y).context k.contexts (context_charged using system.min_budget (turns.its_context system y k)) own good.inside))
+        (let P : ℕ → Type 0 = λ n. KeepsItsBudget (context_charged using system.min_budget (context_of k n)) in
+        subst P (sym own) (keeps-change system.min_budget (Charged using) (context_of k (own_context system t x)) good.keeps (used.0, omega (arith, used.1))))
+      where
+        used : (1 ≤ using) × (using + 1 ≤ head_amount (context_of k (own_context system t x))) × traces.Reaches by_priority system c t (own_context system t x) 0 using (context_of k (own_context system t x))
+        used = (rw e at good.uses) own
+
+    -- it runs in time, if the running thread has another context
+    others-run : (o : Option Chosen) (m : ℕ) → ((chosen : Chosen) → o ≡ Some chosen → (thread_part system chosen.thread).context ≢ own_context system t x) → RunsInTime x m (suc t) o
+    others-run None m f = tt
+    others-run (Some chosen) m f = λ own. absurd (f chosen refl (ap (λ y. (thread_part system y).context) own))
+
+    own-order : (o : Option Chosen) (k : Core) → k.running ≡ o → IsGood k → Alone k → On k → On (turns.orders_running by_priority system t order o k).core
+    own-order None k e good alone h = applied-own k good.inside good.keeps good.dates (nobody (head system t x (after_order k)) k.running e) h
+    own-order (Some chosen) k e good alone h = by (same (thread_part system chosen.thread).context order.context)
+      where
+        charged : Core
+        charged = turns.charged system chosen.thread chosen.using k
+
+        on : (b : Bool) → ((thread_part system chosen.thread).context == order.context) ≡ b →
+            On (cond b (turns.stops_to_front by_priority system t chosen.thread why.Order chosen.using (after_order charged)) (silent (after_order k))).core →
+            On (turns.orders_running by_priority system t order (Some chosen) k).core
+        on b f p = rw f p
+
+        many : own_context system t x < length charged.contexts
+        many = omega (arith, good.inside, length-set k.contexts (thread_part system chosen.thread).context (Some (context_charged chosen.using system.min_budget (turns.its_context system chosen.thread k))))
+
+        runs_other : (thread_part system chosen.thread).context ≢ order.context → (one : Chosen) → k.running ≡ Some one → (thread_part system one.thread).context ≢ own_context system t x
+        runs_other d one f own = d (ap (λ y. (thread_part system y).context) (the_same chosen one (sym e ∙ f)) ∙ own ∙ sym is_own)
+          where
+            the_same : (a b : Chosen) → Some a ≡ Some b → a.thread ≡ b.thread
+            the_same a b g = cc
+
+        by : Same (thread_part system chosen.thread).context order.context → On (turns.orders_running by_priority system t order (Some chosen) k).core
+        by (Are f d) =
+            on true f
+            (stops_to_front-on_time system t x chosen.thread why.Order chosen.using (after_order charged)
+            (applied-own (off charged) many (charged-keeps chosen.thread chosen.using k e (d ∙ is_own) good) good.dates tt
+            (charged-on_time system t x chosen.thread chosen.using k (runs-alone system t x chosen.thread chosen.using k e alone) h)))
+        by (Differ f d) = on false f (applied-own k good.inside good.keeps good.dates (others-run k.running (head system t x (after_order k)) (runs_other d)) h)
+
+  obeys-on_time : (order : Order) → GivesBudget order.config → (k : Core) → IsGood k → Alone k → On k → On (turns.obeys by_priority system t order k).core
+  obeys-on_time order gives k good alone h = by (same order.context (own_context system t x))
+    where
+      by : Same order.context (own_context system t x) → On (turns.obeys by_priority system t order k).core
+      by (Are f is_own) = own-order order gives is_own k.running k refl good alone h
+      by (Differ f other) = orders_running-on_time system t x order k.running k refl other alone h
+
+  still-good : (order : Order) → order.moment ≡ t → GivesBudget order.config → (k : Core) → IsGood k → IsGood (turns.obeys by_priority system t order k).core
+  still-good order m gives k good =
+      let s = traces.obeys-traced by_priority system c t (own_context system t x) order m gives k in
+      let after = (turns.obeys by_priority system t order k).core in
+      record {
+        inside = subst (λ n. own_context system t x < n) (sym s.many) good.inside;
+        keeps = carry KeepsItsBudget (changed_by system.min_budget s.changes (context_of k (own_context system t x))) (context_of after (own_context system t x)) (sym (s.after good.inside))
+            (keeps-changes system.min_budget s.changes (context_of k (own_context system t x)) good.keeps (s.sound good.inside good.keeps good.uses));
+        uses = s.runs good.inside good.keeps good.uses;
+        dates = obeys-from system c t t (omega arith) order k good.dates;
+      }
+
+  orders-on_time : (orders : List Order) → AllByRecursion (λ (order : Order). GivesBudget order.config) orders → (k : Core) → IsGood k → Alone k → On k →
+      On (each (turns.obeys by_priority system t) (filter (is_for_now system c t) orders) k).core
+  orders-on_time [] gives k good alone h = h
+  orders-on_time (order ∷ orders) gives k good alone h = by (is_for_now system c t order) refl (orders-on_time orders gives.1)
+    where
+      now : (moment home : ℕ) → (moment == t) && (home == c) ≡ true → moment ≡ t
+      now moment home e = grind (arith, nat_tests)
+
+      others : List Order
+      others = filter (is_for_now system c t) orders
+
+      after : Core
+      after = (turns.obeys by_priority system t order k).core
+
+      by : (b : Bool) → is_for_now system c t order ≡ b → ((k : Core) → IsGood k → Alone k → On k → On (each (turns.obeys by_priority system t) others k).core) →
+          On (each (turns.obeys by_priority system t) (cond b (order ∷ others) others) k).core
+      by true e rest =
+          rest after (still-good order (now order.moment (context_part system order.context).core e) gives.0 k good)
+          (alone-less system t x k after (λ y. held.obeys-held system t y order k) alone) (obeys-on_time order gives.0 k good alone h)
+      by false e rest = rest k good alone h
+
   -- a whole turn
-  pub turn-on_time : AllByRecursion (λ (order : Order). order.context ≢ own_context system t x) system.orders → (mails : List Mail) (k : Core) →
+  pub turn-on_time : AllByRecursion (λ (order : Order). GivesBudget order.config) system.orders → (mails : List Mail) (k : Core) →
+      own_context system t x < length k.contexts → KeepsItsBudget (context_of k (own_context system t x)) →
+      traces.Uses by_priority system c t (own_context system t x) 0 1 1 k.running (context_of k (own_context system t x)) → AreFrom t k.releases →
       Alone k → WasOnTime k → On (turns.turn_with by_priority system c t mails k).core
-  turn-on_time others mails k alone h = last
+  turn-on_time gives mails k inside keeps uses dates alone h = last
     where
       orders : List Order
       orders = filter (is_for_now system c t) system.orders
@@ -614,9 +750,21 @@ module _ (system : System) (c t x : ℕ) where
         alone-less system t x rang second (λ z. held.each-held system t z (turns.arrives by_priority system t) (held.arrives-held system t z) mails rang) half.1,
       )
 
+      good : IsGood second
+      good =
+          let s = traces.before-orders by_priority system c t (own_context system t x) mails k in
+          record {
+            inside = subst (λ n. own_context system t x < n) (sym s.many) inside;
+            keeps = carry KeepsItsBudget (changed_by system.min_budget s.changes (context_of k (own_context system t x))) (context_of second (own_context system t x)) (sym (s.after inside))
+                (keeps-changes system.min_budget s.changes (context_of k (own_context system t x)) keeps (s.sound inside keeps uses));
+            uses = s.runs inside keeps uses;
+            dates = arrives-from system c t t (omega arith) mails rang
+                (interrupts-from system c t t (omega arith) (ringing t (alarms_at system c t)) first (tick-from system c t t (omega arith) k.running k dates));
+          }
+
       three : On third × Alone third
       three = (
-        each-obeys-on_time system t x orders second (some-orders system t x (is_for_now system c t) system.orders others) two.1 two.0,
+        orders-on_time system.orders gives second good two.1 two.0,
         alone-less system t x second third (λ z. held.each-held system t z (turns.obeys by_priority system t) (held.obeys-held system t z) orders second) two.1,
       )
 

@@ -149,7 +149,7 @@ no-orders system x history unordered t =
     (λ m. no_orders_at x (is_for_now system (told.home_of system x) m) system.orders (by_recursion (λ (order : Order). order.context ≢ x) system.orders unordered)) t
 
 -- the dates that changes without an order take from any sporadic context in good order
-stretch-spaced : (least : ℕ) (changes : List Change) (k : Context) → IsContext k → kind_of k.config ≡ Sporadic → orders_of changes ≡ [] → AreSound least changes k →
+pub stretch-spaced : (least : ℕ) (changes : List Change) (k : Context) → IsContext k → kind_of k.config ≡ Sporadic → orders_of changes ≡ [] → AreSound least changes k →
     IsSpaced k.config.budget k.config.period (taken_by least changes k)
 stretch-spaced least changes k whole kind none sound = by k.budget whole.budget sound
   where

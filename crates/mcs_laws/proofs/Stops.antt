@@ -37,7 +37,7 @@ stop_in (row.Release thread) = 0
 stop_in (row.Run thread) = 0
 stop_in (row.Signal thread note badge) = 0
 stop_in (row.Arrive note badge maker) = 0
-stop_in (row.Wake thread note word) = 0
+stop_in (row.Wake thread note word until) = 0
 stop_in (row.Hold note word) = 0
 stop_in (row.Got thread note word) = 0
 stop_in (row.Round thread number response) = 0
@@ -162,7 +162,7 @@ module _ (queue : Discipline) (system : System) (c t : ℕ) where
 
   posts_as-goes : (note : ℕ) (p : Posted) (core : Core) → Goes core (turns.posts_as queue system t note p core)
   posts_as-goes note (Woke y word) core =
-      goes-then core (says (row.Wake y note word) (with_note note (after_post (Woke y word) (note_of core note)) core)) (turns.wakes queue system t y word)
+      goes-then core (says (row.Wake y note word (turns.woken_until system t y core)) (with_note note (after_post (Woke y word) (note_of core note)) core)) (turns.wakes queue system t y word)
       (record { none = refl; same = refl }) (λ k. wakes-goes y word k)
   posts_as-goes note (Held word) core = record { none = refl; same = refl }
 
@@ -190,7 +190,7 @@ module _ (queue : Discipline) (system : System) (c t : ℕ) where
 
   frees_as-goes : (server : ℕ) (p : Posted) (core : Core) → Goes core (turns.frees_as queue system t server p core)
   frees_as-goes server (Woke y word) core =
-      goes-then core (says (row.Wake y server word) (with_note server (after_post (Woke y word) (note_of core server)) core)) (turns.let_in queue system t y)
+      goes-then core (says (row.Wake y server word (turns.woken_until system t y core)) (with_note server (after_post (Woke y word) (note_of core server)) core)) (turns.let_in queue system t y)
       (record { none = refl; same = refl }) (λ k. let_in-goes y k)
   frees_as-goes server (Held word) core = record { none = refl; same = refl }
 
@@ -366,7 +366,7 @@ charges-few system x (what ∷ rows) = by what (charges-few system x rows)
         here : (b : Bool) → length (cond b (k ∷ []) [] ++ charges_told system x rows) ≤ 1 + stops rows
         here true = omega (arith, i)
         here false = omega (arith, i)
-    by (row.Wake thread note word) i = omega (arith, i)
+    by (row.Wake thread note word until) i = omega (arith, i)
     by (row.Run thread) i = omega (arith, i)
     by (row.Release thread) i = omega (arith, i)
     by (row.Signal thread note badge) i = omega (arith, i)

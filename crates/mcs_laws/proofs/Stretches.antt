@@ -1,18 +1,21 @@
 -- Changes of a context by the turns of some moments, without an order for it.
-use Rattle.std.proofs.Common.{◌≡◌, ◌≢◌, ℕ, zero, suc, ◌+◌, ◌<◌, ◌≤◌, Bool, true, false, cond, List, [], ◌∷◌, ◌++◌, refl, sym, ap, ◌∙◌, arith}
+use Rattle.std.proofs.Common.{◌≡◌, ◌≢◌, ℕ, zero, suc, ◌+◌, ◌<◌, ◌≤◌, Bool, true, false, cond, List, [], ◌∷◌, ◌++◌, length, refl, sym, ap, ◌∙◌, arith}
 use Rattle.std.specs.Prelude.{filter, ◌==◌, ◌&&◌, nat_le, nat_lt}
 use Rattle.std.specs.List.{AllByRecursion}
 use Rattle.std.proofs.lemmas.Bool.Decides.{nat_tests}
 use Rattle.mcs_control.specs.declared.config.Order.{Order}
 use Rattle.mcs_control.specs.Context.{Context}
-use Rattle.mcs_system.specs.System.{System}
+use Rattle.mcs_system.specs.System.{System, context_part}
+use Rattle.mcs_system.specs.WellFormed.{IsWellFormed}
 use Rattle.mcs_laws.specs.Changes.{Change, charges_of, orders_of, changed_by, AreSound}
 use Rattle.mcs_laws.specs.Histories as told
+use Rattle.mcs_laws.specs.InForce.{last_config, FilesStayInForce}
 use Rattle.mcs_laws.specs.Slices.{charges_from}
 use Rattle.mcs_laws.proofs.Ranges.{by_recursion, flat_map-range-more}
 use Rattle.mcs_laws.proofs.Kept.{changed_by-append, sound-append}
 use Rattle.mcs_laws.proofs.Traces.{carry, charges_of-append, orders_of-append}
-use Rattle.mcs_laws.proofs.InForce.{is_now, obeyed-now}
+use Rattle.mcs_laws.proofs.Histories.{histories}
+use Rattle.mcs_laws.proofs.InForce.{is_now, obeyed-now, config-changed, in-force}
 
 no_order : (order : Order) (orders : List Order) → order ∷ orders ≡ [] → ⊥
 no_order order orders e = cc
@@ -40,7 +43,7 @@ module _ (system : System) (x from n : ℕ) (unordered : told.IsUnordered system
       rw (low, high) refl
 
   -- no order for the context at any of the moments
-  none-at : (t : ℕ) → from ≤ t → t < from + n → told.orders_at system x t ≡ []
+  pub none-at : (t : ℕ) → from ≤ t → t < from + n → told.orders_at system x t ≡ []
   none-at t l k =
       obeyed-now system x t system.orders
       ∙ none_passes is_within (is_now system x t) system.orders (λ o e. now-within t l k (told.is_order_for x o) o.moment e) unordered
@@ -52,7 +55,7 @@ module _ (system : System) (x : ℕ) (history : told.History system x) where
   abbrev before : ℕ → Context
   before t = told.context_before system x t
 
-  changes-next : (from n : ℕ) → changes from (suc n) ≡ changes from n ++ history.changes (from + n)
+  pub changes-next : (from n : ℕ) → changes from (suc n) ≡ changes from n ++ history.changes (from + n)
   changes-next from n = flat_map-range-more history.changes n from
 
   pub after-all : (from n : ℕ) → before (from + n) ≡ changed_by system.min_budget (changes from n) (before from)
@@ -70,7 +73,7 @@ module _ (system : System) (x : ℕ) (history : told.History system x) where
       (sound-append system.min_budget (changes from n) (history.changes (from + n)) (before from) (sound-all from n)
       (carry (AreSound system.min_budget (history.changes (from + n))) (before (from + n)) (changed_by system.min_budget (changes from n) (before from)) (after-all from n) (history.sound (from + n))))
 
-  orders-none : (from n : ℕ) → ((t : ℕ) → from ≤ t → t < from + n → told.orders_at system x t ≡ []) → orders_of (changes from n) ≡ []
+  pub orders-none : (from n : ℕ) → ((t : ℕ) → from ≤ t → t < from + n → told.orders_at system x t ≡ []) → orders_of (changes from n) ≡ []
   orders-none from zero h = refl
   orders-none from (suc n) h =
       ap orders_of (changes-next from n) ∙ orders_of-append (changes from n) (history.changes (from + n))
@@ -106,3 +109,18 @@ module _ (system : System) (x from n : ℕ) where
 
   pub never-unordered : told.IsNeverReconfigured system x → told.IsUnordered system x from n
   never-unordered never = none-there system.orders (by_recursion (λ (order : Order). order.context ≢ x) system.orders never)
+
+-- and keeps the configuration of the file
+pub file-in-force : (system : System) (well : IsWellFormed system) (x t : ℕ) → x < length system.contexts → told.IsNeverReconfigured system x →
+    (told.context_before system x t).config ≡ (context_part system x).config
+file-in-force system well x t known never =
+    let past = histories system well x known in
+    ap (λ n. (told.context_before system x n).config) (let e : t ≡ 0 + t = omega arith in e)
+    ∙ ap (λ (k : Context). k.config) (after-all system x past 0 t)
+    ∙ config-changed system.min_budget (changes system x past 0 t) (told.context_before system x 0)
+    ∙ ap (last_config (told.context_before system x 0).config) (orders-of-all system x past 0 t (never-unordered system x 0 t never))
+    ∙ ap (λ (k : Context). k.config) past.opening
+
+pub files-in-force : (system : System) → IsWellFormed system → FilesStayInForce system
+files-in-force system well x from moments known never =
+    (never-unordered system x from moments never, sym (in-force system well x known from) ∙ file-in-force system well x from known never)

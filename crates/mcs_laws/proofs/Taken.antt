@@ -41,21 +41,31 @@ head-place (date ∷ next ∷ dates) (suc i) l = by (date + 1 == next) refl (ome
     by true e l h = omega (arith, h (omega (arith, l)), equal (date + 1) next e)
     by false e l h = absurd (omega (arith, l))
 
--- of dates that are spaced, the one in place q budgets and r comes after q periods
-spaced-place : (budget period : ℕ) (dates : List ℕ) → IsSpaced budget period dates → (q r : ℕ) → q * budget + r < length dates → q * period ≤ slice_index dates (q * budget + r)
-spaced-place budget period dates h zero r l = omega arith
-spaced-place budget period dates h (suc q) r l =
+-- of dates from `low` on that are spaced, the one in place q budgets and r comes q periods after it
+spaced-place : (low budget period : ℕ) (dates : List ℕ) → IsSpaced budget period dates → ((r : ℕ) → r < length dates → low ≤ slice_index dates r) → (q r : ℕ) → q * budget + r < length dates →
+    low + q * period ≤ slice_index dates (q * budget + r)
+spaced-place low budget period dates h from zero r l =
+    let place : slice_index dates r ≡ slice_index dates (zero * budget + r) = ap (slice_index dates) (omega arith) in
+    omega (arith, place, from r (omega (arith, l)))
+spaced-place low budget period dates h from (suc q) r l =
     let more : suc q * budget ≡ q * budget + budget = suc-mul q budget in
-    let before : q * period ≤ slice_index dates (q * budget + r) = spaced-place budget period dates h q r (omega (arith, l, more)) in
+    let before : low + q * period ≤ slice_index dates (q * budget + r) = spaced-place low budget period dates h from q r (omega (arith, l, more)) in
     let later : slice_index dates (q * budget + r) + period ≤ slice_index dates (q * budget + r + budget) = h (q * budget + r) (omega (arith, l, more)) in
     let place : slice_index dates (q * budget + r + budget) ≡ slice_index dates (suc q * budget + r) = ap (slice_index dates) (omega (arith, more)) in
     omega (arith, suc-mul q period, before, later, place)
 
--- if the date in place n + u comes by t, at most the budgets of the periods begun by then are used
-pub places-fit : (budget period t n u : ℕ) (dates : List ℕ) → 1 ≤ budget → 1 ≤ period → IsSpaced budget period dates → n + u < length dates → slice_index dates (n + u) ≤ t →
-    n + u + 1 ≤ budget * periods_begun (suc t) period
-places-fit budget period t n u dates some_budget some_period h l come =
-    omega (arith, divided, mod_below (n + u) budget some_budget, suc-mul q budget, mul-le (suc q) budget (periods_begun (suc t) period) budget begun (omega arith), mul_comm (periods_begun (suc t) period) budget)
+-- if the date in place n + u comes by t, at most the budgets of the periods begun by then are used, the first of which begins at `low`
+pub places-fit : (low budget period t n u : ℕ) (dates : List ℕ) → 1 ≤ budget → 1 ≤ period → IsSpaced budget period dates → ((r : ℕ) → r < length dates → low ≤ slice_index dates r) →
+    n + u < length dates → slice_index dates (n + u) ≤ t → n + u + 1 ≤ budget * periods_begun (suc t - low) period
+places-fit low budget period t n u dates some_budget some_period h from l come =
+    omega (
+      arith,
+      divided,
+      mod_below (n + u) budget some_budget,
+      suc-mul q budget,
+      mul-le (suc q) budget (periods_begun (suc t - low) period) budget begun (omega arith),
+      mul_comm (periods_begun (suc t - low) period) budget,
+    )
   where
     q : ℕ
     q = (n + u) / budget
@@ -66,17 +76,17 @@ places-fit budget period t n u dates some_budget some_period h l come =
     divided : (n + u) / budget * budget + (n + u) % budget ≡ n + u
     divided = div-add-mod' (n + u) budget
 
-    past : (n + u) / budget * period ≤ t
+    past : low + (n + u) / budget * period ≤ t
     past =
         let place : slice_index dates ((n + u) / budget * budget + (n + u) % budget) ≡ slice_index dates (n + u) = ap (slice_index dates) divided in
-        omega (arith, spaced-place budget period dates h ((n + u) / budget) ((n + u) % budget) (omega (arith, divided, l)), place, come)
+        omega (arith, spaced-place low budget period dates h from ((n + u) / budget) ((n + u) % budget) (omega (arith, divided, l)), place, come)
 
-    begun : suc ((n + u) / budget) ≤ periods_begun (suc t) period
-    begun = le-div (suc ((n + u) / budget)) (suc t + (period - 1)) period some_period (omega (arith, past, suc-mul ((n + u) / budget) period, some_period))
+    begun : suc ((n + u) / budget) ≤ periods_begun (suc t - low) period
+    begun = le-div (suc ((n + u) / budget)) (suc t - low + (period - 1)) period some_period (omega (arith, past, suc-mul ((n + u) / budget) period, some_period))
 
 -- a later horizon has no fewer periods, and a horizon no more ticks than they
-pub periods-more : (t period : ℕ) → 1 ≤ period → periods_begun t period ≤ periods_begun (suc t) period
-periods-more t period some = le-div (periods_begun t period) (suc t + (period - 1)) period some (omega (arith, div-mul-le_self (t + (period - 1)) period))
+pub periods-more : (a b period : ℕ) → 1 ≤ period → a ≤ b → periods_begun a period ≤ periods_begun b period
+periods-more a b period some l = le-div (periods_begun a period) (b + (period - 1)) period some (omega (arith, l, div-mul-le_self (a + (period - 1)) period))
 
 pub periods-cover : (t period : ℕ) → 1 ≤ period → t ≤ period * periods_begun t period
 periods-cover t period some =
@@ -95,7 +105,7 @@ unblocked-stays t context d = by context.budget d
     by (Slice left) d = absurd d
 
 module _ (least : ℕ) where
-  stays : (change : Change) (context : Context) → IsDates context.budget → IsDates (changed least context change).budget
+  pub stays : (change : Change) (context : Context) → IsDates context.budget → IsDates (changed least context change).budget
   stays (Charged k) context d = by context.budget d
     where
       by : (budget : Budget) → IsDates budget → IsDates (budget_charged k least context.config budget)

@@ -94,7 +94,7 @@ deeds_of-append xs ys = flat_map-append deed_of xs ys
 module _ (system : System) (t x : ℕ) where
   abbrev deed_told : What → List Change
   deed_told (row.Stop thread why k until) = cond ((thread_part system thread).context == x) (Charged k ∷ []) []
-  deed_told (row.Wake thread note word) = cond ((thread_part system thread).context == x) (Woken t ∷ []) []
+  deed_told (row.Wake thread note word until) = cond ((thread_part system thread).context == x) (Woken t ∷ []) []
   deed_told (row.Run thread) = cond ((thread_part system thread).context == x) (Picked t ∷ []) []
   deed_told (row.Release thread) = []
   deed_told (row.Signal thread note badge) = []
@@ -118,7 +118,7 @@ module _ (system : System) (t x : ℕ) where
           here : (b : Bool) → cond b (k ∷ []) [] ++ charges_told system x rows ≡ charges_of (cond b (Charged k ∷ []) [] ++ deeds_told rows)
           here true = ap (λ ns. k ∷ ns) i
           here false = i
-      by (row.Wake thread note word) i = here ((thread_part system thread).context == x)
+      by (row.Wake thread note word until) i = here ((thread_part system thread).context == x)
         where
           here : (b : Bool) → charges_told system x rows ≡ charges_of (cond b (Woken t ∷ []) [] ++ deeds_told rows)
           here true = i
@@ -147,7 +147,7 @@ module _ (system : System) (t x : ℕ) where
           here : (b : Bool) → wakes_told system x t rows ≡ wakes_of (cond b (Charged k ∷ []) [] ++ deeds_told rows)
           here true = i
           here false = i
-      by (row.Wake thread note word) i = here ((thread_part system thread).context == x)
+      by (row.Wake thread note word until) i = here ((thread_part system thread).context == x)
         where
           here : (b : Bool) → cond b (t ∷ []) [] ++ wakes_told system x t rows ≡ wakes_of (cond b (Woken t ∷ []) [] ++ deeds_told rows)
           here true = ap (λ ns. t ∷ ns) i
@@ -176,7 +176,7 @@ module _ (system : System) (t x : ℕ) where
           here : (b : Bool) → choices_told system x t rows ≡ choices_of (cond b (Charged k ∷ []) [] ++ deeds_told rows)
           here true = i
           here false = i
-      by (row.Wake thread note word) i = here ((thread_part system thread).context == x)
+      by (row.Wake thread note word until) i = here ((thread_part system thread).context == x)
         where
           here : (b : Bool) → choices_told system x t rows ≡ choices_of (cond b (Woken t ∷ []) [] ++ deeds_told rows)
           here true = i
@@ -495,7 +495,7 @@ module _ (queue : Discipline) (system : System) (c t x : ℕ) where
 
     posts_as-traced : (note : ℕ) (p : Posted) (core : Core) → Traced P P [] core (turns.posts_as queue system t note p core)
     posts_as-traced note (Woke y word) core =
-        then_part P P P [] [] core (says (row.Wake y note word) noted followed_by λ k. turns.moves_on system t y (turns.given system t y word (turns.with_woken_context system t y k)))
+        then_part P P P [] [] core (says (row.Wake y note word (turns.woken_until system t y core)) noted followed_by λ k. turns.moves_on system t y (turns.given system t y word (turns.with_woken_context system t y k)))
         (λ k. silent (turns.enters_back queue y (turns.date_of system t y k) k))
         (moved (turns.move_of system y given))
         (λ k. still P k _ (enters_back-same y (turns.date_of system t y k) k) (enters_back-running y (turns.date_of system t y k) k) refl)
@@ -506,7 +506,7 @@ module _ (queue : Discipline) (system : System) (c t x : ℕ) where
         given : Core
         given = turns.given system t y word (turns.with_woken_context system t y noted)
 
-        moved : (m : Moved) → Traced P P [] core (says (row.Wake y note word) noted followed_by λ k. turns.moves system t y m (turns.given system t y word (turns.with_woken_context system t y k)))
+        moved : (m : Moved) → Traced P P [] core (says (row.Wake y note word (turns.woken_until system t y core)) noted followed_by λ k. turns.moves system t y m (turns.given system t y word (turns.with_woken_context system t y k)))
         moved Next = waking core y _ refl refl refl
         moved RoundEnds = waking core y _ refl refl refl
         moved AllDone = waking core y _ refl refl refl
@@ -522,7 +522,7 @@ module _ (queue : Discipline) (system : System) (c t x : ℕ) where
 
     frees_as-traced : (server : ℕ) (p : Posted) (core : Core) → Traced P P [] core (turns.frees_as queue system t server p core)
     frees_as-traced server (Woke y word) core =
-        then_part P P P [] [] core (says (row.Wake y server word) noted followed_by λ k. turns.moves_on system t y (turns.with_woken_context system t y k))
+        then_part P P P [] [] core (says (row.Wake y server word (turns.woken_until system t y core)) noted followed_by λ k. turns.moves_on system t y (turns.with_woken_context system t y k))
         (λ k. silent (turns.enters_front queue y (turns.date_of system t y k) k))
         (moved (turns.move_of system y woken))
         (λ k. still P k _ (enters_front-same y (turns.date_of system t y k) k) (enters_front-running y (turns.date_of system t y k) k) refl)
@@ -533,7 +533,7 @@ module _ (queue : Discipline) (system : System) (c t x : ℕ) where
         woken : Core
         woken = turns.with_woken_context system t y noted
 
-        moved : (m : Moved) → Traced P P [] core (says (row.Wake y server word) noted followed_by λ k. turns.moves system t y m (turns.with_woken_context system t y k))
+        moved : (m : Moved) → Traced P P [] core (says (row.Wake y server word (turns.woken_until system t y core)) noted followed_by λ k. turns.moves system t y m (turns.with_woken_context system t y k))
         moved Next = waking core y _ refl refl refl
         moved RoundEnds = waking core y _ refl refl refl
         moved AllDone = waking core y _ refl refl refl
@@ -748,7 +748,7 @@ module _ (queue : Discipline) (system : System) (c t x : ℕ) where
           again : (o : Option Chosen) → o ≡ Some chosen → Uses 1 1 0 (Some chosen) (context_of (turns.applied t order core) x) → Uses 1 1 0 o (context_of (turns.applied t order core) x)
           again o f q = rw f q
 
-  obeys-traced : (order : Order) → order.moment ≡ t → GivesBudget order.config → (core : Core) →
+  pub obeys-traced : (order : Order) → order.moment ≡ t → GivesBudget order.config → (core : Core) →
       Traced (Uses 1 1 0) (Uses 1 1 0) (filter (is_order_for x) (order ∷ [])) core (turns.obeys queue system t order core)
   obeys-traced order m budget core =
       then_made (Uses 1 1 0) (Uses 1 1 0) (Uses 1 1 0) [] (filter (is_order_for x) (order ∷ [])) core (says (row.Order order.context) core)
@@ -823,6 +823,19 @@ module _ (queue : Discipline) (system : System) (c t x : ℕ) where
       (λ k kept p own. (omega arith, omega (arith, head_amount-some (changed least k (Picked t)) (keeps-change least (Picked t) k kept tt)), reaches-chosen k.mode k refl kept))
       (λ differs k kept p own. absurd (differs own)) refl
 
+  -- a turn up to its orders
+  pub before-orders : (mails : List Mail) (core : Core) →
+      Traced (Uses 0 1 1) (Uses 1 1 0) [] core
+      (turns.tick queue system c t core followed_by each (turns.interrupts queue system t) (ringing t (alarms_at system c t)) followed_by each (turns.arrives queue system t) mails)
+  before-orders mails core =
+      then_part (Uses 0 1 1) (Uses 1 1 0) (Uses 1 1 0) [] [] core _ (each (turns.arrives queue system t) mails)
+      (
+      then_part (Uses 0 1 1) (Uses 1 1 0) (Uses 1 1 0) [] [] core (turns.tick queue system c t core) (each (turns.interrupts queue system t) (ringing t (alarms_at system c t)))
+      (tick_of-traced core.running core refl)
+      (λ k. each_part (Uses 1 1 0) (turns.interrupts queue system t) (interrupts-traced (Uses 1 1 0) (uses-steady 1 1 0)) (ringing t (alarms_at system c t)) k)
+      )
+      (λ k. each_part (Uses 1 1 0) (turns.arrives queue system t) (arrives-traced (Uses 1 1 0) (uses-steady 1 1 0)) mails k)
+
   -- a whole turn
   pub turn-traced : AllByRecursion (λ (order : Order). GivesBudget order.config) system.orders → (mails : List Mail) (core : Core) →
       Traced (Uses 0 1 1) (Uses 0 1 0) (filter (is_order_for x) (filter (is_for_now system c t) system.orders)) core (turns.turn_with queue system c t mails core)
@@ -836,15 +849,7 @@ module _ (queue : Discipline) (system : System) (c t x : ℕ) where
       then_part (Uses 0 1 1) (Uses 1 1 0) (Uses 1 1 0) _ [] core _ (turns.releases queue system t)
       (
       then_part (Uses 0 1 1) (Uses 1 1 0) (Uses 1 1 0) _ orders core _ (each (turns.obeys queue system t) (filter (is_for_now system c t) system.orders))
-      (
-      then_part (Uses 0 1 1) (Uses 1 1 0) (Uses 1 1 0) [] [] core _ (each (turns.arrives queue system t) mails)
-      (
-      then_part (Uses 0 1 1) (Uses 1 1 0) (Uses 1 1 0) [] [] core (turns.tick queue system c t core) (each (turns.interrupts queue system t) (ringing t (alarms_at system c t)))
-      (tick_of-traced core.running core refl)
-      (λ k. each_part (Uses 1 1 0) (turns.interrupts queue system t) (interrupts-traced (Uses 1 1 0) (uses-steady 1 1 0)) (ringing t (alarms_at system c t)) k)
-      )
-      (λ k. each_part (Uses 1 1 0) (turns.arrives queue system t) (arrives-traced (Uses 1 1 0) (uses-steady 1 1 0)) mails k)
-      )
+      (before-orders mails core)
       (λ k. orders-traced system.orders budgets k)
       )
       releases-traced

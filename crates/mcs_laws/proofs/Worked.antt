@@ -15,8 +15,8 @@ use Rattle.mcs_system.specs.System.{System}
 use Rattle.mcs_core.specs.Clock.{core_at, clock_with, turn_of}
 use Rattle.mcs_laws.specs.Changes.{Change, taken_by}
 use Rattle.mcs_laws.specs.Changes.Change.{Charged, Ordered}
-use Rattle.mcs_laws.specs.Demand.{periods_begun, ticks_run, demand_of}
-use Rattle.mcs_laws.specs.Histories.{home_before, context_before, charges_at, opening_context}
+use Rattle.mcs_laws.specs.Demand.{periods_begun, ticks_run, demand_of, demand_over, demand_since, config_from, head_from, IsUnorderedOver}
+use Rattle.mcs_laws.specs.Histories.{home_before, context_before, charges_at, opening_context, orders_within}
 use Rattle.mcs_laws.specs.InForce.{config_in_force}
 use Rattle.mcs_laws.specs.Places.{places}
 
@@ -162,6 +162,64 @@ bandwidth_runs_one = refl
 -- the bound is met, and a tick more would be too much for a stretch of a period and a tick
 bandwidth_runs_again : ticks_run (kept_waiting mode.Bandwidth) 0 16 ∷ ticks_run (kept_waiting mode.Bandwidth) 0 17 ∷ [] ≡ 4 ∷ 5 ∷ []
 bandwidth_runs_again = refl
+
+-- the demand of a stretch counts from the head's date, which is 0 here: the sporadic context reaches it in 8 ticks from 6 on
+the_head_is_late : head_from (kept_waiting mode.Sporadic) 0 6 ≡ 0
+the_head_is_late = refl
+
+two_budgets_are_its_demand : demand_over (kept_waiting mode.Sporadic) 0 6 8 ≡ 8
+two_budgets_are_its_demand = refl
+
+-- Budget 1 in 5, and 3 in 5 from 10 on: it runs in ticks 0, 5 | 10, 13, 14, 15, 18, 19.
+abbrev more_from_ten : System
+more_from_ten = record (one_core (context 1 5 ∷ []) (thread 0 5 (Compute 50 ∷ []) ∷ [])) { orders = order 10 0 (config 3 5) ∷ [] }
+
+runs_more_after_the_order : ticks_run more_from_ten 0 10 ∷ ticks_run more_from_ten 0 20 ∷ [] ≡ 2 ∷ 8 ∷ []
+runs_more_after_the_order = refl
+
+-- before and after the order it runs all that the budget in force lets it run
+no_order_within_ten : IsUnorderedOver more_from_ten 0 0 10
+no_order_within_ten = refl
+
+two_ticks_before_the_order : demand_over more_from_ten 0 0 10 ≡ 2
+two_ticks_before_the_order = refl
+
+no_order_after_ten : IsUnorderedOver more_from_ten 0 10 10
+no_order_after_ten = refl
+
+six_ticks_after_the_order : demand_since more_from_ten 0 10 10 ∷ demand_over more_from_ten 0 10 10 ∷ [] ≡ 6 ∷ 6 ∷ []
+six_ticks_after_the_order = refl
+
+-- over both, and by the budget in the file, it would run 4 ticks at most
+the_order_is_within_eleven : orders_within more_from_ten 0 1 10 ≡ order 10 0 (config 3 5) ∷ []
+the_order_is_within_eleven = refl
+
+four_ticks_by_the_file : demand_of more_from_ten 0 20 ≡ 4
+four_ticks_by_the_file = refl
+
+-- In bandwidth mode, budget 4 in 10, and 4 in 5 from 3 on: it runs in ticks 0, 1, 2 | 3, 5, 6, 7, 8.
+abbrev sooner_from_three : System
+sooner_from_three =
+    record (one_core (record { name = []; core = 0; config = config 4 10; mode = mode.Bandwidth } ∷ []) (thread 0 5 (Compute 50 ∷ []) ∷ [])) {
+      orders = order 3 0 (config 4 5) ∷ [];
+    }
+
+-- the five ticks from the order on have a budget, and as many more come one tick later
+a_budget_from_the_order_on : ticks_run sooner_from_three 0 3 ∷ ticks_run sooner_from_three 0 8 ∷ ticks_run sooner_from_three 0 9 ∷ [] ≡ 3 ∷ 7 ∷ 8 ∷ []
+a_budget_from_the_order_on = refl
+
+no_order_after_three : IsUnorderedOver sooner_from_three 0 3 5
+no_order_after_three = refl
+
+in_force_from_the_order_on : config_from sooner_from_three 0 3 ≡ config 4 5
+in_force_from_the_order_on = refl
+
+-- nine ticks are within the first period, and have two budgets: an order comes within them
+in_force_at_first : config_from sooner_from_three 0 0 ≡ config 4 10
+in_force_at_first = refl
+
+the_order_is_within_nine : orders_within sooner_from_three 0 1 8 ≡ order 3 0 (config 4 5) ∷ []
+the_order_is_within_nine = refl
 
 -- Two cores whose notifications are both on core 1: the thread of core 0 signals both of them, and that of core 1 signals at home.
 abbrev signals_away : System

@@ -26,7 +26,7 @@ module _ (system : System) where
   charge_told context (row.Run thread) = []
   charge_told context (row.Signal thread note badge) = []
   charge_told context (row.Arrive note badge maker) = []
-  charge_told context (row.Wake thread note word) = []
+  charge_told context (row.Wake thread note word until) = []
   charge_told context (row.Hold note word) = []
   charge_told context (row.Got thread note word) = []
   charge_told context (row.Round thread number response) = []
@@ -38,7 +38,7 @@ module _ (system : System) where
 
   -- the moment t of a row that wakes the context's thread, and of a row that chooses it
   abbrev pub wake_told : ℕ → ℕ → What → List ℕ
-  wake_told context t (row.Wake thread note word) =
+  wake_told context t (row.Wake thread note word until) =
       if (thread_part system thread).context == context then t ∷ [] else []
   wake_told context t (row.Stop thread why k until) = []
   wake_told context t (row.Release thread) = []
@@ -57,7 +57,7 @@ module _ (system : System) where
   abbrev pub choice_told : ℕ → ℕ → What → List ℕ
   choice_told context t (row.Run thread) =
       if (thread_part system thread).context == context then t ∷ [] else []
-  choice_told context t (row.Wake thread note word) = []
+  choice_told context t (row.Wake thread note word until) = []
   choice_told context t (row.Stop thread why k until) = []
   choice_told context t (row.Release thread) = []
   choice_told context t (row.Signal thread note badge) = []

@@ -5,7 +5,7 @@ use Rattle.mcs_control.specs.declared.config.Order.{Order}
 use Rattle.mcs_control.specs.laws.Contexts.{IsContext}
 use Rattle.mcs_system.specs.System.{System, context_part}
 use Rattle.mcs_core.specs.Orders.{by_moment}
-use Rattle.mcs_laws.specs.Histories.{is_order_for, context_before}
+use Rattle.mcs_laws.specs.Histories.{is_order_for, context_before, IsUnordered, IsNeverReconfigured}
 
 -- the configuration of the last order, or `config` if there is no order
 abbrev pub last_config : Config → List Order → Config
@@ -30,3 +30,10 @@ module _ (system : System) where
 
   abbrev pub ContextsHaveTheBudgetInForce : Type 0
   ContextsHaveTheBudgetInForce = (context t : ℕ) → context < length system.contexts → HasTheBudgetInForce context t
+
+  -- if no order names the context, none comes at any moments, and the file's configuration stays in
+  -- force
+  abbrev pub FilesStayInForce : Type 0
+  FilesStayInForce =
+      (context from moments : ℕ) → context < length system.contexts → IsNeverReconfigured system context →
+      IsUnordered system context from moments × (config_in_force context from ≡ (context_part system context).config)

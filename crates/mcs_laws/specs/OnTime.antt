@@ -6,7 +6,7 @@ use Rattle.mcs_control.specs.Context.{head_moment}
 use Rattle.mcs_release.specs.declared.dated.Dated.{Dated}
 use Rattle.mcs_core.specs.declared.standing.Chosen.{Chosen}
 use Rattle.mcs_system.specs.System.{System, thread_part}
-use Rattle.mcs_laws.specs.Histories.{home_before, context_before, IsNeverReconfigured}
+use Rattle.mcs_laws.specs.Histories.{home_before, context_before}
 use Rattle.mcs_core.specs.Places.{times_queued}
 
 -- a thread whose context has this head moment
@@ -25,10 +25,10 @@ module _ (thread head : ℕ) where
       pub ready : 1 ≤ times_queued thread queue → head < moment
       pub pends : AllByRecursion (λ (dated : Dated). dated.thread ≡ thread → head ≤ dated.date) releases
 
--- at each moment each thread whose context no order names is on time
+-- at each moment each thread is on time, whatever orders came before
 abbrev pub ThreadsAreOnTime : System → Type 0
 ThreadsAreOnTime system =
-    (thread t : ℕ) → thread < length system.threads → IsNeverReconfigured system (thread_part system thread).context →
+    (thread t : ℕ) → thread < length system.threads →
     let context = (thread_part system thread).context in
     let core = home_before system context t in
     IsOnTime thread (head_moment (context_before system context t)) t core.running core.ready core.releases

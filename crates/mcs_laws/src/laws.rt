@@ -6,9 +6,9 @@ ghost use Rattle.mcs_laws.specs.Links.{SignalsAreSaid};
 ghost use Rattle.mcs_laws.specs.Disciplines.{DisciplinesAgree, RunsAgree, QuietTurnsAgree};
 ghost use Rattle.mcs_laws.specs.Places.{ThreadsHaveOnePlace};
 ghost use Rattle.mcs_laws.specs.OnTime.{ThreadsAreOnTime};
-ghost use Rattle.mcs_laws.specs.Demand.{ThreadsRunWithinDemand};
-ghost use Rattle.mcs_laws.specs.Bandwidth.{BandwidthIsBounded};
-ghost use Rattle.mcs_laws.specs.InForce.{ContextsHaveTheBudgetInForce};
+ghost use Rattle.mcs_laws.specs.Demand.{StretchesAreWithinDemand, OrdersBeginDemand, ThreadsRunWithinDemand};
+ghost use Rattle.mcs_laws.specs.Bandwidth.{StretchesAreWithinBandwidth, BandwidthIsBounded};
+ghost use Rattle.mcs_laws.specs.InForce.{ContextsHaveTheBudgetInForce, FilesStayInForce};
 ghost use Rattle.mcs_laws.specs.Shown.{ContextsAreShown};
 ghost use Rattle.mcs_laws.specs.Slices.{SchedulesTellCharges, SlicesAreCharged, SlicesAreSpent};
 ghost use Rattle.mcs_laws.specs.Histories.{GivesBudgets, ContextsHaveHistories, ContextsHaveTheirBudgets};
@@ -95,6 +95,12 @@ pub fn contexts_have_the_budget_in_force()
     ensures { (system : System) → IsWellFormed system → ContextsHaveTheBudgetInForce system }
 {}
 
+/// A law of the clock: if no order names a context, no order for it comes at any moments, and the
+/// file's configuration stays in force. So laws of moments without an order hold of the whole run.
+pub fn files_stay_in_force()
+    ensures { (system : System) → IsWellFormed system → FilesStayInForce system }
+{}
+
 /// A law of views: at each moment the view of a context shows its whole budget in force and the
 /// ticks in use. No ticks are in use unless its thread runs.
 pub fn contexts_are_shown()
@@ -119,22 +125,29 @@ pub fn contexts_are_spaced()
     ensures { (system : System) → IsWellFormed system → ContextsAreSpaced system }
 {}
 
-/// A law of the clock: a thread whose context no order names is ready and runs only when the dates
-/// of its context have come. If it is ready the head has come; if it waits for a date, that is not
-/// before the head. If it runs, each tick since it was chosen began at its date or later.
+/// A law of the clock: a thread is ready and runs only when the dates of its context have come,
+/// whatever orders came before. If it is ready the head has come; if it waits for a date, that is
+/// not before the head. If it runs, each tick since it was chosen began at its date or later.
 pub fn threads_are_on_time()
     ensures { (system : System) → IsWellFormed system → ThreadsAreOnTime system }
 {}
 
-/// A law of the clock: before each horizon a thread whose context no order names runs at most the
-/// budget for each period that begins before the horizon. The first period begins at time 0.
+/// A law of the clock, for ticks within which no order for a thread's context comes: the thread
+/// runs at most the budget in force for each period that begins before they end. The first period
+/// begins at the date of the head in the first of these ticks.
+///
+/// If these ticks begin with an order, the first period begins with them. If no order names the
+/// context, the first period begins at time 0.
 pub fn threads_run_within_demand()
-    ensures { (system : System) → IsWellFormed system → ThreadsRunWithinDemand system }
+    ensures stretches { (system : System) → IsWellFormed system → StretchesAreWithinDemand system }
+    ensures after_orders { (system : System) → IsWellFormed system → OrdersBeginDemand system }
+    ensures from_start { (system : System) → IsWellFormed system → ThreadsRunWithinDemand system }
 {}
 
-/// A law of the clock: a thread with a context in bandwidth mode, which no order names, runs at
-/// most its budget in any stretch of a period or less. A sporadic context has no such bound: unused
-/// budget may be used just before a replenishment.
+/// A law of the clock: a thread with a context in bandwidth mode runs at most the budget in force
+/// in any stretch of a period or less within which no order for the context comes. A sporadic
+/// context has no such bound: unused budget may be used just before a replenishment.
 pub fn bandwidth_is_bounded()
-    ensures { (system : System) → IsWellFormed system → BandwidthIsBounded system }
+    ensures stretches { (system : System) → IsWellFormed system → StretchesAreWithinBandwidth system }
+    ensures without_orders { (system : System) → IsWellFormed system → BandwidthIsBounded system }
 {}

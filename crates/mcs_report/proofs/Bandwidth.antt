@@ -1,11 +1,12 @@
 -- How long a thread in bandwidth mode runs in a schedule, in any interval of one period.
-use Rattle.std.proofs.Common.{◌≡◌, ℕ, zero, suc, ◌+◌, ◌≤◌, cond, inl, inr, List, [], ◌∷◌, map, min, sym, ap, ◌∙◌, append-nil, arith}
+use Rattle.std.proofs.Common.{◌≡◌, ℕ, zero, suc, ◌+◌, ◌-◌, ◌≤◌, cond, inl, inr, List, [], ◌∷◌, map, min, sym, ap, subst, ◌∙◌, append-nil, arith}
 use Rattle.std.specs.Prelude.{flat_map, nat_le, sum}
 use Rattle.std.proofs.lemmas.Bool.{cases_lt, le-leb, lt-leb}
 use Rattle.std.proofs.lemmas.List.Elements.{filter-append}
 use Rattle.mcs_ticks.specs.declared.row.Row.{Row}
 use Rattle.mcs_ticks.specs.declared.row.What.{What}
-use Rattle.mcs_system.specs.System.{System}
+use Rattle.mcs_control.specs.declared.config.Config.{Config}
+use Rattle.mcs_system.specs.System.{System, thread_part}
 use Rattle.mcs_system.specs.WellFormed.{IsWellFormed}
 use Rattle.mcs_core.specs.Clock.{clock, turn_of, rows_of, schedule}
 use Rattle.mcs_core.proofs.Clock.{rows-clock}
@@ -13,8 +14,10 @@ use Rattle.mcs_laws.specs.Turns.{cores}
 use Rattle.mcs_laws.specs.Demand.{ticks_run}
 use Rattle.mcs_laws.proofs.Histories.{takes-time}
 use Rattle.mcs_laws.proofs.Bandwidth as clock_law
+use Rattle.mcs_laws.proofs.Moments.{bound}
+use Rattle.mcs_laws.proofs.Stretches.{files-in-force}
 use Rattle.mcs_report.specs.Reports.{run_lengths}
-use Rattle.mcs_report.specs.laws.Bandwidth.{rows_up_to, ticks_before, BandwidthIsBounded}
+use Rattle.mcs_report.specs.laws.Bandwidth.{rows_up_to, ticks_before, BandwidthIsBounded, FilesBoundBandwidth}
 use Rattle.mcs_report.proofs.Ticks.{runs-ticks}
 
 module _ (system : System) (well : IsWellFormed system) (m : ℕ) where
@@ -60,10 +63,17 @@ module _ (system : System) (well : IsWellFormed system) (m : ℕ) where
       ap (λ rows. sum (run_lengths m x rows)) (up-to (suc h) ∙ ap (λ n. (clock system n).rows) e) ∙ runs-ticks system well m x
 
 pub bandwidth : BandwidthIsBounded
-bandwidth system well h x from n has short within =
+bandwidth system well h x from n is short within =
     omega (
       arith,
       ticks-of system well (from + n) x h within,
       ticks-of system well from x h (omega (arith, within)),
-      clock_law.bandwidth-bounded system well x from n has short,
+      clock_law.stretches-within-bandwidth system well x from n is short,
     )
+
+pub without-orders : FilesBoundBandwidth
+without-orders system well h rows bounded x from n has short within =
+    let file = files-in-force system well (thread_part system x).context (suc from) (n - 1) (bound system well x has.known) has.unordered in
+    subst (λ (c : Config). ticks_before (from + n) x rows ≤ ticks_before from x rows + c.budget) file.1
+    (bounded x from n (record { known = has.known; mode = has.mode })
+    (record { short = subst (λ (c : Config). n ≤ c.period) (sym file.1) short; unordered = file.0 }) within)

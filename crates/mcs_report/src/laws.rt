@@ -1,7 +1,7 @@
 //! Laws of tallies and of schedules that other crates rely on.
 ghost use Rattle.mcs_report.specs.laws.Agreement.{Agree, AgreeButRan};
 ghost use Rattle.mcs_report.specs.laws.Schedules.{SchedulesRunApart, SchedulesAreReported};
-ghost use Rattle.mcs_report.specs.laws.Bandwidth.{BandwidthIsBounded};
+ghost use Rattle.mcs_report.specs.laws.Bandwidth.{BandwidthIsBounded, FilesBoundBandwidth};
 ghost use Rattle.mcs_report.specs.laws.Demand.{RunsAreTicks, DemandIsBounded};
 ghost use Rattle.mcs_report.specs.laws.ByCore.{CoresAreCounted};
 ghost use Rattle.mcs_report.specs.laws.CoreTallies.{GivenAreAddedByCore, CoreTalliesGiveReports};
@@ -44,11 +44,17 @@ pub fn demand_is_bounded()
     ensures { DemandIsBounded }
 {}
 
-/// Law of the clock: a thread of a well-formed system in bandwidth mode, whose context no order
-/// names, runs at most its budget in any interval of one period or less. The interval ends at the
-/// horizon or earlier, and runs are read from the rows of the schedule.
+/// Law of the clock: a thread of a well-formed system in bandwidth mode runs at most the budget in
+/// force in any interval of one period or less within which no order for its context comes. The
+/// interval ends at the horizon or earlier, and runs are read from the rows of the schedule.
 pub fn bandwidth_is_bounded()
     ensures { BandwidthIsBounded }
+{}
+
+/// Law of rows within the bound of bandwidth mode, for a thread whose context no order names. It
+/// runs at most its budget in the file in any interval of one period or less, up to the horizon.
+pub fn files_bound_bandwidth()
+    ensures { FilesBoundBandwidth }
 {}
 
 /// Law of tallies: if the rows of each core are counted in their order, and the cores in any order,

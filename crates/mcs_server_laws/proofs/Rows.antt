@@ -81,14 +81,14 @@ module _ (p : What → Bool) (plain : (what : What) → IsPlain what → p what 
         (λ core. silent (turns.enters_front queue x (turns.date_of system t x core) core)) (moves_on-none x (turns.with_woken_context system t x k)) refl
 
     pub posts_as-none : (note : ℕ) (post : Posted) (k : Core) → told (turns.posts_as queue system t note post k).rows ≡ []
-    posts_as-none note (Woke x word) k = none-more (row.Wake x note word) _ tt (resumes-none x _)
+    posts_as-none note (Woke x word) k = none-more (row.Wake x note word (turns.woken_until system t x k)) _ tt (resumes-none x _)
     posts_as-none note (Held word) k = none-one (row.Hold note word) tt
 
     pub posts-none : (note badge : ℕ) (k : Core) → told (turns.posts queue system t note badge k).rows ≡ []
     posts-none note badge k = posts_as-none note (posted badge (note_of k note)) k
 
     frees_as-none : (server : ℕ) (post : Posted) (k : Core) → told (turns.frees_as queue system t server post k).rows ≡ []
-    frees_as-none server (Woke x word) k = none-more (row.Wake x server word) _ tt (let_in-none x _)
+    frees_as-none server (Woke x word) k = none-more (row.Wake x server word (turns.woken_until system t x k)) _ tt (let_in-none x _)
     frees_as-none server (Held word) k = refl
 
     frees-none : (x server : ℕ) (k : Core) → told (turns.frees queue system t x server k).rows ≡ []

@@ -68,7 +68,7 @@ told_of_each : (moments_told interrupted 0 (schedule interrupted 12) ≡ 1 ∷ 4
 told_of_each = (refl, refl)
 
 -- who waits is woken, and else the word holds the badges of both
-woken_at_1 : (turn_of interrupted 0 1).rows ≡ row.Stop 0 why.Wait 1 None ∷ row.Interrupt 0 0 1 ∷ row.Wake 0 0 1 ∷ row.Run 0 ∷ []
+woken_at_1 : (turn_of interrupted 0 1).rows ≡ row.Stop 0 why.Wait 1 None ∷ row.Interrupt 0 0 1 ∷ row.Wake 0 0 1 None ∷ row.Run 0 ∷ []
 woken_at_1 = refl
 
 held_at_4 : (turn_of interrupted 0 4).rows ≡ row.Interrupt 0 0 1 ∷ row.Hold 0 1 ∷ row.Interrupt 1 0 2 ∷ row.Hold 0 3 ∷ []

@@ -58,7 +58,7 @@ module _ (system : System) where
 -- the row of a post of this badge on this notification: it woke a thread with this word, or the
 -- notification holds a word with all its bits
 abbrev pub TellsPost : ℕ → ℕ → What → Type 0
-TellsPost note badge (row.Wake thread at word) = (at ≡ note) × (word ≡ badge)
+TellsPost note badge (row.Wake thread at word until) = (at ≡ note) × (word ≡ badge)
 TellsPost note badge (row.Hold at word) = (at ≡ note) × (bit_and word badge ≡ badge)
 TellsPost note badge _ = ⊥
 

@@ -62,8 +62,8 @@ impl Kept {
 /// The contract promises three bounds:
 /// - A thread whose context no order names runs at most its budget for each period that begins
 ///   before the horizon. The first period begins at time 0.
-/// - If that context is in bandwidth mode, the thread runs at most its budget in any interval of
-///   one period below the horizon.
+/// - A thread in bandwidth mode runs at most the budget in force in any interval of one period
+///   below the horizon, within which no order for its context comes.
 /// - At each time of the run each context has its whole budget in force, in refills that neither
 ///   touch nor overlap, or in a slice.
 ///

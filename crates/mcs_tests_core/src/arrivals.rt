@@ -40,6 +40,7 @@ const AFTER: [(u64, What); 5] = [
             thread: WAITER,
             note: NOTE,
             word: 2,
+            until: None,
         },
     ),
     (

@@ -45,6 +45,7 @@ fn wake(number: usize) -> What {
         thread: ThreadId(number),
         note: NoteId(number),
         word: 1,
+        until: None,
     }
 }
 

@@ -104,7 +104,7 @@ fn stood(pending: u64, running: u64) -> Stood {
         running,
         throttled: 0,
         blocked: 0,
-        woken: 0,
+        server: 0,
         done: 0,
     }
 }

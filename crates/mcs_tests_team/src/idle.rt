@@ -89,6 +89,7 @@ fn far_apart_rows() -> [(u64, usize, What); 13] {
                 thread: A,
                 note: NOTE,
                 word: 1,
+                until: None,
             },
         ),
         (START + 3, 0, What::Run { thread: A }),

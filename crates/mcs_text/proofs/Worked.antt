@@ -64,13 +64,13 @@ abbrev now : What → Row
 now what = record { moment = 3; core = 0; what = what }
 
 -- at the notification a thread takes a word, is woken with one, and posts a badge
-noted_lines : schedule_text one_server (now (row.Got 0 0 6) ∷ now (row.Wake 0 0 6) ∷ now (row.Signal 0 0 6) ∷ [])
+noted_lines : schedule_text one_server (now (row.Got 0 0 6) ∷ now (row.Wake 0 0 6 None) ∷ now (row.Signal 0 0 6) ∷ [])
     ≡ codes "3 0 got A n 6\n3 0 wake A n 6\n3 0 signal A n 6\n"
 unfolding one_server digits
 noted_lines = refl
 
 -- at the server it enters, is let in, and leaves; while it is taken, it stops for the call
-served_lines : schedule_text one_server (now (row.Got 0 1 1) ∷ now (row.Wake 0 1 1) ∷ now (row.Signal 0 1 1) ∷ now (row.Stop 0 why.Call 1 None) ∷ [])
+served_lines : schedule_text one_server (now (row.Got 0 1 1) ∷ now (row.Wake 0 1 1 None) ∷ now (row.Signal 0 1 1) ∷ now (row.Stop 0 why.Call 1 None) ∷ [])
     ≡ codes "3 0 enter A s\n3 0 enter A s\n3 0 leave A s\n3 0 stop A call 1\n"
 unfolding one_server digits
 served_lines = refl

@@ -63,9 +63,12 @@ fn write_what<N: Naming>(bytes: &mut [u8], at: usize, names: &N, what: &What) ->
             let from = write_short(bytes, name, "from");
             write_number(bytes, from, maker.0 as u64)
         }
-        What::Wake { thread, note, word } => {
-            write_at_note(bytes, at, names, "enter", "wake", thread, note, word)
-        }
+        What::Wake {
+            thread,
+            note,
+            word,
+            ..
+        } => write_at_note(bytes, at, names, "enter", "wake", thread, note, word),
         What::Hold { note, word } => write_held(bytes, at, "hold", names, note, word),
         What::Got { thread, note, word } => {
             write_at_note(bytes, at, names, "enter", "got", thread, note, word)

@@ -50,11 +50,13 @@ pub enum What {
         badge: u32,
         maker: CoreId,
     },
-    /// The thread is woken with this word.
+    /// The thread is woken with this word. It enters the release queue with the date `until`; if
+    /// that is `None`, it has budget and enters a ready queue.
     Wake {
         thread: ThreadId,
         note: NoteId,
         word: u32,
+        until: Option<Tick>,
     },
     /// No thread waits; `word` is the notification's word after the badge was ORed in.
     Hold {
