@@ -14,8 +14,9 @@ use std::sync::{Arc, Wait};
 use std::thread::Threads;
 
 /// Returns what is wrong in the schedule of a system up to the horizon, at most 2^40: missed
-/// deadlines and lost signals in the order of the rows, and then, by thread, what is overdue or was
-/// never activated at the horizon. The list is empty if nothing is wrong.
+/// deadlines and lost signals in the order of the rows, then what is wrong at the horizon: the
+/// threads that are overdue or never had anything to do, and the words that nobody took in time.
+/// The list is empty if nothing is wrong.
 ///
 /// `workers` workers make the rows, and no row is kept.
 ///

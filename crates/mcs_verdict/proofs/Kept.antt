@@ -1,81 +1,135 @@
 -- The findings by what is kept are those by the rows.
-use Rattle.std.proofs.Common.{◌≡◌, ℕ, ◌+◌, ◌≤◌, ◌<◌, ◌^◌, List, [], ◌∷◌, get_or, length, Option, Some, None, refl, ap, ◌∙◌, arith}
+use Rattle.std.proofs.Common.{◌≡◌, ℕ, ◌+◌, ◌≤◌, ◌<◌, ◌^◌, max, List, [], ◌∷◌, get_or, length, Option, Some, None, refl, sym, ap, ◌∙◌, arith}
 use Rattle.std.proofs.lemmas.Bool.{lt-ltb, le-ltb}
 use Rattle.std.proofs.lemmas.Bool.Decides.{nat_tests}
 use Rattle.std.proofs.lemmas.List.{get_or_past}
 use Rattle.mcs_ticks.specs.declared.row.Row.{Row}
+use Rattle.mcs_ticks.specs.declared.row.What.TheVariants as row
 use Rattle.mcs_system.specs.System.{System, no_thread, thread_part}
 use Rattle.mcs_verdict.specs.declared.account.Account.{Account}
 use Rattle.mcs_verdict.specs.declared.finding.Finding.{Finding}
 use Rattle.mcs_verdict.specs.declared.held.Held.{Held}
 use Rattle.mcs_verdict.specs.declared.job.Job.{Job}
-use Rattle.mcs_verdict.specs.Standing.{standing_after, standing_at, telling}
+use Rattle.mcs_verdict.specs.Standing.{standing_at, telling}
 use Rattle.mcs_verdict.specs.Activation.{first_active}
 use Rattle.mcs_verdict.specs.Stood.{stood_in}
-use Rattle.mcs_verdict.specs.Calls.{first_wait, bits_of}
+use Rattle.mcs_verdict.specs.Calls.{first_wait}
+use Rattle.mcs_verdict.specs.Parts.{free_of, parts_in}
 use Rattle.mcs_verdict.specs.Words.{firsts_of}
-use Rattle.mcs_verdict.specs.Rounds.{begun_of, called_of}
-use Rattle.mcs_verdict.specs.Jobs.{preemptions_of, or_now, job, job_known}
+use Rattle.mcs_verdict.specs.Rounds.{begun_of, called_of, activated_by, activated_in, activated_of}
+use Rattle.mcs_verdict.specs.Jobs.{job, job_known}
 use Rattle.mcs_verdict.specs.Misses.{miss, set_at, word_set, word_for, first_word, overdue, never, first_of, unended}
 use Rattle.mcs_verdict.specs.Findings.{UpTo}
-use Rattle.mcs_verdict.specs.Account.{all_kept, standing_of, since_of, account_of, stood_since, active_since, total_at, job_by, overdue_by, never_by, unended_by}
+use Rattle.mcs_verdict.specs.Account.{all_kept, standing_of, since_of, stood_of, active_of, account_of, active_since, total_at, activated_if, activated_since, parts_since, job_by, overdue_by, never_by, unended_by}
 use Rattle.mcs_verdict.specs.Watch.{accounts_of}
-use Rattle.mcs_verdict.proofs.Accounts.{unsettled, since-now, active-now, total-now}
-use Rattle.mcs_verdict.proofs.Watches.{since-up_to, account_kept, kept_small, length-accounts}
+use Rattle.mcs_verdict.proofs.Orders.{since-up_to}
+use Rattle.mcs_verdict.proofs.Accounts.{Keeps, since-kept, active-kept, total-kept, active_earlier}
+use Rattle.mcs_verdict.proofs.Watches.{account_kept, kept_small, length-accounts}
 
 -- a thread of the system, by what is kept of it
 abbrev pub account_at : System → ℕ → List Row → Account
 account_at system thread past = account_of (firsts_of system) (thread_part system thread) thread past
 
 -- how the thread stands at last is what its latest telling row says
-stands : (rows : List Row) (horizon : ℕ) → since_of rows ≤ horizon → standing_at horizon None rows ≡ standing_of rows
+stands : (rows : List Row) (horizon : ℕ) → since_of rows ≤ horizon → standing_at horizon rows ≡ standing_of rows
 stands [] horizon h = refl
-stands (r ∷ rows) horizon h = grind (arith, nat_tests, unsettled (standing_after r.what))
-
--- how it stood in the round that is under way, and in all
-stood-now : (system : System) (thread : ℕ) (past : List Row) (m : ℕ) → UpTo m past
-    → stood_since (begun_of system thread past) m (standing_of (telling thread past)) (account_at system thread past)
-    ≡ stood_in thread past (or_now m (begun_of system thread past)) m
-stood-now system thread past m up =
-    let part = thread_part system thread in
-    since-now part.deadline (first_wait part) (bits_of part) (begun_of system thread past) (called_of system thread past) (preemptions_of system thread past) m
-    (telling thread past) (since-up_to thread m past up)
-
-first-now : (system : System) (thread : ℕ) (past : List Row) (m : ℕ) → UpTo m past
-    → active_since (begun_of system thread past) m (standing_of (telling thread past)) (account_at system thread past)
-    ≡ first_active thread past (or_now m (begun_of system thread past)) m
-first-now system thread past m up =
-    let part = thread_part system thread in
-    active-now part.deadline (first_wait part) (bits_of part) (begun_of system thread past) (called_of system thread past) (preemptions_of system thread past) m
-    (telling thread past) (since-up_to thread m past up)
+stands (r ∷ rows) horizon h = grind (arith, nat_tests)
 
 pub all-now : (system : System) (thread : ℕ) (past : List Row) (m : ℕ) → UpTo m past
     → total_at m (standing_of (telling thread past)) (account_at system thread past) ≡ stood_in thread past 0 m
-all-now system thread past m up =
-    let part = thread_part system thread in
-    total-now part.deadline (first_wait part) (bits_of part) (begun_of system thread past) (called_of system thread past) (preemptions_of system thread past) m
-    (telling thread past) (since-up_to thread m past up)
+all-now system thread past m up = total-kept m (account_at system thread past) (telling thread past) (since-up_to thread m past up) refl refl
+
+-- when it was first ready or running in a round that began then
+first-now : (system : System) (thread : ℕ) (past : List Row) (m begun : ℕ) → UpTo m past → begun_of system thread past ≡ Some begun
+    → active_since (Some begun) m (standing_of (telling thread past)) (account_at system thread past) ≡ first_active thread past begun m
+first-now system thread past m begun up e =
+    active-kept (Some begun) m (account_at system thread past) (record { moment = m; core = 0; what = row.Release thread }) (telling thread past) refl
+    (since-up_to thread m past up) (ap (λ began. active_of began (telling thread past)) e) refl
+
+-- when the round under way was activated
+pub activated-kept : (system : System) (thread : ℕ) (past : List Row) (m : ℕ) → UpTo m past
+    → activated_since m (account_at system thread past) ≡ activated_of system thread past m
+activated-kept system thread past m up = by (begun_of system thread past) refl
+  where
+    if_known : Option ℕ → Option ℕ
+    if_known begun =
+        let account = account_at system thread past in
+        activated_if begun (activated_by account.waits account.called (active_since begun m account.standing account))
+
+    by : (begun : Option ℕ) → begun_of system thread past ≡ begun → activated_since m (account_at system thread past) ≡ activated_of system thread past m
+    by None e = ap if_known e ∙ sym (ap (activated_in system thread past m) e)
+    by (Some begun) e =
+        ap if_known e
+        ∙ ap (activated_by (first_wait (thread_part system thread)) (called_of system thread past)) (first-now system thread past m begun up e)
+        ∙ sym (ap (activated_in system thread past m) e)
+
+-- its ticks are counted from then on, or from when the thread was free
+counted : (system : System) (thread : ℕ) (past : List Row) (m activated : ℕ) → UpTo m past → activated_of system thread past m ≡ Some activated
+    → max activated (free_of system thread past) < since_of (telling thread past)
+    → (account_at system thread past).stood ≡ stood_of (Some (max activated (free_of system thread past))) (telling thread past)
+counted system thread past m activated up e less = by (first_wait (thread_part system thread)) refl (begun_of system thread past) refl
+  where
+    rows : List Row
+    rows = telling thread past
+
+    by : (waits : Option ℕ) → first_wait (thread_part system thread) ≡ waits → (begun : Option ℕ) → begun_of system thread past ≡ begun
+        → (account_at system thread past).stood ≡ stood_of (Some (max activated (free_of system thread past))) rows
+    by waits w None b = absurd (grind (arith, e, b))
+    by (Some note) w (Some begun) b =
+        let is : called_of system thread past ≡ Some activated = grind (arith, e, w, b) in
+        grind (arith, w, b, is)
+    by None w (Some begun) b =
+        let is : first_active thread past begun m ≡ Some activated = grind (arith, e, w, b) in
+        let before = active_earlier (Some begun) activated m (record { moment = m; core = 0; what = row.Release thread }) rows refl
+        (since-up_to thread m past up) is (omega (arith, less))
+        in
+        grind (arith, w, b, before)
+
+-- the parts of the round under way
+parts-kept : (system : System) (thread : ℕ) (past : List Row) (m activated : ℕ) → UpTo m past → activated_of system thread past m ≡ Some activated
+    → parts_since activated m (account_at system thread past) ≡ parts_in thread past (free_of system thread past) activated m
+parts-kept system thread past m activated up e =
+    let from = max activated (free_of system thread past) in
+    let has : Keeps (telling thread past) from (account_at system thread past) =
+    record { stands = refl; since = refl; stood = counted system thread past m activated up e }
+    in
+    since-kept from m (account_at system thread past) (telling thread past) (since-up_to thread m past up) has
+
+-- a round that is activated now has none
+parts-none : (system : System) (thread : ℕ) (past : List Row) (m : ℕ) → UpTo m past
+    → parts_since m m (account_at system thread past) ≡ parts_in thread past (free_of system thread past) m m
+parts-none system thread past m up =
+    let from = max m (free_of system thread past) in
+    let h = since-up_to thread m past up in
+    let has : Keeps (telling thread past) from (account_at system thread past) =
+    record { stands = refl; since = refl; stood = λ less. absurd (omega (arith, h, less)) }
+    in
+    since-kept from m (account_at system thread past) (telling thread past) h has
 
 -- the round that ends
 pub job-kept : (system : System) (thread : ℕ) (past : List Row) (moment number : ℕ) → UpTo moment past
     → job_by moment thread number (account_at system thread past) ≡ job system past moment thread number
-job-kept system thread past moment number up = cc (stood-now system thread past moment up, first-now system thread past moment up)
+job-kept system thread past moment number up = by (activated_of system thread past moment) refl
+  where
+    by : (activated : Option ℕ) → activated_of system thread past moment ≡ activated
+        → job_by moment thread number (account_at system thread past) ≡ job system past moment thread number
+    by None e = cc (e, activated-kept system thread past moment up, parts-none system thread past moment up)
+    by (Some activated) e = cc (e, activated-kept system thread past moment up, parts-kept system thread past moment activated up e)
 
 -- what is overdue
 pub overdue-kept : (system : System) (thread : ℕ) (past : List Row) (horizon : ℕ) → UpTo horizon past
-    → overdue_by horizon thread (first_word system thread past) (account_at system thread past) ≡ overdue system past horizon thread
-overdue-kept system thread past horizon up =
-    grind (
-      arith,
-      stood-now system thread past horizon up,
-      first-now system thread past horizon up,
-      stands (telling thread past) horizon (since-up_to thread horizon past up),
-    )
+    → overdue_by horizon thread (account_at system thread past) ≡ overdue system past horizon thread
+overdue-kept system thread past horizon up = by (activated_of system thread past horizon) refl
+  where
+    by : (activated : Option ℕ) → activated_of system thread past horizon ≡ activated
+        → overdue_by horizon thread (account_at system thread past) ≡ overdue system past horizon thread
+    by None e = cc (e, activated-kept system thread past horizon up)
+    by (Some activated) e = cc (e, activated-kept system thread past horizon up, parts-kept system thread past horizon activated up e)
 
 -- what was never activated
 pub never-kept : (system : System) (thread horizon : ℕ) (past : List Row) → UpTo horizon past
     → never_by horizon thread (first_word system thread past) (account_at system thread past) ≡ never system past horizon thread
-never-kept system thread horizon past up = cc (all-now system thread past horizon up)
+never-kept system thread horizon past up = cc (all-now system thread past horizon up, stands (telling thread past) horizon (since-up_to thread horizon past up))
 
 -- whether the system has the thread
 known : (system : System) (past : List Row) (accounts : List Account) → accounts ≡ accounts_of (firsts_of system) 0 system.threads past
@@ -152,3 +206,18 @@ pub word_unknown : (system : System) (past : List Row) (accounts : List Account)
     → accounts ≡ accounts_of (firsts_of system) 0 system.threads past → length accounts ≤ thread → None ≡ word_set system past thread
 word_unknown system past accounts thread e has =
     rw (get_or_past system.threads thread no_thread (omega (arith, known system past accounts e))) refl
+
+-- when the round under way was activated of the thread of this account
+pub activated_told : (system : System) (past : List Row) (accounts : List Account) (moment place thread : ℕ) (d : Account) (told : Option ℕ)
+    → place ≡ thread → accounts ≡ accounts_of (firsts_of system) 0 system.threads past → UpTo moment past → place < length accounts → d ≡ get_or accounts place d
+    → told ≡ activated_since moment d → told ≡ activated_of system thread past moment
+activated_told system past accounts moment place thread d told same e up has lies is =
+    let at : d ≡ account_at system place past =
+    lies ∙ ap (λ (accounts : List Account). get_or accounts place d) e
+    ∙ account_kept (firsts_of system) place system.threads past d (omega (arith, known system past accounts e))
+    in
+    is ∙ ap (activated_since moment) at ∙ activated-kept system place past moment up ∙ ap (λ thread. activated_of system thread past moment) same
+
+pub activated_unknown : (system : System) (past : List Row) (accounts : List Account) (thread : ℕ)
+    → accounts ≡ accounts_of (firsts_of system) 0 system.threads past → length accounts ≤ thread → thread < length system.threads → ⊥
+activated_unknown system past accounts thread e has less = omega (arith, known system past accounts e, has, less)

@@ -1,12 +1,15 @@
 -- The words of notifications after one row more.
-use Rattle.std.proofs.Common.{◌≡◌, ◌≢◌, ℕ, suc, zero, ◌+◌, ◌<◌, ◌≤◌, eqb, cond, List, [], ◌∷◌, get_or, set, length, refl, sym, ap, ◌∙◌, arith}
+use Rattle.std.proofs.Common.{◌≡◌, ◌≢◌, ℕ, suc, zero, ◌+◌, ◌<◌, ◌≤◌, eqb, cond, List, [], ◌∷◌, ◌++◌, get_or, set, length, Option, refl, sym, ap, ◌∙◌, append_assoc, arith}
 use Rattle.std.proofs.lemmas.Bool.Decides.{nat_tests}
 use Rattle.std.proofs.lemmas.List.{set_past}
 use Rattle.mcs_ticks.specs.declared.row.Row.{Row}
 use Rattle.mcs_ticks.specs.declared.row.What.{What}
 use Rattle.mcs_ticks.specs.declared.row.What.TheVariants as row
+use Rattle.mcs_system.specs.declared.part.NotePart.{NotePart}
+use Rattle.mcs_system.specs.declared.part.ThreadPart.{ThreadPart}
 use Rattle.mcs_verdict.specs.declared.held.Held.{Held}
-use Rattle.mcs_verdict.specs.Words.{no_word, held_with, taken, held_after, held, held_of}
+use Rattle.mcs_verdict.specs.Words.{no_word, held_with, gave, taken, held_after, held, held_of, heard_at, firsts_from}
+use Rattle.mcs_verdict.specs.Takers.{due_of}
 use Rattle.mcs_verdict.specs.Watch.{words_of}
 
 -- what a row makes of a notification: this of this one, and nothing of the others
@@ -67,10 +70,20 @@ pub word_of_none : (place note : ℕ) (firsts : List Held) (past : List Row) (wo
     → length words ≤ place → no_word ≡ held_of firsts note past
 word_of_none place note firsts past words same e h = grind (arith, nat_tests, ap length e, length-words 0 firsts past)
 
+-- when the word was set for which a script waits first
+pub since_of_word : (place note : ℕ) (firsts : List Held) (past : List Row) (words : List Held) (d : Held) → place ≡ note → words ≡ words_of 0 firsts past
+    → place < length words → d ≡ get_or words place d → d.since ≡ (held_of firsts note past).since
+since_of_word place note firsts past words d same e h is = ap (λ (held : Held). held.since) (word_of place note firsts past words d same e h is)
+
+pub since_of_none : (place note : ℕ) (firsts : List Held) (past : List Row) (words : List Held) → place ≡ note → words ≡ words_of 0 firsts past
+    → length words ≤ place → 0 ≡ (held_of firsts note past).since
+since_of_none place note firsts past words same e h = ap (λ (held : Held). held.since) (word_of_none place note firsts past words same e h)
+
 -- a row of another kind says no word
 pub says_none : (what : What) → ((n w : ℕ) → what ≡ row.Hold n w → ⊥) → ((t n w : ℕ) → what ≡ row.Got t n w → ⊥)
+    → ((t n w : ℕ) (until : Option ℕ) → what ≡ row.Wake t n w until → ⊥)
     → (moment k : ℕ) (before : Held) → held_after k moment what before ≡ before
-says_none what hold got m k before = grind (arith, hold, got)
+says_none what hold got wake m k before = grind (arith, hold, got, wake)
 
 -- a row of this notification
 pub words_told : (note : ℕ) (made : Held → Held) (firsts : List Held) (r : Row) (past : List Row) (words : List Held) (new d : Held)
@@ -90,10 +103,24 @@ words_untold note made firsts r past words e makes h =
 pub makes_held : (r : Row) (note word : ℕ) → r.what ≡ row.Hold note word → Makes note (held_with r.moment word) r
 makes_held r note word e = rw e (λ k before. refl)
 
-pub makes_taken : (r : Row) (thread note word : ℕ) → r.what ≡ row.Got thread note word → Makes note taken r
+pub makes_taken : (r : Row) (thread note word : ℕ) → r.what ≡ row.Got thread note word → Makes note (taken word) r
 makes_taken r thread note word e = rw e (λ k before. refl)
+
+pub makes_given : (r : Row) (thread note word : ℕ) (until : Option ℕ) → r.what ≡ row.Wake thread note word until → Makes note (gave word) r
+makes_given r thread note word until e = rw e (λ k before. refl)
 
 -- the words at first
 pub words_opened : (n : ℕ) (firsts : List Held) → firsts ≡ words_of n firsts []
 words_opened n [] = refl
 words_opened n (first ∷ firsts) = ap (λ words. first ∷ words) (words_opened (suc n) firsts)
+
+-- one notification more
+pub words_added : (n next : ℕ) (threads : List ThreadPart) (notes rest : List NotePart) (part : NotePart) (words words' all : List Held) (new : Held) → next ≡ suc n
+    → notes ≡ part ∷ rest → words' ≡ words ++ new ∷ []
+    → new ≡ record { word = part.word; since = 0; bits = heard_at n threads; due = due_of n threads; given = 0 }
+    → words ++ firsts_from n threads notes ≡ all → words' ++ firsts_from next threads rest ≡ all
+words_added n next threads notes rest part words words' all new more e w is so =
+    rw more
+    (ap (λ words. words ++ firsts_from (suc n) threads rest) w ∙ append_assoc words (new ∷ []) (firsts_from (suc n) threads rest)
+    ∙ ap (λ new. words ++ new ∷ firsts_from (suc n) threads rest) is
+    ∙ sym (ap (λ notes. words ++ firsts_from n threads notes) e) ∙ so)

@@ -1,7 +1,6 @@
 -- When a thread is first ready or running.
 use Rattle.std.specs.Prelude.{ℕ, zero, suc, ◌+◌, ◌-◌, Bool, true, false, List, Option, Some, None}
 use Rattle.mcs_ticks.specs.declared.row.Row.{Row}
-use Rattle.mcs_ticks.specs.declared.row.What.{What}
 use Rattle.mcs_verdict.specs.declared.standing.Standing.{Standing}
 use Rattle.mcs_verdict.specs.declared.standing.Standing.TheVariants.{Ready, Running}
 use Rattle.mcs_verdict.specs.Standing.{standing_at, telling}
@@ -19,11 +18,10 @@ or_tick None true tick = Some tick
 or_tick None false tick = None
 
 -- the first of the n ticks from `from` on in which the thread is ready or running
-abbrev pub first_for : Option What → List Row → ℕ → ℕ → Option ℕ
-first_for next rows from zero = None
-first_for next rows from (suc n) =
-    or_tick (first_for next rows from n) (is_active (standing_at (from + n) next rows)) (from + n)
+abbrev pub first_for : List Row → ℕ → ℕ → Option ℕ
+first_for rows from zero = None
+first_for rows from (suc n) = or_tick (first_for rows from n) (is_active (standing_at (from + n) rows)) (from + n)
 
 -- the first such tick of [from, to), by the rows so far
 abbrev pub first_active : ℕ → List Row → ℕ → ℕ → Option ℕ
-first_active thread past from to = first_for None (telling thread past) from (to - from)
+first_active thread past from to = first_for (telling thread past) from (to - from)

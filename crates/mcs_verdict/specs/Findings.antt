@@ -3,11 +3,13 @@ use Rattle.std.specs.Prelude.{ℕ, suc, ◌≤◌, List, [], ◌∷◌, ◌++◌
 use Rattle.mcs_ticks.specs.declared.row.Row.{Row}
 use Rattle.mcs_ticks.specs.declared.row.What.{What}
 use Rattle.mcs_ticks.specs.declared.row.What.TheVariants as row
+use Rattle.mcs_system.specs.declared.part.NotePart.{NotePart}
 use Rattle.mcs_system.specs.declared.part.ThreadPart.{ThreadPart}
 use Rattle.mcs_system.specs.System.{System, core_of}
 use Rattle.mcs_verdict.specs.declared.finding.Finding.{Finding}
 use Rattle.mcs_verdict.specs.declared.finding.Found.{Found}
 use Rattle.mcs_verdict.specs.Misses.{miss, unended}
+use Rattle.mcs_verdict.specs.Due.{untaken}
 use Rattle.mcs_verdict.specs.Words.{lost}
 
 -- the finding of a row that comes after these
@@ -16,10 +18,10 @@ finding system past moment (row.Round thread number response) = miss system past
 finding system past moment (row.Hold note word) = lost system past note word
 finding system past moment _ = None
 
--- no row so far is later than this time
+-- the rows so far are in the order of their times, and none is later than this time
 abbrev pub UpTo : ℕ → List Row → Type 0
 UpTo moment [] = Unit {0}
-UpTo moment (r ∷ past) = (r.moment ≤ moment) × UpTo moment past
+UpTo moment (r ∷ past) = (r.moment ≤ moment) × UpTo r.moment past
 
 -- no row is earlier than the rows before it
 abbrev pub InOrder : List Row → List Row → Type 0
@@ -47,7 +49,18 @@ found_at_end system past horizon n [] = []
 found_at_end system past horizon n (part ∷ parts) =
     found_at horizon (core_of system part) (unended system past horizon n) ++ found_at_end system past horizon (suc n) parts
 
+-- the words that are untaken at the horizon, of the notifications from number n on
+abbrev pub untaken_at_end : System → List Row → ℕ → ℕ → List NotePart → List Found
+untaken_at_end system past horizon n [] = []
+untaken_at_end system past horizon n (part ∷ parts) =
+    found_at horizon part.core (untaken system past horizon n) ++ untaken_at_end system past horizon (suc n) parts
+
+-- the findings at the horizon: by thread, and then by notification
+abbrev pub all_at_end : System → List Row → ℕ → List Found
+all_at_end system past horizon =
+    found_at_end system past horizon 0 system.threads ++ untaken_at_end system past horizon 0 system.notes
+
 -- all findings of a run up to the horizon
 abbrev pub findings : System → ℕ → List Row → List Found
 findings system horizon rows =
-    found_in system [] rows ++ found_at_end system (past_of [] rows) horizon 0 system.threads
+    found_in system [] rows ++ all_at_end system (past_of [] rows) horizon

@@ -8,9 +8,9 @@ use Rattle.mcs_ticks.specs.declared.row.Why.TheVariants as why
 use Rattle.mcs_system.specs.System.{System, thread_part}
 use Rattle.mcs_verdict.specs.declared.job.Job.{Job}
 use Rattle.mcs_verdict.specs.declared.standing.Stood.{Stood}
-use Rattle.mcs_verdict.specs.Stood.{stood_in}
+use Rattle.mcs_verdict.specs.Parts.{free_of, queued_in, parts_in}
 use Rattle.mcs_verdict.specs.Calls.{bits_of}
-use Rattle.mcs_verdict.specs.Rounds.{first_wait, begun, begun_of, activated}
+use Rattle.mcs_verdict.specs.Rounds.{first_wait, begun, begun_of, activated_of}
 
 -- a preemption counts if a round is under way
 abbrev pub with_preemption : Option ℕ → ℕ → ℕ
@@ -41,8 +41,8 @@ or_now moment None = moment
 or_now moment (Some earlier) = earlier
 
 -- a round that ends at this time
-abbrev pub ended : ℕ → ℕ → ℕ → ℕ → ℕ → ℕ → Stood → Job
-ended moment thread number begun activated preemptions stood =
+abbrev pub ended : ℕ → ℕ → ℕ → ℕ → ℕ → ℕ → ℕ → Stood → Job
+ended moment thread number free begun activated preemptions stood =
     record {
       thread = thread;
       number = number;
@@ -50,7 +50,7 @@ ended moment thread number begun activated preemptions stood =
       begun = begun;
       ended = moment;
       response = moment - activated;
-      queued = begun - activated;
+      queued = queued_in free activated;
       preemptions = preemptions;
       stood = stood;
     }
@@ -58,9 +58,10 @@ ended moment thread number begun activated preemptions stood =
 -- the round, by the rows before its end
 abbrev pub job : System → List Row → ℕ → ℕ → ℕ → Job
 job system past moment thread number =
-    let begun = or_now moment (begun_of system thread past) in
-    ended moment thread number begun (or_now moment (activated system thread past begun moment))
-    (preemptions_of system thread past) (stood_in thread past begun moment)
+    let free = free_of system thread past in
+    let activated = or_now moment (activated_of system thread past moment) in
+    ended moment thread number free (or_now moment (begun_of system thread past)) activated
+    (preemptions_of system thread past) (parts_in thread past free activated moment)
 
 -- only for a thread of the system
 abbrev pub job_known : System → List Row → ℕ → ℕ → ℕ → Option Job

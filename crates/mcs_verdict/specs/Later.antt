@@ -14,14 +14,15 @@ abbrev pub later_account : ℕ → Account → Account
 later_account by account =
     record account {
       since = account.since + by;
+      free = account.free + by;
       begun = later_moment by account.begun;
       called = later_moment by account.called;
       active = later_moment by account.active;
     }
 
--- an account without how it stood from time 0 on, which grows
+-- an account without the number of its rounds and how it stood from time 0 on, which grow
 abbrev pub without_total : Account → Account
-without_total account = record account { total = no_ticks }
+without_total account = record account { rounds = 0; total = no_ticks }
 
 abbrev pub IsLaterAccount : ℕ → Account → Account → Type 0
 IsLaterAccount by before after = without_total after ≡ later_account by (without_total before)

@@ -2,10 +2,14 @@ pub mod Standing
 pub mod Stood
 pub mod Activation
 pub mod Calls
+pub mod Takers
 pub mod Words
 pub mod Rounds
+pub mod Parts
 pub mod Jobs
 pub mod Misses
+pub mod Due
+pub mod Dues
 pub mod Findings
 pub mod Found
 pub mod Account

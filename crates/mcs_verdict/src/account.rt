@@ -1,10 +1,11 @@
 //! The account of a thread: a few numbers, updated row by row.
-ghost use Rattle.std.specs.Prelude.{◌≡◌, ℕ, ◌+◌, ◌<◌, ◌^◌, [], Some, None, max};
-ghost use Rattle.mcs_verdict.specs.Account.{all_kept, account_of, stood_since, total_at, active_since, or_first, passed, told_from, begins, ends, preempted, given, turned, seen_own, activated_since};
+ghost use Rattle.std.specs.Prelude.{◌≡◌, ℕ, ◌+◌, ◌<◌, ◌^◌, [], Some, max};
+ghost use Rattle.mcs_verdict.specs.Account.{all_kept, account_of, counting, stood_from, stood_since, total_at, active_since, or_first, told, ends, preempted, given, turned, seen_own, activated_since};
 ghost use Rattle.mcs_verdict.specs.Activation.{is_active};
+ghost use Rattle.mcs_verdict.specs.Takers.{waits_for};
 
 use crate::heard::{bits_of, calls, first_wait};
-use crate::standing::{settled, standing_after};
+use crate::standing::standing_after;
 use crate::{Standing, Stood};
 use mcs_system::ThreadPart;
 use mcs_ticks::{NoteId, Tick, What, Why};
@@ -21,6 +22,10 @@ pub(crate) struct Account {
     pub standing: Standing,
     /// When the thread began to stand as `standing` says.
     pub since: Tick,
+    /// When the round before ended, or the thread started.
+    pub free: Tick,
+    /// The number of the round that ended last; 0 if none did.
+    pub rounds: u64,
     /// When the round under way began; `None` between rounds.
     pub begun: Option<Tick>,
     /// When the latest round that a word began was activated.
@@ -29,21 +34,22 @@ pub(crate) struct Account {
     pub active: Option<Tick>,
     /// Preemptions in this round; 0 between rounds.
     pub preemptions: u64,
-    /// How the thread stood in this round, up to `since`.
+    /// How the thread stood up to `since` in the round under way, counted from `free` or from the
+    /// round's activation, whichever is later. Between rounds, from when the held word was set.
     pub stood: Stood,
     /// How the thread stood from time 0 up to `since`.
     pub total: Stood,
 }
 
 #[inline(always)]
-fn is_active(standing: Standing) -> bool
+pub(crate) fn is_active(standing: Standing) -> bool
     ensures { result ≡ is_active standing }
 {
     matches!(standing, Standing::Ready | Standing::Running)
 }
 
 #[inline(always)]
-fn later(a: Tick, b: Tick) -> Tick
+pub(crate) fn later(a: Tick, b: Tick) -> Tick
     ensures { result ≡ max a b }
 {
     if a.get() < b.get() { b } else { a }
@@ -69,6 +75,17 @@ fn note_first(earlier: &mut Option<Tick>, active: bool, from: Tick, to: Tick)
     }
 }
 
+/// Whether this is the notification for which a thread waits first.
+#[inline(always)]
+fn waits_for(note: NoteId, waits: Option<NoteId>) -> bool
+    ensures { result ≡ waits_for note waits }
+{
+    match waits {
+        Some(first) => first == note,
+        None => false,
+    }
+}
+
 impl Account {
     /// The account before the first row. It depends on no number of a thread or a notification.
     pub(crate) fn new(part: &ThreadPart) -> Self
@@ -81,6 +98,8 @@ impl Account {
             bits: bits_of(part),
             standing: Standing::Pending,
             since: Tick::ZERO,
+            free: part.start,
+            rounds: 0,
             begun: match waits {
                 Some(_) => None,
                 None => Some(part.start),
@@ -93,20 +112,58 @@ impl Account {
         }
     }
 
-    /// How the thread stood in the round that began at `begun`, up to `moment`, if no row changed
-    /// that after `since`.
-    pub(crate) fn stood_since(&self, begun: Option<Tick>, moment: Tick) -> Stood
-        ensures { all_kept self.now + moment < 2 ^ 64 → result ≡ stood_since begun moment self.now.standing self.now }
+    /// When the ticks of the round under way begin to count. Between rounds, those of the round that
+    /// the word which was set at `set` would begin.
+    #[inline(always)]
+    fn counting(&self, set: Tick) -> Option<Tick>
+        ensures { result ≡ counting self.now.waits self.now.begun self.now.free self.now.called self.now.active set }
     {
-        match begun {
-            None => self.stood,
-            Some(begun) => {
-                let from = later(self.since, begun);
-                let mut stood = self.stood;
-                stood.count(self.standing, moment.get().saturating_sub(from.get()));
-                stood
-            }
+        let activated = match (self.waits, self.begun) {
+            (Some(_), Some(_)) => self.called,
+            (Some(_), None) => Some(set),
+            (None, _) => self.active,
+        };
+        match activated {
+            Some(activated) => Some(later(activated, self.free)),
+            None => None,
         }
+    }
+
+    /// Keeps only the ticks from `from` on: all that are counted, or none.
+    #[inline(always)]
+    fn count_from(&mut self, from: Tick)
+        ensures { self.new ≡ record self.old { stood = stood_from from self.old } }
+    {
+        if self.since.get() <= from.get() {
+            self.stood = Stood::new();
+        }
+    }
+
+    /// Counts the ticks up to `moment` into the round, whose ticks count from `from` on. `None`
+    /// leaves none.
+    #[inline(always)]
+    fn count(&mut self, from: Option<Tick>, moment: Tick)
+        ensures { all_kept self.old + moment < 2 ^ 64 → self.new ≡ record self.old { stood = stood_since from moment self.old.standing self.old } }
+    {
+        match from {
+            Some(from) => {
+                self.count_from(from);
+                let since = later(self.since, from);
+                self.stood
+                    .count(self.standing, moment.get().saturating_sub(since.get()));
+            }
+            None => self.stood = Stood::new(),
+        }
+    }
+
+    /// How the thread stood in the round under way, whose ticks count from `from` on, up to `moment`,
+    /// if no row changed how it stands after `since`.
+    pub(crate) fn stood_since(&self, from: Tick, moment: Tick) -> Stood
+        ensures { all_kept self.now + moment < 2 ^ 64 → result ≡ stood_since (Some from) moment self.now.standing self.now }
+    {
+        let mut account = *self;
+        account.count(Some(from), moment);
+        account.stood
     }
 
     /// How the thread stood from time 0 up to `moment`, if no row changed that after `since`.
@@ -119,12 +176,12 @@ impl Account {
         stood
     }
 
-    /// When the thread was first ready or running in the round that began at `begun`, up to
-    /// `moment`, if no row changed how it stands after `since`.
-    fn active_since(&self, begun: Option<Tick>, moment: Tick) -> Option<Tick>
-        ensures { result ≡ active_since begun moment self.now.standing self.now }
+    /// When the thread was first ready or running in the round under way, up to `moment`, if no row
+    /// changed how it stands after `since`.
+    fn active_since(&self, moment: Tick) -> Option<Tick>
+        ensures { result ≡ active_since self.now.begun moment self.now.standing self.now }
     {
-        match begun {
+        match self.begun {
             None => self.active,
             Some(begun) => or_first(
                 self.active,
@@ -135,69 +192,60 @@ impl Account {
         }
     }
 
-    /// When the round under way was activated, if it was before `moment`.
+    /// When the round under way was activated, if one is under way and it was before `moment`.
     pub(crate) fn activated_since(&self, moment: Tick) -> Option<Tick>
         ensures { result ≡ activated_since moment self.now }
     {
-        match self.waits {
-            Some(_) => self.called,
-            None => self.active_since(self.begun, moment),
+        match (self.begun, self.waits) {
+            (None, _) => None,
+            (Some(_), Some(_)) => self.called,
+            (Some(_), None) => self.active_since(moment),
         }
     }
 
-    /// Counts the ticks up to `moment`, in which the thread stood as `standing`, into its round.
+    /// Takes a row after which the thread stands differently. The word for which its script waits
+    /// first was set at `set`.
     #[inline(always)]
-    fn pass(&mut self, moment: Tick, standing: Standing)
-        ensures { all_kept self.old + moment < 2 ^ 64 → self.new ≡ passed moment standing self.old }
-    {
-        if let Some(begun) = self.begun {
-            let from = later(self.since, begun);
-            note_first(&mut self.active, is_active(standing), from, moment);
-            self.stood
-                .count(standing, moment.get().saturating_sub(from.get()));
-        }
-    }
-
-    /// Takes a row after which the thread stands differently. Until `moment` it stood as
-    /// `standing`.
-    #[inline(always)]
-    fn tell(&mut self, standing: Standing, moment: Tick, what: &What)
-        ensures { all_kept self.old + moment < 2 ^ 64 → self.new ≡ told_from standing moment what.now self.old }
+    fn tell(&mut self, set: Tick, moment: Tick, what: &What)
+        ensures { all_kept self.old + moment < 2 ^ 64 → self.new ≡ told set moment what.now self.old }
     {
         let ticks = moment.get().saturating_sub(self.since.get());
-        self.pass(moment, standing);
-        self.total.count(standing, ticks);
+        if let Some(begun) = self.begun {
+            let from = later(self.since, begun);
+            note_first(&mut self.active, is_active(self.standing), from, moment);
+        }
+        self.count(self.counting(set), moment);
+        self.total.count(self.standing, ticks);
         self.standing = standing_after(what);
         self.since = moment;
     }
 
-    fn begin(&mut self, begun: Option<Tick>)
-        ensures { self.new ≡ begins begun self.old }
-    {
-        self.begun = begun;
-        self.active = None;
-        self.stood = Stood::new();
-    }
-
     /// Takes a word that was set at `set` and that the thread has from `moment` on. It begins a
-    /// round if the script begins with a wait, no round is under way, and the word leaves something
-    /// to do.
+    /// round if no round is under way, the script begins with a wait for it, and it leaves
+    /// something to do.
     #[inline(always)]
-    fn give(&mut self, moment: Tick, set: Tick, word: u32)
-        ensures { self.new ≡ given moment set word self.old }
+    fn give(&mut self, moment: Tick, set: Tick, note: NoteId, word: u32)
+        ensures { self.new ≡ given moment set note word self.old }
     {
-        if self.waits.is_some() && self.begun.is_none() && calls(self.bits, word) {
+        if self.begun.is_none() && waits_for(note, self.waits) && calls(self.bits, word) {
+            self.begun = Some(moment);
             self.called = Some(set);
-            self.begin(Some(moment));
+            self.active = None;
+            self.count_from(later(set, self.free));
         }
     }
 
-    /// Ends the round under way. `begun` is when the next one began, if it has begun.
-    fn end(&mut self, begun: Option<Tick>)
-        ensures { self.new ≡ ends begun self.old }
+    /// Ends the round under way, the last one with the number `rounds`. `begun` is when the next one
+    /// began, if it has begun.
+    fn end(&mut self, moment: Tick, rounds: u64, begun: Option<Tick>)
+        ensures { self.new ≡ ends moment rounds begun self.old }
     {
-        self.begin(begun);
+        self.free = moment;
+        self.rounds = rounds;
+        self.begun = begun;
+        self.active = None;
         self.preemptions = 0;
+        self.stood = Stood::new();
     }
 
     /// Counts a preemption, if a round is under way.
@@ -216,32 +264,32 @@ impl Account {
         ensures { self.new ≡ turned moment what.now self.old }
     {
         match *what {
-            What::Stop { why: Why::Done, .. } => self.end(None),
+            What::Stop { why: Why::Done, .. } => self.end(moment, self.rounds, None),
             What::Stop {
                 why: Why::Preempt,
                 ..
             } => self.preempt(),
-            What::Wake { word, .. } => self.give(moment, moment, word),
+            What::Wake { note, word, .. } => self.give(moment, moment, note, word),
             _ => {}
         }
     }
 
-    /// Takes a row of this thread. A word that a `got` row takes was set at `set`.
+    /// Takes a row of this thread. The word for which its script waits first was set at `set`.
     #[inline(always)]
     pub(crate) fn see(&mut self, set: Tick, moment: Tick, what: &What)
         ensures { all_kept self.old + moment < 2 ^ 64 → self.new ≡ seen_own set moment what.now self.old }
     {
         match *what {
-            What::Got { word, .. } => self.give(moment, set, word),
-            What::Round { .. } => {
+            What::Got { note, word, .. } => self.give(moment, set, note, word),
+            What::Round { number, .. } => {
                 let begun = match self.waits {
                     Some(_) => None,
                     None => Some(moment),
                 };
-                self.end(begun);
+                self.end(moment, number, begun);
             }
             _ => {
-                self.tell(settled(what, self.standing), moment, what);
+                self.tell(set, moment, what);
                 self.turn(moment, what);
             }
         }

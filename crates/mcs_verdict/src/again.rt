@@ -27,17 +27,20 @@ fn is_later_moment(moment: Option<Tick>, before: Option<Tick>, by: u64) -> bool
 
 fn are_moments_later(after: &Account, before: &Account, by: u64) -> bool
     ensures { IsTrue result ↔ ((after.now.since ≡ before.now.since + by)
+        × (after.now.free ≡ before.now.free + by)
         × (after.now.begun ≡ later_moment by before.now.begun)
         × (after.now.called ≡ later_moment by before.now.called)
         × (after.now.active ≡ later_moment by before.now.active)) }
 {
     is_later(after.since, before.since, by)
+        && is_later(after.free, before.free, by)
         && is_later_moment(after.begun, before.begun, by)
         && is_later_moment(after.called, before.called, by)
         && is_later_moment(after.active, before.active, by)
 }
 
-/// Whether everything but the times is equal, except how the thread stood from time 0 on.
+/// Whether everything but the times is equal, except the number of its rounds and how the thread
+/// stood from time 0 on.
 fn stands_so(after: &Account, before: &Account) -> bool
     ensures { IsTrue result ↔ ((after.now.deadline ≡ before.now.deadline)
         × (after.now.waits ≡ before.now.waits)
@@ -71,9 +74,9 @@ impl Watch {
         })
     }
 
-    /// Whether the account of the thread is that of `before` with each time `by` ticks later. How
-    /// the thread stood from time 0 on is not compared, since it grows. False if either watch does
-    /// not know the thread.
+    /// Whether the account of the thread is that of `before` with each time `by` ticks later. The
+    /// number of its rounds and how it stood from time 0 on are not compared, since they grow. False
+    /// if either watch does not know the thread.
     pub fn thread_is_later(&self, before: &Watch, thread: ThreadId, by: u64) -> bool
         ensures { IsTrue result ↔ IsLaterThread by before.now self.now thread }
     {

@@ -5,7 +5,8 @@ use mcs_ticks::{CoreId, NoteId, ThreadId, Tick};
 #[derive(Clone, Copy, Debug, PartialEq, Eq)]
 pub enum Finding {
     /// A deadline miss: a round ended, and its response from its activation was above the deadline.
-    /// It began `queued` ticks after its activation; `stood` counts from its beginning.
+    /// The round before it ended, or the thread started, `queued` ticks after its activation;
+    /// `stood` counts from then on, or from its activation if that came later.
     Miss {
         thread: ThreadId,
         number: u64,
@@ -15,21 +16,34 @@ pub enum Finding {
         queued: u64,
         stood: Stood,
     },
-    /// A round that was activated at least a deadline before the horizon and has not ended. It can
-    /// only end with a miss, unless another thread takes the word that activated it.
+    /// A round that is under way at the horizon and was activated `age` ticks before, a deadline or
+    /// more. It can only end with a miss.
     Overdue {
         thread: ThreadId,
+        number: u64,
+        age: u64,
         deadline: u64,
         activated: Tick,
         queued: u64,
         stood: Stood,
+    },
+    /// A word that was set `age` ticks before the horizon, a deadline or more, and that nobody has
+    /// taken. Whoever takes it begins a round with it and misses its deadline; `deadline` is the
+    /// greatest of them.
+    Untaken {
+        note: NoteId,
+        word: u32,
+        age: u64,
+        deadline: u64,
+        set: Tick,
     },
     /// A lost activation: a signal or an interrupt changed nothing, since its bits were pending.
     Lost {
         note: NoteId,
         word: u32,
     },
-    /// A thread with a deadline that was not activated up to the horizon.
+    /// A thread with a deadline of which no round could begin up to the horizon. Its script begins
+    /// with a wait, and no thread was given a word of that wait; or it was never ready or running.
     Never {
         thread: ThreadId,
         deadline: u64,

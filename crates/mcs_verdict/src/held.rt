@@ -1,5 +1,5 @@
 ghost use Rattle.std.specs.Prelude.{◌≡◌};
-ghost use Rattle.mcs_verdict.specs.Words.{no_word, held_with, taken};
+ghost use Rattle.mcs_verdict.specs.Words.{no_word, held_with, gave, taken};
 
 use crate::heard::is_set;
 use mcs_ticks::Tick;
@@ -13,6 +13,11 @@ pub(crate) struct Held {
     /// A word leaves something to do if it has one of these bits, to a thread that waits here
     /// first; `None` if every word does.
     pub bits: Option<u32>,
+    /// The greatest deadline of the threads that may take the word, if whoever takes it begins a
+    /// round that has a deadline.
+    pub due: Option<u64>,
+    /// The bits of all words that the notification gave to threads.
+    pub given: u32,
 }
 
 impl Held {
@@ -24,6 +29,8 @@ impl Held {
             word: 0,
             since: Tick::ZERO,
             bits: Some(0),
+            due: None,
+            given: 0,
         }
     }
 
@@ -37,10 +44,18 @@ impl Held {
         self.word = word;
     }
 
-    /// Takes the word: it is 0 afterwards.
-    pub(crate) fn take(&mut self)
-        ensures { self.new ≡ taken self.old }
+    /// Gives a word to a thread.
+    pub(crate) fn give(&mut self, word: u32)
+        ensures { self.new ≡ gave word self.old }
     {
+        self.given |= word;
+    }
+
+    /// Gives the held word to a thread: it is 0 afterwards.
+    pub(crate) fn take(&mut self, word: u32)
+        ensures { self.new ≡ taken word self.old }
+    {
+        self.give(word);
         self.word = 0;
     }
 }

@@ -14,11 +14,12 @@ pub struct Job {
     pub ended: Tick,
     /// The response time: from its activation to its end.
     pub response: u64,
-    /// The time from its activation to its beginning; 0 if it was activated later.
+    /// The time from its activation until the round before it ended, or the thread started; 0 if it
+    /// was activated later.
     pub queued: u64,
     /// Times that a thread of higher priority preempted it since it began. The count saturates at
     /// 2^64 - 1.
     pub preemptions: u64,
-    /// How the thread stood from the round's beginning to its end.
+    /// How the thread stood from then on, or from its activation if that came later, to its end.
     pub stood: Stood,
 }

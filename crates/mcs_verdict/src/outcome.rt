@@ -1,9 +1,9 @@
 //! The findings of a thread by its account: when a round ends, and at the horizon.
 ghost use Rattle.std.specs.Prelude.{◌≡◌, ◌+◌, ◌<◌, ◌^◌};
-ghost use Rattle.mcs_verdict.specs.Account.{all_kept, job_by, miss_by, overdue_by, never_by, unended_by};
-ghost use Rattle.mcs_verdict.specs.Misses.{is_above, missed, is_reached, overdue_at, set_at, yet_to_begin, was_activated};
+ghost use Rattle.mcs_verdict.specs.Account.{all_kept, parts_since, job_by, miss_by, overdue_from, overdue_by, never_by, unended_by};
+ghost use Rattle.mcs_verdict.specs.Misses.{is_above, missed, is_reached, set_at, was_activated};
 
-use crate::account::Account;
+use crate::account::{Account, is_active, later};
 use crate::heard::is_set;
 use crate::held::Held;
 use crate::{Finding, Job, Standing, Stood};
@@ -32,53 +32,20 @@ pub(crate) fn set_at(bits: Option<u32>, held: &Held) -> Option<Tick>
     }
 }
 
-fn yet_to_begin(standing: Standing, bits: Option<u32>, held: &Held) -> Option<Tick>
-    ensures { result ≡ yet_to_begin standing bits held.now }
-{
-    if standing == Standing::Done {
-        None
-    } else {
-        set_at(bits, held)
-    }
-}
-
+/// Whether the thread ever had something to do. If its script begins with a wait, that was so if
+/// some thread was given a word that leaves this one something to do.
 fn was_activated(
     waits: Option<NoteId>,
     bits: Option<u32>,
-    called: Option<Tick>,
     held: &Held,
+    standing: Standing,
     stood: &Stood,
 ) -> bool
-    ensures { result ≡ was_activated waits bits called held.now stood.now }
+    ensures { result ≡ was_activated waits bits held.now standing stood.now }
 {
     match waits {
-        Some(_) => called.is_some() || is_set(bits, held.word),
-        None => stood.ready != 0 || stood.running != 0,
-    }
-}
-
-/// The finding about a round that was activated at least a deadline before the horizon.
-fn overdue_at(
-    horizon: Tick,
-    thread: ThreadId,
-    deadline: u64,
-    begun: Tick,
-    stood: Stood,
-    activated: Option<Tick>,
-) -> Option<Finding>
-    ensures { result ≡ overdue_at horizon thread deadline begun stood activated }
-{
-    match activated {
-        Some(activated) if is_reached(deadline, horizon.get().saturating_sub(activated.get())) => {
-            Some(Finding::Overdue {
-                thread,
-                deadline,
-                activated,
-                queued: begun.get().saturating_sub(activated.get()),
-                stood,
-            })
-        }
-        _ => None,
+        Some(_) => is_set(bits, held.given),
+        None => is_active(standing) || stood.ready != 0 || stood.running != 0,
     }
 }
 
@@ -103,22 +70,29 @@ fn missed(deadline: u64, job: &Job) -> Option<Finding>
 
 /// Findings at the end of a round and at the horizon.
 impl Account {
+    /// The parts of a round that was activated at `activated`, up to `moment`, if it is the one
+    /// under way.
+    fn parts_since(&self, activated: Tick, moment: Tick) -> Stood
+        ensures { all_kept self.now + moment < 2 ^ 64 → result ≡ parts_since activated moment self.now }
+    {
+        self.stood_since(later(activated, self.free), moment)
+    }
+
     /// Returns the round that ends at `moment`.
     pub(crate) fn job(&self, moment: Tick, thread: ThreadId, number: u64) -> Job
         ensures { all_kept self.now + moment < 2 ^ 64 → result ≡ job_by moment thread number self.now }
     {
-        let begun = self.begun.unwrap_or(moment);
         let activated = self.activated_since(moment).unwrap_or(moment);
         Job {
             thread,
             number,
             activated,
-            begun,
+            begun: self.begun.unwrap_or(moment),
             ended: moment,
             response: moment.get().saturating_sub(activated.get()),
-            queued: begun.get().saturating_sub(activated.get()),
+            queued: self.free.get().saturating_sub(activated.get()),
             preemptions: self.preemptions,
-            stood: self.stood_since(self.begun, moment),
+            stood: self.parts_since(activated, moment),
         }
     }
 
@@ -135,28 +109,33 @@ impl Account {
         }
     }
 
-    /// The round that is under way, or that a held word will begin, if it is overdue at the
-    /// horizon.
-    fn overdue(&self, horizon: Tick, thread: ThreadId, held: &Held) -> Option<Finding>
-        ensures { all_kept self.now + horizon < 2 ^ 64 → result ≡ overdue_by horizon thread held.now self.now }
+    /// The round under way, which was activated at `activated`, if it is overdue at the horizon.
+    fn overdue_from(&self, horizon: Tick, thread: ThreadId, activated: Tick) -> Option<Finding>
+        ensures { all_kept self.now + horizon < 2 ^ 64 → result ≡ overdue_from horizon thread (Some activated) self.now }
     {
-        match self.begun {
-            Some(begun) => overdue_at(
-                horizon,
+        let age = horizon.get().saturating_sub(activated.get());
+        if is_reached(self.deadline, age) {
+            Some(Finding::Overdue {
                 thread,
-                self.deadline,
-                begun,
-                self.stood_since(self.begun, horizon),
-                self.activated_since(horizon),
-            ),
-            None => overdue_at(
-                horizon,
-                thread,
-                self.deadline,
-                horizon,
-                Stood::new(),
-                yet_to_begin(self.standing, self.bits, held),
-            ),
+                number: self.rounds.saturating_add(1),
+                age,
+                deadline: self.deadline,
+                activated,
+                queued: self.free.get().saturating_sub(activated.get()),
+                stood: self.parts_since(activated, horizon),
+            })
+        } else {
+            None
+        }
+    }
+
+    /// The round under way, if it is overdue at the horizon.
+    fn overdue(&self, horizon: Tick, thread: ThreadId) -> Option<Finding>
+        ensures { all_kept self.now + horizon < 2 ^ 64 → result ≡ overdue_by horizon thread self.now }
+    {
+        match self.activated_since(horizon) {
+            Some(activated) => self.overdue_from(horizon, thread, activated),
+            None => None,
         }
     }
 
@@ -164,7 +143,9 @@ impl Account {
         ensures { all_kept self.now + horizon < 2 ^ 64 → result ≡ never_by horizon thread held.now self.now }
     {
         let stood = self.total_at(horizon);
-        if self.deadline != 0 && !was_activated(self.waits, self.bits, self.called, held, &stood) {
+        if self.deadline != 0
+            && !was_activated(self.waits, self.bits, held, self.standing, &stood)
+        {
             Some(Finding::Never {
                 thread,
                 deadline: self.deadline,
@@ -179,7 +160,7 @@ impl Account {
     pub(crate) fn unended(&self, horizon: Tick, thread: ThreadId, held: &Held) -> Option<Finding>
         ensures { all_kept self.now + horizon < 2 ^ 64 → result ≡ unended_by horizon thread held.now self.now }
     {
-        match self.overdue(horizon, thread, held) {
+        match self.overdue(horizon, thread) {
             Some(found) => Some(found),
             None => self.never(horizon, thread, held),
         }

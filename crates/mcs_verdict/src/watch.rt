@@ -1,18 +1,21 @@
-ghost use Rattle.std.specs.Prelude.{◌≡◌, ◌+◌, ◌<◌, ◌^◌, List, [], ◌∷◌, length, map, Some, IfOk};
+ghost use Rattle.std.specs.Prelude.{◌≡◌, ◌+◌, ◌<◌, ◌^◌, List, [], ◌∷◌, length, map, IfOk};
 ghost use Rattle.mcs_ticks.specs.declared.row.Row.{Row as TheRow};
 ghost use Rattle.mcs_system.specs.System.{System as TheSystem};
 ghost use Rattle.mcs_system.specs.declared.part.ThreadPart.{ThreadPart as TheThread};
 ghost use Rattle.mcs_verdict.specs.declared.held.Held.{Held as TheHeld};
 ghost use Rattle.mcs_verdict.specs.Stood.{stood_in};
 ghost use Rattle.mcs_verdict.specs.Jobs.{job_known, job_of};
-ghost use Rattle.mcs_verdict.specs.Misses.{miss, unended, word_for, word_set};
-ghost use Rattle.mcs_verdict.specs.Words.{held_of, leaves, adds, merges, heard_at, firsts_of};
+ghost use Rattle.mcs_verdict.specs.Misses.{miss, unended, word_set};
+ghost use Rattle.mcs_verdict.specs.Due.{calls_each, untaken};
+ghost use Rattle.mcs_verdict.specs.Rounds.{activated_of};
+ghost use Rattle.mcs_verdict.specs.Words.{held_of, word_for, leaves, adds, merges, heard_at, firsts_of};
 ghost use Rattle.mcs_verdict.specs.Findings.{finding, UpTo};
-ghost use Rattle.mcs_verdict.specs.Account.{account_of, set_for, subject};
+ghost use Rattle.mcs_verdict.specs.Account.{account_of, subject};
 ghost use Rattle.mcs_verdict.specs.Watch.{accounts_of, words_of, watch_of};
 
 use crate::account::Account;
-use crate::heard::{bits_of, either, first_wait};
+use crate::due::{dues_of, untaken_by};
+use crate::heard::{bits_of, calls, either, first_wait};
 use crate::held::Held;
 use crate::outcome::set_at;
 use crate::{Finding, Job, Stood};
@@ -51,17 +54,6 @@ fn subject(what: &What) -> Option<ThreadId>
     }
 }
 
-/// When the word that this row takes was set.
-fn set_for(words: &[Held], what: &What) -> Tick
-    ensures { (firsts : List TheHeld) (past : List TheRow) → words.now ≡ words_of 0 firsts past →
-        result ≡ set_for firsts past what.now }
-{
-    match *what {
-        What::Got { note, .. } => word_at(words, note).since,
-        _ => Tick::ZERO,
-    }
-}
-
 /// The word of a notification, or `Held::none` if there is no such notification.
 fn word_at(words: &[Held], note: NoteId) -> Held
     ensures { (firsts : List TheHeld) (past : List TheRow) → words.now ≡ words_of 0 firsts past →
@@ -85,22 +77,49 @@ fn word_for(words: &[Held], waits: Option<NoteId>) -> Held
     }
 }
 
-/// Updates the account of the row's thread. `set` is when the word that the row takes was set.
+/// When the word was set; 0 if there is no such notification.
 #[inline(always)]
-fn tell_accounts(accounts: &mut [Account], set: Tick, row: &Row)
+fn word_since(words: &[Held], note: NoteId) -> Tick
+    ensures { (firsts : List TheHeld) (past : List TheRow) → words.now ≡ words_of 0 firsts past →
+        result ≡ (held_of firsts note past).since }
+{
+    if note.0 < words.len() {
+        words[note.0].since
+    } else {
+        Tick::ZERO
+    }
+}
+
+/// When the word for which a script waits first was set; 0 if it does not begin with a wait.
+#[inline(always)]
+fn set_for(words: &[Held], waits: Option<NoteId>) -> Tick
+    ensures { (firsts : List TheHeld) (past : List TheRow) → words.now ≡ words_of 0 firsts past →
+        result ≡ (word_for firsts waits past).since }
+{
+    match waits {
+        Some(note) => word_since(words, note),
+        None => Tick::ZERO,
+    }
+}
+
+/// Updates the account of the row's thread.
+#[inline(always)]
+fn tell_accounts(accounts: &mut [Account], words: &[Held], row: &Row)
     ensures { (firsts : List TheHeld) (parts : List TheThread) (past : List TheRow) → accounts.old ≡ accounts_of firsts 0 parts past →
-        set ≡ set_for firsts past row.now.what → UpTo row.now.moment past →
+        words.now ≡ words_of 0 firsts past → UpTo row.now.moment past →
         accounts.new ≡ accounts_of firsts 0 parts (row.now ∷ past) }
 {
     if let Some(thread) = subject(&row.what) {
         if thread.0 < accounts.len() {
             // Keeps every count below 2^64.
             prove!(row.moment.get() <= Limits::TICK);
+            let set = set_for(words, accounts[thread.0].waits);
             accounts[thread.0].see(set, row.moment, &row.what);
         }
     }
 }
 
+#[inline(always)]
 fn tell_words(words: &mut [Held], row: &Row)
     ensures { (firsts : List TheHeld) (past : List TheRow) → words.old ≡ words_of 0 firsts past →
         words.new ≡ words_of 0 firsts (row.now ∷ past) }
@@ -111,9 +130,14 @@ fn tell_words(words: &mut [Held], row: &Row)
                 words[note.0].hold(row.moment, word);
             }
         }
-        What::Got { note, .. } => {
+        What::Got { note, word, .. } => {
             if note.0 < words.len() {
-                words[note.0].take();
+                words[note.0].take(word);
+            }
+        }
+        What::Wake { note, word, .. } => {
+            if note.0 < words.len() {
+                words[note.0].give(word);
             }
         }
         _ => {}
@@ -193,15 +217,33 @@ fn heard_at(note: usize, threads: &[ThreadPart]) -> Option<u32>
     bits
 }
 
+/// Whether the word leaves something to do to each thread that waits first on the notification.
+fn calls_each(accounts: &[Account], note: NoteId, word: u32) -> bool
+    ensures { (firsts : List TheHeld) (parts : List TheThread) (past : List TheRow) → accounts.now ≡ accounts_of firsts 0 parts past →
+        result ≡ calls_each note word parts }
+{
+    for account in accounts {
+        if let Some(first) = account.waits {
+            if first == note && !calls(account.bits, word) {
+                return false;
+            }
+        }
+    }
+    true
+}
+
 fn opened_words(alloc: Global, parts: &SystemParts) -> Result<Vec<Held>, NoMemory>
     ensures { IfOk result (λ words. words.items ≡ firsts_of parts.now) }
 {
+    let dues = dues_of(alloc, parts)?;
     let mut words = Vec::new(alloc);
     for (number, part) in parts.notes.as_slice().iter().enumerate() {
         words.push(Held {
             word: part.word,
             since: Tick::ZERO,
             bits: heard_at(number, parts.threads.as_slice()),
+            due: dues[number].known(),
+            given: 0,
         })?;
     }
     Ok(words)
@@ -244,8 +286,7 @@ impl Watch {
             result ≡ finding system past row.now.moment row.now.what }
     {
         let found = self.find(row);
-        let set = set_for(self.words.as_slice(), &row.what);
-        tell_accounts(self.accounts.as_mut_slice(), set, row);
+        tell_accounts(self.accounts.as_mut_slice(), self.words.as_slice(), row);
         tell_words(self.words.as_mut_slice(), row);
         found
     }
@@ -259,11 +300,15 @@ impl Watch {
         ensures found { (system : TheSystem) (past : List TheRow) → self.old ≡ watch_of system past → UpTo row.now.moment past →
             result ≡ finding system past row.now.moment row.now.what }
     {
-        // Other rows have no finding and change no word.
+        // Other rows have no finding, and of them only a wake changes a word.
         if let What::Round { .. } | What::Hold { .. } | What::Got { .. } = row.what {
             return self.see_any(row);
         }
-        tell_accounts(self.accounts.as_mut_slice(), Tick::ZERO, row);
+        tell_accounts(self.accounts.as_mut_slice(), self.words.as_slice(), row);
+        let What::Wake { .. } = row.what else {
+            return None;
+        };
+        tell_words(self.words.as_mut_slice(), row);
         None
     }
 
@@ -304,6 +349,33 @@ impl Watch {
             let account = &self.accounts[thread.0];
             let held = word_for(self.words.as_slice(), account.waits);
             account.unended(horizon, thread, &held)
+        } else {
+            None
+        }
+    }
+
+    /// Returns the word that the notification holds at the horizon, if nobody has taken it for its
+    /// deadline or longer. Takes time in proportion to the number of threads, and only if the word
+    /// is that old.
+    pub fn untaken(&self, horizon: Tick, note: NoteId) -> Option<Finding>
+        ensures { (system : TheSystem) (past : List TheRow) → self.now ≡ watch_of system past →
+            result ≡ untaken system past horizon note }
+    {
+        let held = word_at(self.words.as_slice(), note);
+        match untaken_by(horizon, note, &held) {
+            Some(found) if calls_each(self.accounts.as_slice(), note, held.word) => Some(found),
+            _ => None,
+        }
+    }
+
+    /// Returns when the thread's round under way was activated, if one is under way and it was
+    /// activated before `moment`. `None` if there is no such thread.
+    pub fn activated(&self, moment: Tick, thread: ThreadId) -> Option<Tick>
+        ensures { (system : TheSystem) (past : List TheRow) → self.now ≡ watch_of system past → UpTo moment past →
+            thread < length system.threads → result ≡ activated_of system thread past moment }
+    {
+        if thread.0 < self.accounts.len() {
+            self.accounts[thread.0].activated_since(moment)
         } else {
             None
         }

@@ -20,10 +20,10 @@ use Rattle.mcs_core.specs.Turn as turns
 use Rattle.mcs_core.specs.Turn.{Turn, silent, says, ◌followed_by◌, each}
 use Rattle.mcs_core.proofs.Counts.{times_queued-back, times_queued-front, times_dated-append}
 use Rattle.mcs_verdict.specs.declared.standing.Standing.{Standing}
-use Rattle.mcs_verdict.specs.declared.standing.Standing.TheVariants.{Pending, Ready, Running, Throttled, Blocked, Done}
+use Rattle.mcs_verdict.specs.declared.standing.Standing.TheVariants.{Pending, Ready, Running, Throttled, Blocked, AtServer, Done}
 use Rattle.mcs_verdict.specs.Rounds.{begun_at, begun_by_word, begun_after}
-use Rattle.mcs_verdict.specs.Standing.{standing_stopped}
-use Rattle.mcs_verdict_laws.proofs.Steps.{told_of, First, EndsAfter, Turns, Passes, Step}
+use Rattle.mcs_verdict.specs.Standing.{standing_until, standing_stopped}
+use Rattle.mcs_verdict_laws.proofs.Steps.{TakesAt, told_of, First, EndsAfter, Turns, Passes, Step}
 use Rattle.mcs_verdict_laws.proofs.Holds.{beginning_of, first, start_at, IsUnderWay, IsStarted, Holds, Loose, same-context, holds-same, Goes, goes_if}
 
 pub self : (x : ℕ) → (x == x) ≡ true
@@ -32,45 +32,24 @@ self x = grind (arith, nat_tests)
 pub equal : (a b : ℕ) → (a == b) ≡ true → a ≡ b
 equal a b e = grind (arith, nat_tests)
 
--- by the date with which it enters
-abbrev pub by_date : Option ℕ → Standing
-by_date None = Ready
-by_date (Some date) = Throttled
-
 -- a stop after which the thread enters again
 pub record IsPlain (x : ℕ) (first : First) (t : ℕ) (cause : Why) : Type 0 where
-  pub standing : (date : Option ℕ) → by_date date ≡ standing_stopped cause date
+  pub standing : (date : Option ℕ) → standing_until date ≡ standing_stopped cause date
   pub begun : (n : ℕ) (date begun : Option ℕ) → begun ≡ begun_after first.waits first.bits x t (row.Stop x cause n date) begun
   pub ended : (before : Option What) (n : ℕ) (date : Option ℕ) → EndsAfter x before (row.Stop x cause n date)
 
 module _ (x : ℕ) (first : First) (t : ℕ) where
   pub plain_spent : IsPlain x first t why.Spent
-  plain_spent = record { standing = by; begun = λ n date begun. refl; ended = λ before n date. tt }
-    where
-      by : (date : Option ℕ) → by_date date ≡ standing_stopped why.Spent date
-      by None = refl
-      by (Some date) = refl
+  plain_spent = record { standing = λ date. refl; begun = λ n date begun. refl; ended = λ before n date. tt }
 
   pub plain_yield : IsPlain x first t why.Yield
-  plain_yield = record { standing = by; begun = λ n date begun. refl; ended = λ before n date. tt }
-    where
-      by : (date : Option ℕ) → by_date date ≡ standing_stopped why.Yield date
-      by None = refl
-      by (Some date) = refl
+  plain_yield = record { standing = λ date. refl; begun = λ n date begun. refl; ended = λ before n date. tt }
 
   pub plain_preempt : IsPlain x first t why.Preempt
-  plain_preempt = record { standing = by; begun = λ n date begun. refl; ended = λ before n date. tt }
-    where
-      by : (date : Option ℕ) → by_date date ≡ standing_stopped why.Preempt date
-      by None = refl
-      by (Some date) = refl
+  plain_preempt = record { standing = λ date. refl; begun = λ n date begun. refl; ended = λ before n date. tt }
 
   pub plain_order : IsPlain x first t why.Order
-  plain_order = record { standing = by; begun = λ n date begun. refl; ended = λ before n date. tt }
-    where
-      by : (date : Option ℕ) → by_date date ≡ standing_stopped why.Order date
-      by None = refl
-      by (Some date) = refl
+  plain_order = record { standing = λ date. refl; begun = λ n date begun. refl; ended = λ before n date. tt }
 
   -- steps of the thread itself
   passes_own : (b : Bool) (before after : Standing) (what : What) → b ≡ true → Turns before what after → Passes b before what after
@@ -102,33 +81,35 @@ module _ (x : ℕ) (first : First) (t : ℕ) where
         takes = tt;
       }
 
-  pub step-got : (note word : ℕ) (begun : Option ℕ) → (begun ≡ None → first.waits ≡ Some note)
-      → Step x first t (told_of Running begun) (row.Got x note word) (told_of Running (begun_by_word first.waits first.bits word t begun))
-  step-got note word begun taken =
+  pub step-got : (note word : ℕ) (begun : Option ℕ) → (begun ≡ None → first.waits ≡ Some note) → TakesAt first.script note begun
+      → Step x first t (told_of Running begun) (row.Got x note word) (told_of Running (begun_by_word first.waits first.bits note word t begun))
+  step-got note word begun taken place =
       record {
         passes = refl;
-        begins = sym (ap (λ b. cond b (begun_by_word first.waits first.bits word t begun) begun) (self x));
+        begins = sym (ap (λ b. cond b (begun_by_word first.waits first.bits note word t begun) begun) (self x));
         timed = tt;
         alive = λ g. absurd (cc);
-        allows = tt;
-        takes = λ own. taken;
+        allows = λ g. refl;
+        takes = λ own. (taken, place);
       }
 
-  woken_to : (date : Option ℕ) → (by_date date ≡ Ready) ⊎ (by_date date ≡ Throttled)
-  woken_to None = inl refl
-  woken_to (Some date) = inr refl
-
-  pub step-wake : (note word : ℕ) (date begun : Option ℕ) → (begun ≡ None → first.waits ≡ Some note)
-      → Step x first t (told_of Blocked begun) (row.Wake x note word) (told_of (by_date date) (begun_by_word first.waits first.bits word t begun))
-  step-wake note word date begun taken =
+  pub step-wake : (note word : ℕ) (standing : Standing) (date begun : Option ℕ) → (standing ≡ Blocked) ⊎ (standing ≡ AtServer)
+      → (begun ≡ None → first.waits ≡ Some note)
+      → Step x first t (told_of standing begun) (row.Wake x note word date)
+      (told_of (standing_until date) (begun_by_word first.waits first.bits note word t begun))
+  step-wake note word standing date begun h taken =
       record {
-        passes = passes_own (x == x) Blocked (by_date date) (row.Wake x note word) (self x) (refl, woken_to date);
-        begins = sym (ap (λ b. cond b (begun_by_word first.waits first.bits word t begun) begun) (self x));
+        passes = passes_own (x == x) standing (standing_until date) (row.Wake x note word date) (self x) (h, refl);
+        begins = sym (ap (λ b. cond b (begun_by_word first.waits first.bits note word t begun) begun) (self x));
         timed = tt;
-        alive = λ g. absurd (cc);
+        alive = λ g. absurd (by h g);
         allows = tt;
         takes = λ own. taken;
       }
+    where
+      by : (standing ≡ Blocked) ⊎ (standing ≡ AtServer) → standing ≡ Done → ⊥
+      by (inl e) g = let f : Blocked ≡ Done = sym e ∙ g in cc
+      by (inr e) g = let f : AtServer ≡ Done = sym e ∙ g in cc
 
   pub step-run : (begun : Option ℕ) → Step x first t (told_of Ready begun) (row.Run x) (told_of Running begun)
   step-run begun =
@@ -142,7 +123,7 @@ module _ (x : ℕ) (first : First) (t : ℕ) where
       }
 
   pub step-release : (standing : Standing) (begun : Option ℕ) → (standing ≡ Pending) ⊎ (standing ≡ Throttled)
-      → (standing ≡ Pending → (beginning : ℕ) → begun ≡ Some beginning → t ≤ beginning)
+      → (standing ≡ Pending → t ≡ first.start)
       → Step x first t (told_of standing begun) (row.Release x) (told_of Ready begun)
   step-release standing begun h early =
       record {
@@ -191,7 +172,7 @@ module _ (system : System) (x : ℕ) where
 
   -- it enters
   pub enters-back : (from now : ℕ) (date begun : Option ℕ) (k : Core) → Loose system x now begun k
-      → Holds system x from now (told_of (by_date date) begun) (turns.enters_back by_priority x date k)
+      → Holds system x from now (told_of (standing_until date) begun) (turns.enters_back by_priority x date k)
   enters-back from now None begun k l =
       let under = under-stands begun core_standing.TheVariants.Ready k l.under in
       let started = started-stands now core_standing.TheVariants.Ready k l.under.has l.started in
@@ -220,7 +201,7 @@ module _ (system : System) (x : ℕ) where
       }
 
   pub enters-front : (from now : ℕ) (date begun : Option ℕ) (k : Core) → Loose system x now begun k
-      → Holds system x from now (told_of (by_date date) begun) (turns.enters_front by_priority x date k)
+      → Holds system x from now (told_of (standing_until date) begun) (turns.enters_front by_priority x date k)
   enters-front from now None begun k l =
       let under = under-stands begun core_standing.TheVariants.Ready k l.under in
       let started = started-stands now core_standing.TheVariants.Ready k l.under.has l.started in
@@ -263,16 +244,16 @@ module _ (system : System) (x : ℕ) where
   -- and enters again
   pub leaves-goes : (from t n : ℕ) (cause : Why) (begun : Option ℕ) (enters : ℕ → Option ℕ → Core → Core) (k : Core)
       → IsPlain x (first system x) t cause
-      → ((date : Option ℕ) (core : Core) → Loose system x t begun core → Holds system x from t (told_of (by_date date) begun) (enters x date core))
+      → ((date : Option ℕ) (core : Core) → Loose system x t begun core → Holds system x from t (told_of (standing_until date) begun) (enters x date core))
       → Holds system x from t (told_of Running begun) k
       → Goes system x from t (told_of Running begun) (turns.leaves by_priority system t enters x cause n k)
   leaves-goes from t n cause begun enters k plain enter h =
       let date = turns.date_of system t x k in
       record {
-        last = told_of (by_date date) begun;
+        last = told_of (standing_until date) begun;
         walks = (
-          told_of (by_date date) begun,
-          step-stop x (first system x) t n cause date (by_date date) begun begun (plain.standing date) (plain.begun n date begun),
+          told_of (standing_until date) begun,
+          step-stop x (first system x) t n cause date (standing_until date) begun begun (plain.standing date) (plain.begun n date begun),
           refl,
         );
         holds = enter date (off k) (loose-off from t begun k h);

@@ -1,5 +1,5 @@
 -- The running thread finishes an item, and a waiting one is woken.
-use Rattle.std.proofs.Common.{◌≡◌, ◌≢◌, ℕ, zero, suc, ◌+◌, ◌-◌, ◌<◌, ◌≤◌, ◌⊎◌, inl, inr, Bool, true, false, cond, not, ◌==◌, List, [], ◌∷◌, length, get_or, slice_get, Option, Some, None, refl, sym, ap, subst, ◌∙◌, arith}
+use Rattle.std.proofs.Common.{◌≡◌, ◌≢◌, ℕ, zero, suc, ◌+◌, ◌-◌, ◌<◌, ◌≤◌, ◌⊎◌, inl, inr, Bool, true, false, cond, not, ◌==◌, ◌&&◌, List, [], ◌∷◌, length, get_or, slice_get, Option, Some, None, refl, sym, ap, subst, ◌∙◌, arith}
 use Rattle.std.specs.Prelude.{unwrap_or}
 use Rattle.std.proofs.lemmas.Bool.{cases_lt}
 use Rattle.std.proofs.lemmas.Bool.Decides.{nat_tests}
@@ -32,13 +32,14 @@ use Rattle.mcs_core.specs.Turn.{Turn, silent, says, ◌followed_by◌}
 use Rattle.mcs_core.proofs.Counts.{times_queued-append, times_queued-without, times_waiting-set, times_waiting-at}
 use Rattle.mcs_laws.proofs.Places.{set-waiting}
 use Rattle.mcs_verdict.specs.declared.standing.Standing.{Standing}
-use Rattle.mcs_verdict.specs.declared.standing.Standing.TheVariants.{Pending, Ready, Running, Throttled, Blocked, Woken, Done}
+use Rattle.mcs_verdict.specs.declared.standing.Standing.TheVariants.{Pending, Ready, Running, Throttled, Blocked, AtServer, Done}
 use Rattle.mcs_verdict.specs.Calls.{calls, called_for, waited_on}
 use Rattle.mcs_verdict.specs.Rounds.{begun_at, begun_by_word}
-use Rattle.mcs_verdict_laws.proofs.Steps.{told_of, contrary, Step}
+use Rattle.mcs_verdict.specs.Standing.{standing_until}
+use Rattle.mcs_verdict_laws.proofs.Steps.{TakesAt, Told, told_of, contrary, Step}
 use Rattle.mcs_verdict_laws.proofs.Handlers.{goes-where, not-first, wait_goes, enter_goes, goes-past}
-use Rattle.mcs_verdict_laws.proofs.Holds.{waits_as, beginning_of, Awaits, first, IsUnderWay, IsStarted, IsWaiting, Holds, Loose, same-note, holds-same, Goes}
-use Rattle.mcs_verdict_laws.proofs.Entering.{self, equal, by_date, step-stop, step-round, step-got, step-wake, under-thread, started-thread, under-stands, started-stands, enters-back, enters-front, IsCalm, calm-goes}
+use Rattle.mcs_verdict_laws.proofs.Holds.{waits_as, beginning_of, Awaits, first, IsUnderWay, IsStarted, IsWaiting, IsListed, Holds, Loose, same-note, holds-same, Goes}
+use Rattle.mcs_verdict_laws.proofs.Entering.{self, equal, step-stop, step-round, step-got, step-wake, under-thread, started-thread, under-stands, started-stands, enters-back, enters-front, IsCalm, calm-goes}
 
 -- when a round begins that does not begin with the thread's first wait
 pub unless_first : (script : List Item) (waits : Option ℕ) (item since : ℕ) → waits ≡ waited_on (slice_get script 0)
@@ -66,6 +67,14 @@ at_wait script (Some first) item since note e f g = by (item == 0) refl g
         e ∙ ap (λ n. waited_on (slice_get script n)) (sym i) ∙ ap waited_on f
     by false h g = absurd (cc)
 
+-- and at its first wait no round is
+none_at_first : (script : List Item) (waits : Option ℕ) (item since note : ℕ) → waits ≡ waited_on (slice_get script 0)
+    → slice_get script item ≡ Some (Wait note) → item ≡ 0 → beginning_of waits item since ≡ None
+none_at_first script None item since note e f g =
+    let h : None ≡ Some note = e ∙ ap (λ n. waited_on (slice_get script n)) (sym g) ∙ ap waited_on f in
+    absurd (cc)
+none_at_first script (Some wait) item since note e f g = ap (λ n. cond (n == 0) None (Some since)) g
+
 -- a thread that waits once waits for one signal
 two_waiting : (x : ℕ) (notes : List Note) (i j : ℕ) → i ≢ j
     → times_queued x (get_or notes i quiet_note).waiters + times_queued x (get_or notes j quiet_note).waiters ≤ times_waiting x notes
@@ -89,7 +98,7 @@ one_note x notes i j one here there = by (i == j) refl
 -- a wait is given its word: its round is under way from then on, unless it is the first one and the word leaves nothing to do
 when_given : (script : List Item) (waits : Option ℕ) (item since t note word old : ℕ) → waits ≡ waited_on (slice_get script 0)
     → slice_get script item ≡ Some (Wait note)
-    → begun_by_word waits (called_for script) word t (beginning_of waits item since)
+    → begun_by_word waits (called_for script) note word t (beginning_of waits item since)
     ≡ beginning_of waits (unwrap_or (next_item script (cond (item == 0) (heard script word) old) item) 0) (cond (item == 0) t since)
 when_given script None item since t note word old e f = by (item == 0) refl
   where
@@ -106,11 +115,14 @@ when_given script (Some first) item since t note word old e f = by (item == 0) r
     gives false c g = ap (λ c. cond c None (Some t)) (sym g)
 
     by : (b : Bool) → (item == 0) ≡ b
-        → begun_by_word (Some first) (called_for script) word t (cond b None (Some since))
+        → begun_by_word (Some first) (called_for script) note word t (cond b None (Some since))
         ≡ beginning_of (Some first) (unwrap_or (next_item script (cond b (heard script word) old) item) 0) (cond b t since)
     by true g =
         let h : item ≡ 0 = equal item 0 g in
-        gives (calls (called_for script) word) (unwrap_or (next_item script (heard script word) 0) 0 == 0)
+        let i : Some first ≡ Some note = e ∙ ap (λ n. waited_on (slice_get script n)) (sym h) ∙ ap waited_on f in
+        let at : first ≡ note = cc in
+        ap (λ b. cond (b && calls (called_for script) word) (Some t) None) (ap (λ n. n == note) at ∙ self note)
+        ∙ gives (calls (called_for script) word) (unwrap_or (next_item script (heard script word) 0) 0 == 0)
         (goes-where script word note (ap (slice_get script) (sym h) ∙ f))
         ∙ ap (λ n. cond (unwrap_or (next_item script (heard script word) n) 0 == 0) None (Some t)) (sym h)
     by false g = sym (ap (λ b. cond b None (Some since)) (not-first script old item note f g))
@@ -183,9 +195,8 @@ item_home system well y place item e = by (cases_lt y (length system.threads))
         absurd (cc)
 
 -- a word that is given while a round is under way begins none
-under_way : (waits bits : Option ℕ) (word t since : ℕ) → begun_by_word waits bits word t (Some since) ≡ Some since
-under_way None bits word t since = refl
-under_way (Some note) bits word t since = refl
+under_way : (waits bits : Option ℕ) (note word t since : ℕ) → begun_by_word waits bits note word t (Some since) ≡ Some since
+under_way waits bits note word t since = refl
 
 module _ (system : System) (well : IsWellFormed system) (x : ℕ) where
   thread : x < length system.threads → IsThread system (thread_part system x)
@@ -220,8 +231,8 @@ module _ (system : System) (well : IsWellFormed system) (x : ℕ) where
   given-has : (t word : ℕ) (k : Core) → x < length k.threads → x < length (turns.given system t x word k).threads
   given-has t word k has = let l = length-set k.threads x (given_at t word k) in omega arith
 
-  given-under : (t word : ℕ) (begun : Option ℕ) (k : Core) → IsUnderWay system x begun k → IsWaiting system x k
-      → IsUnderWay system x (begun_by_word (first system x).waits (first system x).bits word t begun) (moved_on t word k)
+  given-under : (t word : ℕ) (begun : Option ℕ) (k : Core) → IsUnderWay system x begun k → (w : IsWaiting system x k)
+      → IsUnderWay system x (begun_by_word (first system x).waits (first system x).bits w.note word t begun) (moved_on t word k)
   unfolding moved_on
   given-under t word begun k u w =
       let given = turns.given system t x word k in
@@ -229,10 +240,10 @@ module _ (system : System) (well : IsWellFormed system) (x : ℕ) where
       let e = given-state t word k u.has in
       let old = (thread_of k x).place in
       let since = (thread_of k x).since in
-      let next = begun_by_word (first system x).waits (first system x).bits word t begun in
+      let next = begun_by_word (first system x).waits (first system x).bits w.note word t begun in
       let begins : next
       ≡ beginning_of (first system x).waits (unwrap_or (next_item script (given_at t word k).place.word old.item) 0) (given_at t word k).since =
-      ap (begun_by_word (first system x).waits (first system x).bits word t) u.begins
+      ap (begun_by_word (first system x).waits (first system x).bits w.note word t) u.begins
       ∙ when_given script (first system x).waits old.item since t w.note word old.word refl w.item
       in
       under-thread system x next (state_at Next (thread_of given x).since given) given u.known (given-has t word k u.has) u.notes
@@ -327,10 +338,18 @@ module _ (system : System) (well : IsWellFormed system) (x : ℕ) where
       let was = holds-same system x from t (told_of Running begun) k noted
       (same-note system x note (after_wait (Got word) (turns.queued x k) (note_of k note)) k refl) h in
       let waits : IsWaiting system x noted = record { note = note; item = item } in
-      let next = begun_by_word (first system x).waits (first system x).bits word t begun in
+      let next = begun_by_word (first system x).waits (first system x).bits note word t begun in
       let yet : begun ≡ None → (first system x).waits ≡ Some note =
       λ none. at_wait (thread_part system x).script (first system x).waits (thread_of k x).place.item (thread_of k x).since note refl item
       (sym h.own.0.begins ∙ none)
+      in
+      let place : TakesAt (first system x).script note begun =
+      inl (
+        (thread_of k x).place.item,
+        item,
+        λ at. h.own.0.begins
+            ∙ none_at_first (thread_part system x).script (first system x).waits (thread_of k x).place.item (thread_of k x).since note refl item at,
+      )
       in
       let holds : Holds system x from t (told_of Running next) (moved_on t word noted) =
       record {
@@ -349,60 +368,87 @@ module _ (system : System) (well : IsWellFormed system) (x : ℕ) where
       subst P (sym (given-next t word noted was.own.0.has waits))
       record {
         last = q.last;
-        walks = (told_of Running next, step-got x (first system x) t note word begun yet, q.walks);
+        walks = (told_of Running next, step-got x (first system x) t note word begun yet place, q.walks);
         holds = q.holds;
         ended = λ before. (tt, q.ended (Some (row.Got x note word)));
       }
 
+  -- how a thread waits: for a server that is taken, or for a signal
+  abbrev pub waiting_as : Bool → Standing
+  waiting_as true = AtServer
+  waiting_as false = Blocked
+
   -- a thread blocks at its item, which waits for this notification or server
-  blocks-holds : (from t using note : ℕ) (begun : Option ℕ) (k : Core) → Holds system x from t (told_of Running begun) k
-      → note < length system.notes → Awaits (turns.item_of system x k) note
-      → Holds system x from t (told_of Blocked begun)
+  blocks-holds : (served : Bool) (from t using note : ℕ) (begun : Option ℕ) (k : Core) → Holds system x from t (told_of Running begun) k
+      → is_server system note ≡ served → note < length system.notes → Awaits (turns.item_of system x k) note
+      → Holds system x from t (told_of (waiting_as served) begun)
       (stands x core_standing.TheVariants.Blocked (off (turns.charged system x using (with_note note (after_wait Blocks (turns.queued x k) (note_of k note)) k))))
-  blocks-holds from t using note begun k h known item =
-      let u = h.own.0 in
-      let ready = after_wait Blocks (turns.queued x k) (note_of k note) in
-      let noted = with_note note ready k in
-      let gone = off (turns.charged system x using noted) in
-      let within : note < length k.notes = let e = u.notes in omega arith in
-      let set = times_waiting-set x note ready k.notes within in
-      let more = times_queued-append x (note_of k note).waiters (turns.queued x k) in
-      let one : ◌≡◌ {A = ℕ} (cond (x == x) 1 0) 1 = ap (λ b. cond b 1 0) (self x) in
-      let under : IsUnderWay system x begun gone =
-      record { known = u.known; has = u.has; notes = length-set k.notes note ready ∙ u.notes; begins = u.begins }
-      in
-      let started : IsStarted system x t gone = record { start = h.own.1.start; since = h.own.1.since } in
-      let state = get_or-set_same k.threads x (record (thread_of k x) { standing = core_standing.TheVariants.Blocked }) no_state u.has in
-      record {
-        runs = refl;
-        ready = h.ready;
-        dated = h.dated;
-        waits = let none = h.waits in omega (arith, set, more, one, none);
-        own = (
-          under-stands system x begun core_standing.TheVariants.Blocked gone under,
-          started-stands system x t core_standing.TheVariants.Blocked gone u.has started,
+  blocks-holds served from t using note begun k h is known item = by served listed
+    where
+      ready : Note
+      ready = after_wait Blocks (turns.queued x k) (note_of k note)
+
+      gone : Core
+      gone = off (turns.charged system x using (with_note note ready k))
+
+      blocked : Core
+      blocked = stands x core_standing.TheVariants.Blocked gone
+
+      within : note < length k.notes
+      within = let e = h.own.0.notes in omega arith
+
+      more : times_queued x ready.waiters ≡ 1 + times_queued x (note_of k note).waiters
+      more =
+          let one : ◌≡◌ {A = ℕ} (cond (x == x) 1 0) 1 = ap (λ b. cond b 1 0) (self x) in
+          let all = times_queued-append x (note_of k note).waiters (turns.queued x k) in
+          omega (arith, one, all)
+
+      waits : times_waiting x blocked.notes ≡ 1
+      waits =
+          let set = times_waiting-set x note ready k.notes within in
+          let none = h.waits in
+          omega (arith, set, more, none)
+
+      under : IsUnderWay system x begun blocked
+      under =
+          let u = h.own.0 in
+          under-stands system x begun core_standing.TheVariants.Blocked gone
+          record { known = u.known; has = u.has; notes = length-set k.notes note ready ∙ u.notes; begins = u.begins }
+
+      started : IsStarted system x t blocked
+      started =
+          started-stands system x t core_standing.TheVariants.Blocked gone h.own.0.has record { start = h.own.1.start; since = h.own.1.since }
+
+      listed : IsListed system x served blocked
+      listed =
+          let state = get_or-set_same k.threads x (record (thread_of k x) { standing = core_standing.TheVariants.Blocked }) no_state h.own.0.has in
           record {
             note = note;
+            served_is = is;
             item = subst (λ (s : Thread). Awaits (slice_get (thread_part system x).script s.place.item) note) (sym state) item;
             listed =
                 let there = ap (λ (n : Note). times_queued x n.waiters) (get_or-set_same k.notes note ready quiet_note within) in
-                omega (arith, there, more, one);
-          },
-        );
-      }
+                omega (arith, there, more);
+          }
+
+      by : (served : Bool) → IsListed system x served blocked → Holds system x from t (told_of (waiting_as served) begun) blocked
+      by true l = record { runs = refl; ready = h.ready; dated = h.dated; waits = waits; own = (under, started, l) }
+      by false l = record { runs = refl; ready = h.ready; dated = h.dated; waits = waits; own = (under, started, l) }
 
   pub blocks-goes : (from t using note : ℕ) (begun : Option ℕ) (k : Core) → Holds system x from t (told_of Running begun) k
       → slice_get (thread_part system x).script (thread_of k x).place.item ≡ Some (Wait note)
       → Goes system x from t (told_of Running begun)
       (turns.waits_as system t x note Blocks k followed_by turns.may_stop by_priority system t x using after.Blocks)
   blocks-goes from t using note begun k h item =
-      let known = wait_known system (core_of system (thread_part system x)) (thread_part system x).script (thread_of k x).place.item note
-      (thread h.own.0.known).items item in
+      let core = core_of system (thread_part system x) in
+      let script = (thread_part system x).script in
+      let known = wait_known system core script (thread_of k x).place.item note (thread h.own.0.known).items item in
+      let is = note_known system core script (thread_of k x).place.item note (thread h.own.0.known).items item in
       record {
         last = told_of Blocked begun;
         walks = (told_of Blocked begun, step-stop x (first system x) t using why.Wait None Blocked begun begun refl refl, refl);
         ended = λ before. (tt, tt);
-        holds = blocks-holds from t using note begun k h known (subst (λ (o : Option Item). Awaits o note) (sym item) refl);
+        holds = blocks-holds false from t using note begun k h is known (subst (λ (o : Option Item). Awaits o note) (sym item) refl);
       }
 
   -- a thread enters a server that is free, or waits for it
@@ -411,13 +457,15 @@ module _ (system : System) (well : IsWellFormed system) (x : ℕ) where
       → Goes system x from t (told_of Running begun)
       (turns.enters_as system t x server Blocks k followed_by turns.may_stop by_priority system t x using after.Calls)
   enters-blocks from t using server priority begun k h item =
-      let known = enter_known system (core_of system (thread_part system x)) (thread_part system x).script (thread_of k x).place.item server priority
-      (thread h.own.0.known).items item in
+      let core = core_of system (thread_part system x) in
+      let script = (thread_part system x).script in
+      let known = enter_known system core script (thread_of k x).place.item server priority (thread h.own.0.known).items item in
+      let is = server_known system core script (thread_of k x).place.item server priority (thread h.own.0.known).items item in
       record {
-        last = told_of Blocked begun;
-        walks = (told_of Blocked begun, step-stop x (first system x) t using why.Call None Blocked begun begun refl refl, refl);
+        last = told_of AtServer begun;
+        walks = (told_of AtServer begun, step-stop x (first system x) t using why.Call None AtServer begun begun refl refl, refl);
         ended = λ before. (tt, tt);
-        holds = blocks-holds from t using server begun k h known (subst (λ (o : Option Item). Awaits o server) (sym item) refl);
+        holds = blocks-holds true from t using server begun k h is known (subst (λ (o : Option Item). Awaits o server) (sym item) refl);
       }
 
   -- after the entering of a server its script continues
@@ -440,8 +488,8 @@ module _ (system : System) (well : IsWellFormed system) (x : ℕ) where
       λ move. Goes system x from t (told_of Running begun)
       (says (row.Got x server word) noted followed_by turns.moves system t x move followed_by turns.may_stop by_priority system t x using after.GoesOn)
       in
-      let same : begun_by_word (first system x).waits (first system x).bits word t begun ≡ begun =
-      ap (begun_by_word (first system x).waits (first system x).bits word t) there ∙ under_way (first system x).waits (first system x).bits word t (thread_of k x).since
+      let same : begun_by_word (first system x).waits (first system x).bits server word t begun ≡ begun =
+      ap (begun_by_word (first system x).waits (first system x).bits server word t) there ∙ under_way (first system x).waits (first system x).bits server word t (thread_of k x).since
       ∙ sym there
       in
       let R : Option ℕ → Type 0 = λ after. Step x (first system x) t (told_of Running begun) (row.Got x server word) (told_of Running after) in
@@ -450,23 +498,60 @@ module _ (system : System) (well : IsWellFormed system) (x : ℕ) where
         last = q.last;
         walks = (
           told_of Running begun,
-          subst R same (step-got x (first system x) t server word begun (λ none. absurd (let g : None ≡ Some (thread_of k x).since = sym none ∙ there in cc))),
+          subst R same
+              (step-got x (first system x) t server word begun (λ none. absurd (let g : None ≡ Some (thread_of k x).since = sym none ∙ there in cc))
+              (inr ((thread_of k x).place.item, priority, item))),
           q.walks,
         );
         holds = q.holds;
         ended = λ before. (tt, q.ended (Some (row.Got x server word)));
       }
 
-  -- a waiting thread is woken
-  pub waits_one : (standing : Standing) → 1 ≤ waits_as standing → standing ≡ Blocked
-  waits_one Blocked l = refl
+  -- a waiting thread waits for a signal or for a server, as what it waits for is
+  waits_one : (standing : Standing) → 1 ≤ waits_as standing → (standing ≡ Blocked) ⊎ (standing ≡ AtServer)
+  waits_one Blocked l = inl refl
+  waits_one AtServer l = inr refl
   waits_one Pending l = absurd (omega (arith, l))
   waits_one Ready l = absurd (omega (arith, l))
   waits_one Running l = absurd (omega (arith, l))
   waits_one Throttled l = absurd (omega (arith, l))
-  waits_one Woken l = absurd (omega (arith, l))
   waits_one Done l = absurd (omega (arith, l))
 
+  waits_there : (from t note : ℕ) (told : Told) (k : Core) → 1 ≤ times_queued x (note_of k note).waiters → Holds system x from t told k
+      → (told.standing ≡ Blocked) ⊎ (told.standing ≡ AtServer)
+  waits_there from t note told k own h =
+      let at = times_waiting-at x note k.notes in
+      let w = h.waits in
+      waits_one told.standing (omega (arith, w, own, at))
+
+  listed_is : (note : ℕ) (served : Bool) (k : Core) → times_waiting x k.notes ≡ 1
+      → 1 ≤ times_queued x (note_of k note).waiters → IsListed system x served k → is_server system note ≡ served
+  listed_is note served k one own l =
+      ap (is_server system) (one_note x k.notes note l.note one own l.listed) ∙ l.served_is
+
+  pub waits_blocked : (from t note : ℕ) (told : Told) (k : Core) → is_server system note ≡ false → 1 ≤ times_queued x (note_of k note).waiters
+      → Holds system x from t told k → told.standing ≡ Blocked
+  waits_blocked from t note told k signalled own h = by (waits_there from t note told k own h)
+    where
+      by : (told.standing ≡ Blocked) ⊎ (told.standing ≡ AtServer) → told.standing ≡ Blocked
+      by (inl e) = e
+      by (inr e) =
+          let P : Standing → Type 0 = λ s. Holds system x from t (told_of s told.begun) k in
+          let there : Holds system x from t (told_of AtServer told.begun) k = subst P e h in
+          absurd (contrary (is_server system note) signalled (listed_is note true k there.waits own there.own.2))
+
+  pub waits_at_server : (from t server : ℕ) (told : Told) (k : Core) → is_server system server ≡ true
+      → 1 ≤ times_queued x (note_of k server).waiters → Holds system x from t told k → told.standing ≡ AtServer
+  waits_at_server from t server told k served own h = by (waits_there from t server told k own h)
+    where
+      by : (told.standing ≡ Blocked) ⊎ (told.standing ≡ AtServer) → told.standing ≡ AtServer
+      by (inr e) = e
+      by (inl e) =
+          let P : Standing → Type 0 = λ s. Holds system x from t (told_of s told.begun) k in
+          let there : Holds system x from t (told_of Blocked told.begun) k = subst P e h in
+          absurd (contrary (is_server system server) (listed_is server false k there.waits own there.own.2) served)
+
+  -- a waiting thread is woken
   -- a thread that waits for a notification is at a wait, and one that waits for a server is about
   -- to enter it
   at-wait : (note : ℕ) (o : Option Item) → is_server system note ≡ false → Awaits o note
@@ -517,7 +602,7 @@ module _ (system : System) (well : IsWellFormed system) (x : ℕ) where
       (λ n priority e. (server_known system (core_of system (thread_part system x)) (thread_part system x).script place n priority (thread u.known).items e))
       in
       let waiting : IsWaiting system x woken = record { note = note; item = item } in
-      let next = begun_by_word (first system x).waits (first system x).bits word t begun in
+      let next = begun_by_word (first system x).waits (first system x).bits note word t begun in
       let yet : begun ≡ None → (first system x).waits ≡ Some note =
       λ none. at_wait (thread_part system x).script (first system x).waits place (thread_of k x).since note refl item (sym u.begins ∙ none)
       in
@@ -532,25 +617,25 @@ module _ (system : System) (well : IsWellFormed system) (x : ℕ) where
         started = given-started t word begun woken under started;
       }
       in
-      let date = turns.date_of system t x moved in
+      let date = turns.woken_until system t x k in
       let P : Moved → Type 0 =
       λ move. Goes system x from t (told_of Blocked begun)
-      (says (row.Wake x note word) noted followed_by λ core.
+      (says (row.Wake x note word (turns.woken_until system t x k)) noted followed_by λ core.
       turns.moves system t x move (turns.given system t x word (turns.with_woken_context system t x core))
       followed_by λ core. silent (turns.enters_back by_priority x (turns.date_of system t x core) core))
       in
       subst P (sym (given-next t word woken under.has waiting))
       record {
-        last = told_of (by_date date) next;
-        walks = (told_of (by_date date) next, step-wake x (first system x) t note word date begun yet, refl);
+        last = told_of (standing_until date) next;
+        walks = (told_of (standing_until date) next, step-wake x (first system x) t note word Blocked date begun (inl refl) yet, refl);
         holds = enters-back system x from t date next moved loose;
         ended = λ before. (tt, tt);
       }
 
   -- a thread that waits for a server is let in
   pub let-goes : (from t server word : ℕ) (begun : Option ℕ) (k : Core) → is_server system server ≡ true
-      → 1 ≤ times_queued x (note_of k server).waiters → Holds system x from t (told_of Blocked begun) k
-      → Goes system x from t (told_of Blocked begun) (turns.frees_as by_priority system t server (Woke x word) k)
+      → 1 ≤ times_queued x (note_of k server).waiters → Holds system x from t (told_of AtServer begun) k
+      → Goes system x from t (told_of AtServer begun) (turns.frees_as by_priority system t server (Woke x word) k)
   let-goes from t server word begun k served waits h =
       let state = after_post (Woke x word) (note_of k server) in
       let noted = with_note server state k in
@@ -584,25 +669,25 @@ module _ (system : System) (well : IsWellFormed system) (x : ℕ) where
         started = started-thread system x t (state_at Next (thread_of woken x).since woken) woken u.has h.own.1.start h.own.1.since;
       }
       in
-      let date = turns.date_of system t x moved in
-      let same : begun_by_word (first system x).waits (first system x).bits word t begun ≡ begun =
-      ap (begun_by_word (first system x).waits (first system x).bits word t) there ∙ under_way (first system x).waits (first system x).bits word t (thread_of k x).since
+      let date = turns.woken_until system t x k in
+      let same : begun_by_word (first system x).waits (first system x).bits server word t begun ≡ begun =
+      ap (begun_by_word (first system x).waits (first system x).bits server word t) there ∙ under_way (first system x).waits (first system x).bits server word t (thread_of k x).since
       ∙ sym there
       in
-      let R : Option ℕ → Type 0 = λ after. Step x (first system x) t (told_of Blocked begun) (row.Wake x server word) (told_of (by_date date) after) in
+      let R : Option ℕ → Type 0 = λ after. Step x (first system x) t (told_of AtServer begun) (row.Wake x server word date) (told_of (standing_until date) after) in
       let P : Moved → Type 0 =
-      λ move. Goes system x from t (told_of Blocked begun)
-      (says (row.Wake x server word) noted followed_by λ core.
+      λ move. Goes system x from t (told_of AtServer begun)
+      (says (row.Wake x server word (turns.woken_until system t x k)) noted followed_by λ core.
       turns.moves system t x move (turns.with_woken_context system t x core)
       followed_by λ core. silent (turns.enters_front by_priority x (turns.date_of system t x core) core))
       in
       subst P (sym goes)
       record {
-        last = told_of (by_date date) begun;
+        last = told_of (standing_until date) begun;
         walks = (
-          told_of (by_date date) begun,
+          told_of (standing_until date) begun,
           subst R same
-              (step-wake x (first system x) t server word date begun (λ none. absurd (let g : None ≡ Some (thread_of k x).since = sym none ∙ there in cc))),
+              (step-wake x (first system x) t server word AtServer date begun (inr refl) (λ none. absurd (let g : None ≡ Some (thread_of k x).since = sym none ∙ there in cc))),
           refl,
         );
         holds = enters-front system x from t date begun moved loose;

@@ -1,6 +1,6 @@
 -- Facts that the rows of a schedule keep: a thread and the word for which its script
 -- waits first.
-use Rattle.std.proofs.Common.{◌≡◌, ℕ, true, ◌==◌, List, [], ◌∷◌, ◌++◌, get_or, Some, None}
+use Rattle.std.proofs.Common.{◌≡◌, ℕ, ◌<◌, true, ◌==◌, List, [], ◌∷◌, ◌++◌, length, get_or, Some, None}
 use Rattle.std.specs.Prelude.{bit_or}
 use Rattle.mcs_ticks.specs.declared.row.Row.{Row}
 use Rattle.mcs_ticks.specs.declared.row.What.{What}
@@ -11,7 +11,7 @@ use Rattle.mcs_verdict.specs.Findings.{past_of}
 use Rattle.mcs_verdict.specs.Rounds.{first_wait, begun_of}
 use Rattle.mcs_verdict.specs.declared.held.Held.{Held}
 use Rattle.mcs_verdict.specs.Words.{no_word, held, firsts_of}
-use Rattle.mcs_verdict_laws.proofs.Steps.{ends_round}
+use Rattle.mcs_verdict_laws.proofs.Steps.{TakesAt, ends_round}
 
 -- the latest row so far ended a round of the thread, at this moment
 abbrev pub JustEnded : ℕ → ℕ → List Row → Type 0
@@ -34,7 +34,7 @@ module _ (system : System) (x : ℕ) where
   Fits past moment (row.Stop y why.Done charged until) = (y == x) ≡ true → JustEnded x moment past
   Fits past moment (row.Hold note word) =
       first_wait (thread_part system x) ≡ Some note → (badge : ℕ) × (word ≡ bit_or (held_in system note past).word badge)
-  Fits past moment (row.Wake y note word) =
+  Fits past moment (row.Wake y note word until) =
       (y == x) ≡ true → begun_of system x past ≡ None → (first_wait (thread_part system x) ≡ Some note) × ((held_in system note past).word ≡ 0)
   Fits past moment (row.Got y note word) =
       (y == x) ≡ true → begun_of system x past ≡ None
@@ -50,3 +50,18 @@ module _ (system : System) (x : ℕ) where
   pub fit-later : (past rows more : List Row) → AreFit past (rows ++ more) → AreFit (past_of past rows) more
   fit-later past [] more all = all
   fit-later past (r ∷ rows) more all = fit-later (r ∷ past) rows more all.1
+
+  -- The thread takes a word at a wait, and if that is its first item no round of it is under way. A
+  -- round that ends is one of a thread that the system has.
+  abbrev pub IsPlaced : List Row → What → Type 0
+  IsPlaced past (row.Got y note word) = (y == x) ≡ true → TakesAt (thread_part system x).script note (begun_of system x past)
+  IsPlaced past (row.Round y number response) = (y == x) ≡ true → x < length system.threads
+  IsPlaced past _ = Unit {0}
+
+  abbrev pub ArePlaced : List Row → List Row → Type 0
+  ArePlaced past [] = Unit {0}
+  ArePlaced past (r ∷ rows) = IsPlaced past r.what × ArePlaced (r ∷ past) rows
+
+  pub placed-later : (past rows more : List Row) → ArePlaced past (rows ++ more) → ArePlaced (past_of past rows) more
+  placed-later past [] more all = all
+  placed-later past (r ∷ rows) more all = placed-later (r ∷ past) rows more all.1

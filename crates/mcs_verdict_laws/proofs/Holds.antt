@@ -14,7 +14,7 @@ use Rattle.mcs_release.specs.declared.dated.Dated.{Dated}
 use Rattle.mcs_script.specs.declared.item.Item.TheVariants.{Wait, Enter}
 use Rattle.mcs_script.specs.declared.item.Item.{Item}
 use Rattle.mcs_script.specs.declared.place.Place.{Place}
-use Rattle.mcs_system.specs.System.{System, thread_part}
+use Rattle.mcs_system.specs.System.{System, thread_part, is_server}
 use Rattle.mcs_core.specs.declared.standing.Chosen.{Chosen}
 use Rattle.mcs_core.specs.declared.standing.Standing as core_standing
 use Rattle.mcs_core.specs.declared.standing.Thread.{Thread}
@@ -25,7 +25,7 @@ use Rattle.mcs_core.specs.Turn.{Turn, silent, says, ◌followed_by◌, each}
 use Rattle.mcs_core.proofs.Counts.{times_queued-back, times_queued-front, times_dated-append, times_waiting-set}
 use Rattle.mcs_laws.specs.Places.{times_running}
 use Rattle.mcs_verdict.specs.declared.standing.Standing.{Standing}
-use Rattle.mcs_verdict.specs.declared.standing.Standing.TheVariants.{Pending, Ready, Running, Throttled, Blocked, Woken, Done}
+use Rattle.mcs_verdict.specs.declared.standing.Standing.TheVariants.{Pending, Ready, Running, Throttled, Blocked, AtServer, Done}
 use Rattle.mcs_verdict.specs.Calls.{first_wait, bits_of}
 use Rattle.mcs_verdict_laws.proofs.Steps.{Told, First, AreOther, other-append, AreEnded, ended-append, ended-other, Walks, walks-append, walks-other}
 
@@ -36,7 +36,7 @@ runs_as Pending = 0
 runs_as Ready = 0
 runs_as Throttled = 0
 runs_as Blocked = 0
-runs_as Woken = 0
+runs_as AtServer = 0
 runs_as Done = 0
 
 abbrev pub ready_as : Standing → ℕ
@@ -45,7 +45,7 @@ ready_as Pending = 0
 ready_as Running = 0
 ready_as Throttled = 0
 ready_as Blocked = 0
-ready_as Woken = 0
+ready_as AtServer = 0
 ready_as Done = 0
 
 abbrev pub dated_as : Standing → ℕ
@@ -54,16 +54,16 @@ dated_as Throttled = 1
 dated_as Ready = 0
 dated_as Running = 0
 dated_as Blocked = 0
-dated_as Woken = 0
+dated_as AtServer = 0
 dated_as Done = 0
 
 abbrev pub waits_as : Standing → ℕ
 waits_as Blocked = 1
+waits_as AtServer = 1
 waits_as Pending = 0
 waits_as Ready = 0
 waits_as Running = 0
 waits_as Throttled = 0
-waits_as Woken = 0
 waits_as Done = 0
 
 -- when the round began that is under way, by the thread's place and what its core keeps of it
@@ -79,7 +79,7 @@ Awaits _ note = ⊥
 
 module _ (system : System) (x : ℕ) where
   abbrev pub first : First
-  first = record { waits = first_wait (thread_part system x); bits = bits_of (thread_part system x) }
+  first = record { waits = first_wait (thread_part system x); bits = bits_of (thread_part system x); start = (thread_part system x).start; script = (thread_part system x).script }
 
   abbrev pub start_at : ℕ
   start_at = (thread_part system x).start
@@ -102,8 +102,9 @@ module _ (system : System) (x : ℕ) where
     pub item : slice_get (thread_part system x).script (thread_of k x).place.item ≡ Some (Wait note)
 
   -- it is among those that wait for the signal, or for the server, for which its item waits
-  pub record IsListed (k : Core) : Type 0 where
+  pub record IsListed (served : Bool) (k : Core) : Type 0 where
     pub note : ℕ
+    pub served_is : is_server system note ≡ served
     pub item : Awaits (slice_get (thread_part system x).script (thread_of k x).place.item) note
     pub listed : 1 ≤ times_queued x (note_of k note).waiters
 
@@ -123,8 +124,8 @@ module _ (system : System) (x : ℕ) where
   Own from now Ready begun k = IsUnderWay begun k × IsStarted now k
   Own from now Running begun k = IsUnderWay begun k × IsStarted now k
   Own from now Throttled begun k = IsUnderWay begun k × IsStarted now k
-  Own from now Blocked begun k = IsUnderWay begun k × IsStarted now k × IsListed k
-  Own from now Woken begun k = ⊥
+  Own from now Blocked begun k = IsUnderWay begun k × IsStarted now k × IsListed false k
+  Own from now AtServer begun k = IsUnderWay begun k × IsStarted now k × IsListed true k
   Own from now Done begun k = Unit {0}
 
   -- the thread stands so on its core
@@ -189,10 +190,11 @@ module _ (system : System) (x : ℕ) where
   started-same : (now : ℕ) (k after : Core) → Same k after → IsStarted now k → IsStarted now after
   started-same now k after s u = record { start = u.start; since = let e = s.since in let h = u.since in omega arith }
 
-  listed-same : (k after : Core) → Same k after → IsListed k → IsListed after
-  listed-same k after s w =
+  listed-same : (served : Bool) (k after : Core) → Same k after → IsListed served k → IsListed served after
+  listed-same served k after s w =
       record {
         note = w.note;
+        served_is = w.served_is;
         item = subst (λ (p : Place). Awaits (slice_get (thread_part system x).script p.item) w.note) (sym s.place) w.item;
         listed = let e = s.listed w.note in let l = w.listed in omega (arith, e, l);
       }
@@ -206,8 +208,8 @@ module _ (system : System) (x : ℕ) where
   own-same from now Ready begun k after s o = (under-same begun k after s o.0, started-same now k after s o.1)
   own-same from now Running begun k after s o = (under-same begun k after s o.0, started-same now k after s o.1)
   own-same from now Throttled begun k after s o = (under-same begun k after s o.0, started-same now k after s o.1)
-  own-same from now Blocked begun k after s o = (under-same begun k after s o.0, started-same now k after s o.1, listed-same k after s o.2)
-  own-same from now Woken begun k after s o = o
+  own-same from now Blocked begun k after s o = (under-same begun k after s o.0, started-same now k after s o.1, listed-same false k after s o.2)
+  own-same from now AtServer begun k after s o = (under-same begun k after s o.0, started-same now k after s o.1, listed-same true k after s o.2)
   own-same from now Done begun k after s o = tt
 
   pub holds-same : (from now : ℕ) (told : Told) (k after : Core) → Same k after → Holds from now told k → Holds from now told after

@@ -60,7 +60,7 @@ module _ (system : System) (well : IsWellFormed system) (x : ℕ) where
   no-round (row.Stop y cause charged until) other e = absurd (contrary false refl e)
   no-round (row.Signal y note badge) other e = absurd (contrary false refl e)
   no-round (row.Arrive note badge maker) other e = absurd (contrary false refl e)
-  no-round (row.Wake y note word) other e = absurd (contrary false refl e)
+  no-round (row.Wake y note word until) other e = absurd (contrary false refl e)
   no-round (row.Hold note word) other e = absurd (contrary false refl e)
   no-round (row.Got y note word) other e = absurd (contrary false refl e)
   no-round (row.Order context) other e = absurd (contrary false refl e)

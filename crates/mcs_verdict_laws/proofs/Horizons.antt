@@ -1,42 +1,38 @@
--- A system without findings at two horizons has no findings between them.
-use Rattle.std.proofs.Common.{◌≡◌, ℕ, suc, ◌-◌, ◌≤◌, Bool, true, false, cond, not, ◌&&◌, ◌||◌, ◌==◌, nat_le, List, [], ◌∷◌, ◌++◌, Option, Some, None, refl, sym, ap, subst, ◌∙◌, arith}
-use Rattle.std.specs.Prelude.{nat_lt}
+-- Findings at two horizons: what is overdue or untaken ends with a miss, and what was activated stays
+-- so.
+use Rattle.std.proofs.Common.{◌≡◌, ℕ, suc, ◌-◌, ◌≤◌, ◌⊎◌, inl, inr, Bool, true, false, cond, not, ◌||◌, ◌==◌, nat_le, List, [], ◌∷◌, ◌++◌, slice_get, Option, Some, None, refl, sym, ap, subst, ◌∙◌, arith}
+use Rattle.std.specs.Prelude.{nat_lt, option_to_list}
 use Rattle.std.specs.List.{AllByRecursion, list_any}
 use Rattle.std.proofs.lemmas.Bool.Decides.{nat_tests}
 use Rattle.std.proofs.lemmas.List.Folds.{list_any-append}
 use Rattle.std.proofs.lemmas.List.{append_assoc}
 use Rattle.mcs_ticks.specs.declared.row.Row.{Row}
-use Rattle.mcs_system.specs.System.{System, thread_part}
+use Rattle.mcs_script.specs.declared.item.Item.TheVariants.{Wait, Enter}
+use Rattle.mcs_system.specs.System.{System, thread_part, is_server}
 use Rattle.mcs_system.specs.WellFormed.{IsWellFormed}
 use Rattle.mcs_core.specs.Clock.{schedule}
-use Rattle.mcs_verdict.specs.declared.account.Account.{Account}
-use Rattle.mcs_verdict.specs.declared.finding.Finding.TheVariants.{Overdue}
+use Rattle.mcs_verdict.specs.declared.finding.Finding.{Finding}
+use Rattle.mcs_verdict.specs.declared.finding.Finding.TheVariants.{Miss, Overdue, Untaken, Lost, Never}
 use Rattle.mcs_verdict.specs.declared.finding.Found.{Found}
 use Rattle.mcs_verdict.specs.declared.standing.Stood.{Stood}
-use Rattle.mcs_verdict.specs.Calls.{bits_of}
-use Rattle.mcs_verdict.specs.Rounds.{first_wait, called_of}
-use Rattle.mcs_verdict.specs.Misses.{is_reached, overdue_at, first_word, overdue, was_activated, never}
-use Rattle.mcs_verdict.specs.Findings.{finding, InOrder, UpTo, past_of, found_at, found_in}
-use Rattle.mcs_verdict.specs.Account.{total_at}
-use Rattle.mcs_verdict.proofs.Kept.{account_at, overdue-kept, never-kept}
-use Rattle.mcs_verdict_laws.specs.laws.Horizons.{is_taken_by_another, TakesItAlone, is_miss_of, has_miss_of, OverdueStays, ActivationStays}
+use Rattle.mcs_verdict.specs.Jobs.{job_of, jobs_in}
+use Rattle.mcs_verdict.specs.Misses.{is_reached, overdue_at, overdue_since, overdue, never}
+use Rattle.mcs_verdict.specs.Parts.{queued_in}
+use Rattle.mcs_verdict.specs.Rounds.{activated_of}
+use Rattle.mcs_verdict.specs.Findings.{finding, past_of, found_at, found_in}
+use Rattle.mcs_verdict_laws.specs.laws.Fate.{rows_to, IsUnderWay, is_end, HasEnded, overdue_from, IsOverdue, IsUntaken, is_miss_from, is_miss_after, HasMissed, WasTaken, RoundsStayUntilTheyEnd, OverdueEndsWithAMiss, UntakenEndsWithAMiss}
+use Rattle.mcs_verdict_laws.specs.laws.Horizons.{is_miss_of, has_miss_of, OverdueStays, ActivationStays}
 use Rattle.mcs_verdict_laws.proofs.Steps.{contrary}
-use Rattle.mcs_verdict_laws.proofs.Order.{in_order}
 use Rattle.mcs_verdict_laws.proofs.Standings.{past-append}
 use Rattle.mcs_verdict_laws.proofs.Reached.{later}
-use Rattle.mcs_verdict_laws.proofs.Fits.{AreFit, fit-later}
-use Rattle.mcs_verdict_laws.proofs.Fitting.{fitting}
-use Rattle.mcs_verdict_laws.proofs.Due.{due_at, due-later}
-use Rattle.mcs_verdict_laws.proofs.Overdue.{stays, open-up_to, overdue-due}
-use Rattle.mcs_verdict_laws.proofs.Once.{once-stays, once-later, never-none}
-
-order-later : (past rows more : List Row) → InOrder past (rows ++ more) → InOrder (past_of past rows) more
-order-later past [] more order = order
-order-later past (r ∷ rows) more order = order-later (r ∷ past) rows more order.1
-
-all-later : (P : Row → Type 0) (rows more : List Row) → AllByRecursion P (rows ++ more) → AllByRecursion P more
-all-later P [] more all = all
-all-later P (r ∷ rows) more all = all-later P rows more all.1
+use Rattle.mcs_verdict_laws.proofs.Finishing.{item_home}
+use Rattle.mcs_verdict_laws.proofs.Fits.{AreFit, fit-later, ArePlaced, placed-later}
+use Rattle.mcs_verdict_laws.proofs.WordsTold.{AreRight, right-later, right-clock, waits-item}
+use Rattle.mcs_verdict_laws.proofs.Fitting.{fitting, placing}
+use Rattle.mcs_verdict_laws.proofs.Due.{none-some, both, both-are, second-of, MayTake, one-taker}
+use Rattle.mcs_verdict_laws.proofs.Overdue.{active-longer, IsOpen, EndsIn, open-rows, jobs-end, misses-end}
+use Rattle.mcs_verdict_laws.proofs.Fate.{IsSet, IsUntakenBy, IsTaken, late-one, set-rows, untaken-is, is-untaken}
+use Rattle.mcs_verdict_laws.proofs.Once.{never-later}
 
 -- what the later rows tell
 pub found-append : (system : System) (past rows more : List Row)
@@ -48,129 +44,227 @@ found-append system past (r ∷ rows) more =
     (append_assoc (found_at r.moment r.core (finding system past r.moment r.what)) (found_in system (r ∷ past) rows)
     (found_in system (past_of (r ∷ past) rows) more))
 
--- the rows after a horizon, up to a later one
-record After (system : System) (x h k : ℕ) : Type 0 where
-  rows : List Row
-  more : schedule system k ≡ schedule system h ++ rows
-  moments : AllByRecursion (λ (r : Row). suc h ≤ r.moment) rows
-  order : InOrder (past_of [] (schedule system h)) rows
-  fits : AreFit system x (past_of [] (schedule system h)) rows
+-- and the rounds that they end
+pub jobs-append : (system : System) (past rows more : List Row)
+    → jobs_in system past (rows ++ more) ≡ jobs_in system past rows ++ jobs_in system (past_of past rows) more
+jobs-append system past [] more = refl
+jobs-append system past (r ∷ rows) more =
+    ap (λ jobs. option_to_list (job_of system past r.moment r.what) ++ jobs) (jobs-append system (r ∷ past) rows more)
+    ∙ sym
+    (append_assoc (option_to_list (job_of system past r.moment r.what)) (jobs_in system (r ∷ past) rows)
+    (jobs_in system (past_of (r ∷ past) rows) more))
 
-after : (system : System) → IsWellFormed system → (x h k : ℕ) → h ≤ k → After system x h k
-after system well x h k l =
-    let rest = later system well x (k - h) (suc h) (suc k) (omega (arith, l)) in
-    let P : List Row → Type 0 = λ rows. InOrder [] rows in
-    let Q : List Row → Type 0 = λ rows. AreFit system x [] rows in
+-- one of the later elements
+later-one : {A : Type 0} (p : A → Bool) (items more all : List A) → all ≡ items ++ more → list_any p more ≡ true → list_any p all ≡ true
+later-one p items more all e some =
+    ap (list_any p) e ∙ list_any-append p items more ∙ second-of (list_any p items) (list_any p more) some
+
+any-more : {A : Type 0} (p q : A → Bool) (items : List A) → ((item : A) → p item ≡ true → q item ≡ true) → list_any p items ≡ true
+    → list_any q items ≡ true
+any-more p q [] more e = e
+any-more p q (item ∷ items) more e = by (p item) refl (λ e. any-more p q items more e) e
+  where
+    by : (b : Bool) → p item ≡ b → (list_any p items ≡ true → list_any q items ≡ true) → (b || list_any p items) ≡ true
+        → (q item || list_any q items) ≡ true
+    by true f rest e = ap (λ b. b || list_any q items) (more item f)
+    by false f rest e = second-of (q item) (list_any q items) (rest e)
+
+-- the rows after a horizon, up to a later one
+pub record After (system : System) (h k : ℕ) : Type 0 where
+  pub rows : List Row
+  pub more : schedule system k ≡ schedule system h ++ rows
+  pub moments : AllByRecursion (λ (r : Row). suc h ≤ r.moment) rows
+  pub fits : (x : ℕ) → AreFit system x (rows_to system h) rows
+  pub placed : (x : ℕ) → ArePlaced system x (rows_to system h) rows
+  pub past : past_of (rows_to system h) rows ≡ rows_to system k
+
+pub after : (system : System) → IsWellFormed system → (h k : ℕ) → h ≤ k → After system h k
+after system well h k l =
+    let rest = later system well 0 (k - h) (suc h) (suc k) (omega (arith, l)) in
     record {
       rows = rest.rows;
       more = rest.more;
       moments = rest.moments;
-      order = order-later [] (schedule system h) rest.rows (subst P rest.more (in_order system well k).0);
-      fits = fit-later system x [] (schedule system h) rest.rows (subst Q rest.more (fitting system well x k));
+      fits = λ x.
+          let P : List Row → Type 0 = λ rows. AreFit system x [] rows in
+          fit-later system x [] (schedule system h) rest.rows (subst P rest.more (fitting system well x k));
+      placed = λ x.
+          let P : List Row → Type 0 = λ rows. ArePlaced system x [] rows in
+          placed-later system x [] (schedule system h) rest.rows (subst P rest.more (placing system well x k));
+      past = sym (ap (past_of []) rest.more ∙ past-append [] (schedule system h) rest.rows);
     }
 
-module _ (system : System) (well : IsWellFormed system) (x h k : ℕ) (l : h ≤ k) where
-  abbrev past : ℕ → List Row
-  past n = past_of [] (schedule system n)
+-- what an overdue line says
+overdue-at : (h x number deadline free a s : ℕ) (stood : Stood) → overdue_from (overdue_at h x number deadline free a stood) ≡ Some s
+    → (a ≡ s) × (is_reached deadline (h - s) ≡ true)
+overdue-at h x number deadline free a s stood e = by (is_reached deadline (h - a)) refl e
+  where
+    by : (b : Bool) → is_reached deadline (h - a) ≡ b
+        → overdue_from (cond b (Some (Overdue x number (h - a) deadline a (queued_in free a) stood)) None) ≡ Some s
+        → (a ≡ s) × (is_reached deadline (h - s) ≡ true)
+    by true f e =
+        let same : a ≡ s = let g : Some a ≡ Some s = e in cc in
+        (same, ap (λ n. is_reached deadline (h - n)) (sym same) ∙ f)
+    by false f e = absurd (none-some s e)
 
-  abbrev deadline : ℕ
-  deadline = (thread_part system x).deadline
+pub overdue-is : (system : System) (past : List Row) (h x s : ℕ) → overdue_from (overdue system past h x) ≡ Some s
+    → (activated_of system x past h ≡ Some s) × (is_reached (thread_part system x).deadline (h - s) ≡ true)
+overdue-is system past h x s e = by (activated_of system x past h) e
+  where
+    by : (o : Option ℕ) → overdue_from (overdue_since system past h x o) ≡ Some s
+        → (o ≡ Some s) × (is_reached (thread_part system x).deadline (h - s) ≡ true)
+    by None e = absurd (none-some s e)
+    by (Some a) e =
+        let is = overdue-at h x _ (thread_part system x).deadline _ a s _ e in
+        (ap Some is.0, is.1)
 
-  abbrev kept : List Row → Account
-  kept past = account_at system x past
+pub is-overdue : (system : System) (past : List Row) (h x s : ℕ) → activated_of system x past h ≡ Some s
+    → is_reached (thread_part system x).deadline (h - s) ≡ true → overdue_from (overdue system past h x) ≡ Some s
+is-overdue system past h x s e late =
+    ap (λ o. overdue_from (overdue_since system past h x o)) e ∙ by _ _ _
+  where
+    by : (number free : ℕ) (stood : Stood) → overdue_from (overdue_at h x number (thread_part system x).deadline free s stood) ≡ Some s
+    by number free stood =
+        ap (λ b. overdue_from (cond b (Some (Overdue x number (h - s) (thread_part system x).deadline s (queued_in free s) stood)) None)) late
 
-  past-later : (a : After system x h k) → past_of (past h) a.rows ≡ past k
-  past-later a = sym (ap (past_of []) a.more ∙ past-append [] (schedule system h) a.rows)
+reached-longer : (d h k s : ℕ) → h ≤ k → is_reached d (h - s) ≡ true → is_reached d (k - s) ≡ true
+reached-longer d h k s l e =
+    let halves = both (not (d == 0)) (nat_le d (h - s)) e in
+    both-are (not (d == 0)) (nat_le d (k - s)) halves.0 (more (h - s) (k - s) (omega (arith, l)) halves.1)
+  where
+    more : (p q : ℕ) → p ≤ q → nat_le d p ≡ true → nat_le d q ≡ true
+    more p q l e = grind (arith, nat_tests)
 
-  alone-later : (a : After system x h k) → TakesItAlone system x h (schedule system k) → TakesItAlone system x h a.rows
-  alone-later a alone =
-      let P : List Row → Type 0 = λ rows. TakesItAlone system x h rows in
-      all-later (λ (r : Row). (nat_lt h r.moment && is_taken_by_another x (first_wait (thread_part system x)) r.what) ≡ false)
-      (schedule system h) a.rows (subst P a.more alone)
+-- a miss from an activation is one of the thread
+miss-of : (x s : ℕ) (f : Finding) → is_miss_from x s f ≡ true → is_miss_of x f ≡ true
+miss-of x s (Miss y number response deadline activated queued stood) e = (both (y == x) (activated == s) e).0
+miss-of x s (Overdue y number age deadline activated queued stood) e = absurd (contrary false refl e)
+miss-of x s (Untaken note word age deadline set) e = absurd (contrary false refl e)
+miss-of x s (Lost note word) e = absurd (contrary false refl e)
+miss-of x s (Never y deadline) e = absurd (contrary false refl e)
 
-  misses-later : (a : After system x h k) → has_miss_of x (found_in system [] (schedule system k)) ≡ false
-      → has_miss_of x (found_in system (past h) a.rows) ≡ false
-  misses-later a none =
-      let p : Found → Bool = λ (f : Found). is_miss_of x f.finding in
-      second (list_any p (found_in system [] (schedule system h))) (list_any p (found_in system (past h) a.rows))
-      (sym (list_any-append p (found_in system [] (schedule system h)) (found_in system (past h) a.rows))
-      ∙ sym (ap (list_any p) (ap (found_in system []) a.more ∙ found-append system [] (schedule system h) a.rows)) ∙ none)
+pub missed-one : (h x s : ℕ) (found : List Found) → list_any (is_miss_after h x s) found ≡ true → has_miss_of x found ≡ true
+missed-one h x s found e =
+    any-more (is_miss_after h x s) (λ (f : Found). is_miss_of x f.finding) found
+    (λ f miss. miss-of x s f.finding (both (nat_lt h f.moment) (is_miss_from x s f.finding) miss).1) e
+
+module _ (system : System) (well : IsWellFormed system) (h k : ℕ) (l : h ≤ k) where
+  -- a round that goes on, at the later horizon
+  still-open : (x a : ℕ) (rest : After system h k) → IsOpen system x h a (past_of (rows_to system h) rest.rows) → IsUnderWay system k x a
+  still-open x a rest e =
+      let P : List Row → Type 0 = λ past. activated_of system x past h ≡ Some a in
+      active-longer system x h k a (rows_to system k) l (subst P rest.past e)
+
+  has-ended : (x a : ℕ) (rest : After system h k) → EndsIn system x h a (rows_to system h) rest.rows → HasEnded system h k x a
+  has-ended x a rest ends =
+      later-one (is_end h x a) (jobs_in system [] (schedule system h)) (jobs_in system (rows_to system h) rest.rows)
+      (jobs_in system [] (schedule system k))
+      (ap (jobs_in system []) rest.more ∙ jobs-append system [] (schedule system h) rest.rows)
+      (jobs-end system x h a (rows_to system h) rest.rows ends)
+
+  has-missed : (x a : ℕ) (rest : After system h k) → is_reached (thread_part system x).deadline (h - a) ≡ true
+      → EndsIn system x h a (rows_to system h) rest.rows → HasMissed system h k x a
+  has-missed x a rest late ends =
+      later-one (is_miss_after h x a) (found_in system [] (schedule system h)) (found_in system (rows_to system h) rest.rows)
+      (found_in system [] (schedule system k))
+      (ap (found_in system []) rest.more ∙ found-append system [] (schedule system h) rest.rows)
+      (misses-end system x h a late (rows_to system h) rest.rows ends)
+
+  -- an overdue round
+  still-late : (x a : ℕ) (rest : After system h k) → is_reached (thread_part system x).deadline (h - a) ≡ true
+      → IsOpen system x h a (past_of (rows_to system h) rest.rows) ⊎ EndsIn system x h a (rows_to system h) rest.rows
+      → IsOverdue system k x a ⊎ HasMissed system h k x a
+  still-late x a rest late (inl e) =
+      inl (is-overdue system (rows_to system k) k x a (still-open x a rest e) (reached-longer (thread_part system x).deadline h k a l late))
+  still-late x a rest late (inr ends) = inr (has-missed x a rest late ends)
+
+  goes-on : (x a : ℕ) (rest : After system h k) → IsUnderWay system h x a
+      → IsOpen system x h a (past_of (rows_to system h) rest.rows) ⊎ EndsIn system x h a (rows_to system h) rest.rows
+  goes-on x a rest e = open-rows system x h a (rows_to system h) rest.rows rest.moments (rest.fits x) (rest.placed x) e
+
+  -- an untaken word
+  untaken-then : (note s : ℕ) (rest : After system h k) → IsUntaken system h note s → IsUntaken system k note s ⊎ WasTaken system h k note s
+  untaken-then note s rest e =
+      by (set-rows system note is.due h s is.known is.own is.late free (rows_to system h) rest.rows rest.moments rest.fits rest.placed right is.is)
     where
-      second : (b c : Bool) → (b || c) ≡ false → c ≡ false
-      second true c e = absurd (contrary true e refl)
-      second false c e = e
+      is : IsUntakenBy system note h s (rows_to system h)
+      is = untaken-is system note h s (rows_to system h) e
 
-  up : (n : ℕ) → UpTo n (past n)
-  up n = (in_order system well n).1
+      one : (x : ℕ) × MayTake note is.due (thread_part system x)
+      one = one-taker system note is.due is.own
 
-  -- a round that was overdue is so at the later horizon
-  still-overdue : (a : ℕ) → is_reached deadline (h - a) ≡ true → due_at h (first_word system x (past h)) (kept (past h)) ≡ Some a
-      → TakesItAlone system x h (schedule system k) → has_miss_of x (found_in system [] (schedule system k)) ≡ false
-      → due_at h (first_word system x (past k)) (kept (past k)) ≡ Some a
-  still-overdue a late due alone none =
-      let rest = after system well x h k l in
-      let P : List Row → Type 0 = λ rows. due_at h (first_word system x rows) (kept rows) ≡ Some a in
-      subst P (past-later rest)
-      (stays system x h a late (past h) rest.rows rest.moments rest.order rest.fits (alone-later rest alone) (misses-later rest none)
-      (open-up_to system x h a late (past h) (up h)) due)
+      free : (y priority place : ℕ) → slice_get (thread_part system y).script place ≡ Some (Enter note priority) → ⊥
+      free y priority place enter =
+          let server = (item_home system well y place (Enter note priority) enter).2 in
+          let item = waits-item (slice_get (thread_part system one.0).script 0) note one.1.waits in
+          let none = (item_home system well one.0 0 (Wait note) item).2 in
+          contrary (is_server system note) none server
 
-  overdue-none : (begun : ℕ) (stood : Stood) (due : Option ℕ)
-      → ((a : ℕ) → due ≡ Some a → is_reached deadline (h - a) ≡ true → ⊥) → overdue_at h x deadline begun stood due ≡ None
-  overdue-none begun stood None never = refl
-  overdue-none begun stood (Some a) never = by (is_reached deadline (h - a)) refl
-    where
-      by : (b : Bool) → is_reached deadline (h - a) ≡ b
-          → cond b (Some (Overdue x deadline a (begun - a) stood)) None ≡ None
-      by true e = absurd (never a refl e)
-      by false e = refl
+      right : AreRight system note (rows_to system h) rest.rows
+      right =
+          let P : List Row → Type 0 = λ rows. AreRight system note [] rows in
+          right-later system note [] (schedule system h) rest.rows (subst P rest.more (right-clock system well one.0 (suc k) note one.1.waits))
 
-  overdue-some : (a begun : ℕ) (stood : Stood) (due : Option ℕ) → due ≡ Some a → is_reached deadline (h - a) ≡ true
-      → overdue_at k x deadline begun stood due ≡ None → ⊥
-  overdue-some a begun stood due e late none =
-      let found : overdue_at k x deadline begun stood due ≡ Some (Overdue x deadline a (begun - a) stood) =
-      ap (overdue_at k x deadline begun stood) e ∙ ap (λ b. cond b (Some (Overdue x deadline a (begun - a) stood)) None) (longer (deadline == 0) late)
-      in
-      let g : None ≡ Some (Overdue x deadline a (begun - a) stood) = sym none ∙ found in
-      absurd (cc)
-    where
-      more : (d p q : ℕ) → p ≤ q → nat_le d p ≡ true → nat_le d q ≡ true
-      more d p q i e = grind (arith, nat_tests)
+      by : IsSet system note is.due h s is.known is.own is.late (past_of (rows_to system h) rest.rows)
+          ⊎ IsTaken system note is.due h s is.known is.own is.late (rows_to system h) rest.rows
+          → IsUntaken system k note s ⊎ WasTaken system h k note s
+      by (inl set) =
+          let P : List Row → Type 0 = IsSet system note is.due h s is.known is.own is.late in
+          inl (is-untaken system note is.due h s k is.known is.own is.late (rows_to system k) l (subst P rest.past set))
+      by (inr taken) =
+          inr record {
+            thread = taken.thread;
+            waits = taken.may.waits;
+            late = still-late taken.thread s rest
+                (late-one system note is.due h s is.known is.own is.late (thread_part system taken.thread) taken.may) taken.goes;
+          }
 
-      longer : (b : Bool) → (not b && nat_le deadline (h - a)) ≡ true → (not b && nat_le deadline (k - a)) ≡ true
-      longer true e = e
-      longer false e = more deadline (h - a) (k - a) (omega (arith, l)) e
+pub rounds-stay : RoundsStayUntilTheyEnd
+rounds-stay system well x h k a l e = by (goes-on system well h k l x a (after system well h k l) e)
+  where
+    by : IsOpen system x h a (past_of (rows_to system h) (after system well h k l).rows)
+        ⊎ EndsIn system x h a (rows_to system h) (after system well h k l).rows
+        → IsUnderWay system k x a ⊎ HasEnded system h k x a
+    by (inl e) = inl (still-open system well h k l x a (after system well h k l) e)
+    by (inr ends) = inr (has-ended system well h k l x a (after system well h k l) ends)
 
-  overdue-before : TakesItAlone system x h (schedule system k) → has_miss_of x (found_in system [] (schedule system k)) ≡ false
-      → overdue system (past k) k x ≡ None → overdue system (past h) h x ≡ None
-  overdue-before alone none late =
-      let at = overdue-due h x (first_word system x (past h)) (kept (past h)) in
-      let end = overdue-due k x (first_word system x (past k)) (kept (past k)) in
-      sym (overdue-kept system x (past h) h (up h)) ∙ at.2
-      ∙ overdue-none at.0 at.1 (due_at h (first_word system x (past h)) (kept (past h)))
-      (λ a due reached.
-      overdue-some a end.0 end.1 (due_at k (first_word system x (past k)) (kept (past k)))
-      (due-later h k (kept (past k)) (first_word system x (past k)) a l (still-overdue a reached due alone none)) reached
-      (sym end.2 ∙ overdue-kept system x (past k) k (up k) ∙ late))
+pub overdue-ends : OverdueEndsWithAMiss
+overdue-ends system well x h k a l e =
+    let is = overdue-is system (rows_to system h) h x a e in
+    let rest = after system well h k l in
+    still-late system well h k l x a rest is.1 (goes-on system well h k l x a rest is.0)
 
-  never-after : TakesItAlone system x h (schedule system k) → never system (past h) h x ≡ None → never system (past k) k x ≡ None
-  never-after alone none =
-      let rest = after system well x h k l in
-      let waits = first_wait (thread_part system x) in
-      let once : ℕ → ℕ → Bool =
-      λ n m. was_activated waits (bits_of (thread_part system x)) (called_of system x (past n)) (first_word system x (past n)) (total_at m (kept (past n)).standing (kept (past n)))
-      in
-      let P : List Row → Type 0 =
-      λ rows. was_activated waits (bits_of (thread_part system x)) (called_of system x rows) (first_word system x rows) (total_at h (kept rows).standing (kept rows)) ≡ true
-      in
-      sym (never-kept system x k (past k) (up k))
-      ∙ never-none x deadline (once h h) (once k k)
-      (λ was. once-later h k waits (bits_of (thread_part system x)) (called_of system x (past k)) (first_word system x (past k)) (kept (past k)) l
-      (subst P (past-later rest)
-      (once-stays system x h (past h) rest.rows rest.moments rest.order rest.fits (alone-later rest alone) was)))
-      (never-kept system x h (past h) (up h) ∙ none)
+pub untaken-ends : UntakenEndsWithAMiss
+untaken-ends system well note h k s l e = untaken-then system well h k l note s (after system well h k l) e
 
 pub overdue-stays : OverdueStays
-overdue-stays system well thread earlier later l alone none late = overdue-before system well thread earlier later l alone none late
+overdue-stays system well x h k l none late = by (activated_of system x (rows_to system h) h) refl
+  where
+    deadline : ℕ
+    deadline = (thread_part system x).deadline
+
+    none-late : (a : ℕ) → activated_of system x (rows_to system h) h ≡ Some a → is_reached deadline (h - a) ≡ true → ⊥
+    none-late a e f = or (overdue-ends system well x h k a l (is-overdue system (rows_to system h) h x a e f))
+      where
+        or : IsOverdue system k x a ⊎ HasMissed system h k x a → ⊥
+        or (inl again) = none-some a (ap overdue_from (sym late) ∙ again)
+        or (inr missed) = contrary (has_miss_of x (found_in system [] (schedule system k))) none (missed-one h x a (found_in system [] (schedule system k)) missed)
+
+    nothing : (a number free : ℕ) (stood : Stood) → activated_of system x (rows_to system h) h ≡ Some a
+        → overdue_at h x number deadline free a stood ≡ None
+    nothing a number free stood e = at (is_reached deadline (h - a)) refl
+      where
+        at : (b : Bool) → is_reached deadline (h - a) ≡ b
+            → cond b (Some (Overdue x number (h - a) deadline a (queued_in free a) stood)) None ≡ None
+        at true f = absurd (none-late a e f)
+        at false f = refl
+
+    by : (o : Option ℕ) → activated_of system x (rows_to system h) h ≡ o → overdue_since system (rows_to system h) h x o ≡ None
+    by None e = refl
+    by (Some a) e = nothing a _ _ _ e
 
 pub activation-stays : ActivationStays
-activation-stays system well thread earlier later l alone none = never-after system well thread earlier later l alone none
+activation-stays system well x h k l none =
+    let rest = after system well h k l in
+    let P : List Row → Type 0 = λ past. never system past k x ≡ None in
+    subst P rest.past (never-later system x h k (rows_to system h) rest.rows l rest.moments none)

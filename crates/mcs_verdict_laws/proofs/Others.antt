@@ -63,7 +63,7 @@ module _ (system : System) (x : ℕ) where
       let left = times_queued-without x y (note_of k note).waiters waits in
       let none : ◌≡◌ {A = ℕ} (cond (y == x) 1 0) 0 = ap (λ b. cond b 1 0) e in
       let noted = with_note note (after_post (Woke y word) (note_of k note)) k in
-      aside-then system x k (says (row.Wake y note word) noted) (turns.wakes by_priority system t y word)
+      aside-then system x k (says (row.Wake y note word (turns.woken_until system t y k)) noted) (turns.wakes by_priority system t y word)
       record {
         same = same-note system x note (after_post (Woke y word) (note_of k note)) k (omega (arith, left, none));
         rows = (e, tt);
@@ -119,7 +119,7 @@ module _ (system : System) (x : ℕ) where
       let left = times_queued-without x y (note_of k server).waiters waits in
       let none : ◌≡◌ {A = ℕ} (cond (y == x) 1 0) 0 = ap (λ b. cond b 1 0) e in
       let noted = with_note server (after_post (Woke y word) (note_of k server)) k in
-      aside-then system x k (says (row.Wake y server word) noted) (turns.let_in by_priority system t y)
+      aside-then system x k (says (row.Wake y server word (turns.woken_until system t y k)) noted) (turns.let_in by_priority system t y)
       record {
         same = same-note system x server (after_post (Woke y word) (note_of k server)) k (omega (arith, left, none));
         rows = (e, tt);

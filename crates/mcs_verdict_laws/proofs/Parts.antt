@@ -28,17 +28,17 @@ use Rattle.mcs_core.specs.Core.{Core, thread_of, note_of, stands}
 use Rattle.mcs_core.specs.Places.{times_queued}
 use Rattle.mcs_core.specs.Turn as turns
 use Rattle.mcs_core.specs.Turn.{Turn, silent, says, ◌followed_by◌, each, is_for_now}
-use Rattle.mcs_core.proofs.Counts.{times_queued-rest, times_waiting-at}
+use Rattle.mcs_core.proofs.Counts.{times_queued-rest}
 use Rattle.mcs_laws.specs.Places.{times_running}
 use Rattle.mcs_laws.proofs.Places.{woke, moves-running, signals-running, frees-running}
 use Rattle.mcs_verdict.specs.declared.standing.Standing.{Standing}
-use Rattle.mcs_verdict.specs.declared.standing.Standing.TheVariants.{Pending, Ready, Running, Throttled, Blocked, Woken, Done}
+use Rattle.mcs_verdict.specs.declared.standing.Standing.TheVariants.{Pending, Ready, Running, Throttled, Blocked, AtServer, Done}
 use Rattle.mcs_verdict.specs.Calls.{waited_on}
 use Rattle.mcs_verdict_laws.proofs.Steps.{Told, told_of, ended-append, ended-other, walks-append, walks-other}
 use Rattle.mcs_verdict_laws.proofs.Holds.{runs_as, ready_as, first, IsUnderWay, IsStarted, Holds, Same, same-refl, same-trans, same-context, same-thread, same-running, same-ready, same-front, holds-same, Aside, aside-silent, aside_if, Goes, goes-aside, goes-then, goes-assoc, goes_if}
 use Rattle.mcs_verdict_laws.proofs.Entering.{self, equal, plain_order, plain_preempt, step-run, under-thread, started-thread, under-stands, started-stands, stops_to_front-goes, calm-goes}
 use Rattle.mcs_verdict_laws.proofs.Others.{moves_on-aside, woke-aside, held-aside, let-aside, free-aside, frees-aside, signals-aside, enters_as-aside, waits_as-aside, leaves-aside, charged-aside, may_stop-aside}
-use Rattle.mcs_verdict_laws.proofs.Finishing.{item_home, unless_first, finish-goes, got-goes, blocks-goes, enters-blocks, enters-goes, waits_one, woken-goes, let-goes}
+use Rattle.mcs_verdict_laws.proofs.Finishing.{item_home, unless_first, finish-goes, got-goes, blocks-goes, enters-blocks, enters-goes, waits_blocked, waits_at_server, woken-goes, let-goes}
 
 -- how a thread stands that has a place
 runs_one : (standing : Standing) → 1 ≤ runs_as standing → standing ≡ Running
@@ -47,7 +47,7 @@ runs_one Pending l = absurd (omega (arith, l))
 runs_one Ready l = absurd (omega (arith, l))
 runs_one Blocked l = absurd (omega (arith, l))
 runs_one Throttled l = absurd (omega (arith, l))
-runs_one Woken l = absurd (omega (arith, l))
+runs_one AtServer l = absurd (omega (arith, l))
 runs_one Done l = absurd (omega (arith, l))
 
 ready_one : (standing : Standing) → 1 ≤ ready_as standing → standing ≡ Ready
@@ -56,7 +56,7 @@ ready_one Pending l = absurd (omega (arith, l))
 ready_one Running l = absurd (omega (arith, l))
 ready_one Blocked l = absurd (omega (arith, l))
 ready_one Throttled l = absurd (omega (arith, l))
-ready_one Woken l = absurd (omega (arith, l))
+ready_one AtServer l = absurd (omega (arith, l))
 ready_one Done l = absurd (omega (arith, l))
 
 module _ (system : System) (well : IsWellFormed system) (x : ℕ) where
@@ -74,8 +74,7 @@ module _ (system : System) (well : IsWellFormed system) (x : ℕ) where
           let waits = woke y word badge (note_of k note).word (note_of k note).waiters p in
           let alike = ap (λ z. times_queued z (note_of k note).waiters) same in
           let own : 1 ≤ times_queued x (note_of k note).waiters = omega (arith, alike, waits) in
-          let at = times_waiting-at x note k.notes in
-          let blocked : told.standing ≡ Blocked = waits_one system well x told.standing (let w = h.waits in omega (arith, w, own, at)) in
+          let blocked : told.standing ≡ Blocked = waits_blocked system well x from t note told k signalled own h in
           let P : ℕ → Type 0 = λ z. Goes system x from t told (turns.posts_as by_priority system t note (Woke z word) k) in
           let Q : Standing → Type 0 = λ s. Holds system x from t (told_of s told.begun) k → Goes system x from t (told_of s told.begun)
           (turns.posts_as by_priority system t note (Woke x word) k) in
@@ -98,15 +97,14 @@ module _ (system : System) (well : IsWellFormed system) (x : ℕ) where
       by : (b : Bool) → (y == x) ≡ b → Goes system x from t told (turns.frees_as by_priority system t server (Woke y word) k)
       by true e =
           let same = equal y x e in
-          let waits = woke y word 1 (note_of k server).word (note_of k server).waiters p in
+          let there = woke y word 1 (note_of k server).word (note_of k server).waiters p in
           let alike = ap (λ z. times_queued z (note_of k server).waiters) same in
-          let own : 1 ≤ times_queued x (note_of k server).waiters = omega (arith, alike, waits) in
-          let at = times_waiting-at x server k.notes in
-          let blocked : told.standing ≡ Blocked = waits_one system well x told.standing (let w = h.waits in omega (arith, w, own, at)) in
+          let own : 1 ≤ times_queued x (note_of k server).waiters = omega (arith, alike, there) in
+          let waits : told.standing ≡ AtServer = waits_at_server system well x from t server told k served own h in
           let P : ℕ → Type 0 = λ z. Goes system x from t told (turns.frees_as by_priority system t server (Woke z word) k) in
           let Q : Standing → Type 0 = λ s. Holds system x from t (told_of s told.begun) k → Goes system x from t (told_of s told.begun)
           (turns.frees_as by_priority system t server (Woke x word) k) in
-          subst P (sym same) (subst Q (sym blocked) (let-goes system well x from t server word told.begun k served own) h)
+          subst P (sym same) (subst Q (sym waits) (let-goes system well x from t server word told.begun k served own) h)
       by false e = goes-aside system x from t told k (turns.frees_as by_priority system t server (Woke y word) k) h
           (let-aside system x t server y word k p e)
 

@@ -17,7 +17,7 @@ use Rattle.mcs_core.proofs.Clock.{core_shown-first, turn_of-kept, core_shown-kep
 use Rattle.mcs_laws.specs.Places.{places}
 use Rattle.mcs_laws.proofs.Homes.{own_core, own_core_known, away}
 use Rattle.mcs_verdict.specs.declared.standing.Standing.{Standing}
-use Rattle.mcs_verdict.specs.declared.standing.Standing.TheVariants.{Pending, Ready, Running, Throttled, Blocked, Woken, Done}
+use Rattle.mcs_verdict.specs.declared.standing.Standing.TheVariants.{Pending, Ready, Running, Throttled, Blocked, AtServer, Done}
 use Rattle.mcs_verdict_laws.proofs.Steps.{Told, told_of, AreOther, AreEnded, ended-other, Walks, walks-other, walks-done, Leads, leads-append, leads-stamped}
 use Rattle.mcs_verdict_laws.proofs.Holds.{first, IsStarted, Own, Holds}
 use Rattle.mcs_verdict_laws.proofs.Sources.{mails-signalled}
@@ -51,7 +51,7 @@ now-later system x from now to told k l h = record { runs = h.runs; ready = h.re
     by Running o = (o.0, started o.1)
     by Throttled o = (o.0, started o.1)
     by Blocked o = (o.0, started o.1, o.2)
-    by Woken o = o
+    by AtServer o = (o.0, started o.1, o.2)
     by Done o = o
 
 module _ (system : System) (well : IsWellFormed system) (x : ℕ) where

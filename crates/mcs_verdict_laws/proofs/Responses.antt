@@ -40,7 +40,7 @@ module _ (system : System) where
   told_by past moment (row.Stop y cause charged until) h = tt
   told_by past moment (row.Signal y note badge) h = tt
   told_by past moment (row.Arrive note badge maker) h = tt
-  told_by past moment (row.Wake y note word) h = tt
+  told_by past moment (row.Wake y note word until) h = tt
   told_by past moment (row.Hold note word) h = tt
   told_by past moment (row.Got y note word) h = tt
   told_by past moment (row.Order context) h = tt

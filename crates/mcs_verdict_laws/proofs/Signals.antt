@@ -40,7 +40,7 @@ use Rattle.mcs_verdict_laws.proofs.Sources.{IsHeard, alarms-heard}
 abbrev pub IsPlain : What → Type 0
 IsPlain (row.Hold note word) = ⊥
 IsPlain (row.Got thread note word) = ⊥
-IsPlain (row.Wake thread note word) = ⊥
+IsPlain (row.Wake thread note word until) = ⊥
 IsPlain _ = Unit {0}
 
 -- a part of a turn that leaves all words, and all that wait for them

@@ -1,15 +1,17 @@
 -- How a thread proceeds from row to row: as its core has it, and not only as its rows say.
-use Rattle.std.proofs.Common.{◌≡◌, ℕ, ◌+◌, ◌≤◌, ◌⊎◌, Bool, true, false, ◌==◌, List, [], ◌∷◌, ◌++◌, Option, Some, None, refl, sym, subst, ◌∙◌}
+use Rattle.std.proofs.Common.{◌≡◌, ℕ, ◌+◌, ◌⊎◌, Bool, true, false, ◌==◌, List, [], ◌∷◌, ◌++◌, slice_get, Option, Some, None, refl, sym, subst, ◌∙◌}
 use Rattle.mcs_ticks.specs.declared.row.Row.{Row}
 use Rattle.mcs_ticks.specs.declared.row.What.{What}
 use Rattle.mcs_ticks.specs.declared.row.What.TheVariants as row
 use Rattle.mcs_ticks.specs.declared.row.Why.{Why}
 use Rattle.mcs_ticks.specs.declared.row.Why.TheVariants as why
+use Rattle.mcs_script.specs.declared.item.Item.{Item}
+use Rattle.mcs_script.specs.declared.item.Item.TheVariants.{Wait, Enter}
 use Rattle.mcs_core.specs.Turn.{stamped}
 use Rattle.mcs_verdict.specs.declared.standing.Standing.{Standing}
-use Rattle.mcs_verdict.specs.declared.standing.Standing.TheVariants.{Pending, Ready, Running, Throttled, Blocked, Done}
+use Rattle.mcs_verdict.specs.declared.standing.Standing.TheVariants.{Pending, Ready, Running, Throttled, Blocked, AtServer, Done}
 use Rattle.mcs_verdict.specs.Rounds.{begun_after}
-use Rattle.mcs_verdict.specs.Standing.{tells, standing_stopped}
+use Rattle.mcs_verdict.specs.Standing.{tells, standing_until, standing_stopped}
 
 pub contrary : (b : Bool) → b ≡ false → b ≡ true → ⊥
 contrary true e f = let g : true ≡ false = e in cc
@@ -28,7 +30,7 @@ abbrev pub Turns : Standing → What → Standing → Type 0
 Turns before (row.Release y) after = ((before ≡ Pending) ⊎ (before ≡ Throttled)) × (after ≡ Ready)
 Turns before (row.Run y) after = (before ≡ Ready) × (after ≡ Running)
 Turns before (row.Stop y cause charged until) after = (before ≡ Running) × (after ≡ standing_stopped cause until)
-Turns before (row.Wake y note word) after = (before ≡ Blocked) × ((after ≡ Ready) ⊎ (after ≡ Throttled))
+Turns before (row.Wake y note word until) after = ((before ≡ Blocked) ⊎ (before ≡ AtServer)) × (after ≡ standing_until until)
 Turns before _ after = ⊥
 
 abbrev pub Passes : Bool → Standing → What → Standing → Type 0
@@ -41,7 +43,7 @@ module _ (x : ℕ) where
   IsOther (row.Release y) = (y == x) ≡ false
   IsOther (row.Run y) = (y == x) ≡ false
   IsOther (row.Stop y cause charged until) = (y == x) ≡ false
-  IsOther (row.Wake y note word) = (y == x) ≡ false
+  IsOther (row.Wake y note word until) = (y == x) ≡ false
   IsOther (row.Got y note word) = (y == x) ≡ false
   IsOther (row.Round y number response) = (y == x) ≡ false
   IsOther _ = Unit {0}
@@ -89,7 +91,7 @@ module _ (x : ℕ) where
   ends-other last (row.Run y) e = tt
   ends-other last (row.Signal y note badge) e = tt
   ends-other last (row.Arrive note badge maker) e = tt
-  ends-other last (row.Wake y note word) e = tt
+  ends-other last (row.Wake y note word until) e = tt
   ends-other last (row.Hold note word) e = tt
   ends-other last (row.Got y note word) e = tt
   ends-other last (row.Round y number response) e = tt
@@ -106,24 +108,33 @@ module _ (x : ℕ) where
       (y == x) ≡ true → (beginning : ℕ) × (begun ≡ Some beginning) × (t ≡ beginning + response)
   IsTimed t _ begun = Unit {0}
 
-  -- a round ends while its thread runs, and a thread that is pending is released no later than its first round begins
-  abbrev pub Allows : ℕ → What → Told → Type 0
-  Allows t (row.Round y number response) told = (y == x) ≡ true → told.standing ≡ Running
-  Allows t (row.Release y) told = (y == x) ≡ true → told.standing ≡ Pending → (beginning : ℕ) → told.begun ≡ Some beginning → t ≤ beginning
-  Allows t _ told = Unit {0}
+-- a thread takes a word at a wait, and if that is its first item no round of it is under way; or it enters a server
+abbrev pub TakesAt : List Item → ℕ → Option ℕ → Type 0
+TakesAt script note begun =
+    ((place : ℕ) × (slice_get script place ≡ Some (Wait note)) × (place ≡ 0 → begun ≡ None))
+    ⊎ ((place : ℕ) × (priority : ℕ) × (slice_get script place ≡ Some (Enter note priority)))
 
--- the notification for which a script waits first, and which of its words begin a round
+-- the notification for which a script waits first, which of its words begin a round, when its thread starts, and its items
 pub record First : Type 0 where
   pub waits : Option ℕ
   pub bits : Option ℕ
+  pub start : ℕ
+  pub script : List Item
 
 -- the thread, and what its script waits for first
 module _ (x : ℕ) (first : First) where
   -- a thread whose round is yet to begin takes no other word, and is woken by no other signal
   abbrev pub Takes : What → Told → Type 0
-  Takes (row.Got y note word) told = (y == x) ≡ true → told.begun ≡ None → first.waits ≡ Some note
-  Takes (row.Wake y note word) told = (y == x) ≡ true → told.begun ≡ None → first.waits ≡ Some note
+  Takes (row.Got y note word) told = (y == x) ≡ true → (told.begun ≡ None → first.waits ≡ Some note) × TakesAt first.script note told.begun
+  Takes (row.Wake y note word until) told = (y == x) ≡ true → told.begun ≡ None → first.waits ≡ Some note
   Takes _ told = Unit {0}
+
+  -- a round ends and a word is taken while the thread runs, and a thread that is pending is released at its start
+  abbrev pub Allows : ℕ → What → Told → Type 0
+  Allows t (row.Got y note word) told = (y == x) ≡ true → told.standing ≡ Running
+  Allows t (row.Round y number response) told = (y == x) ≡ true → told.standing ≡ Running
+  Allows t (row.Release y) told = (y == x) ≡ true → told.standing ≡ Pending → t ≡ first.start
+  Allows t _ told = Unit {0}
 
   -- one row more
   pub record Step (t : ℕ) (before : Told) (what : What) (after : Told) : Type 0 where
@@ -131,7 +142,7 @@ module _ (x : ℕ) (first : First) where
     pub begins : after.begun ≡ begun_after first.waits first.bits x t what before.begun
     pub timed : IsTimed x t what before.begun
     pub alive : before.standing ≡ Done → IsOther x what
-    pub allows : Allows x t what before
+    pub allows : Allows t what before
     pub takes : Takes what before
 
   -- the rows of a moment
@@ -158,7 +169,7 @@ module _ (x : ℕ) (first : First) where
   not_stopped t charged y why.Preempt until begun e = refl
   not_stopped t charged y why.Order until begun e = refl
 
-  step-other : (t : ℕ) (told : Told) (what : What) → IsOther x what → Step t told what told
+  pub step-other : (t : ℕ) (told : Told) (what : What) → IsOther x what → Step t told what told
   step-other t told (row.Release y) e =
       record {
         passes = untold (y == x) told.standing (row.Release y) e;
@@ -179,9 +190,9 @@ module _ (x : ℕ) (first : First) where
         allows = tt;
         takes = tt;
       }
-  step-other t told (row.Wake y note word) e =
+  step-other t told (row.Wake y note word until) e =
       record {
-        passes = untold (y == x) told.standing (row.Wake y note word) e;
+        passes = untold (y == x) told.standing (row.Wake y note word until) e;
         begins = rw e refl;
         timed = tt;
         alive = λ f. e;
@@ -189,7 +200,14 @@ module _ (x : ℕ) (first : First) where
         takes = λ f. absurd (contrary (y == x) e f);
       }
   step-other t told (row.Got y note word) e =
-      record { passes = refl; begins = rw e refl; timed = tt; alive = λ f. e; allows = tt; takes = λ f. absurd (contrary (y == x) e f) }
+      record {
+        passes = refl;
+        begins = rw e refl;
+        timed = tt;
+        alive = λ f. e;
+        allows = λ f. absurd (contrary (y == x) e f);
+        takes = λ f. absurd (contrary (y == x) e f);
+      }
   step-other t told (row.Round y number response) e =
       record {
         passes = refl;
@@ -210,14 +228,14 @@ module _ (x : ℕ) (first : First) where
   walks-other t told (what ∷ rows) other = (told, step-other t told what other.0, walks-other t told rows other.1)
 
   -- a thread that is done has no row more
-  still_done : (t : ℕ) (before after : Told) (what : What) → Step t before what after → before.standing ≡ Done → after.standing ≡ Done
+  pub still_done : (t : ℕ) (before after : Told) (what : What) → Step t before what after → before.standing ≡ Done → after.standing ≡ Done
   still_done t before after what step e = by (tells x what) step.passes (not_told what (step.alive e))
     where
       not_told : (what : What) → IsOther x what → tells x what ≡ false
       not_told (row.Release y) o = o
       not_told (row.Run y) o = o
       not_told (row.Stop y cause charged until) o = o
-      not_told (row.Wake y note word) o = o
+      not_told (row.Wake y note word until) o = o
       not_told (row.Got y note word) o = refl
       not_told (row.Round y number response) o = refl
       not_told (row.Signal y note badge) o = refl

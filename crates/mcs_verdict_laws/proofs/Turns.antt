@@ -1,5 +1,5 @@
 -- A thread passes a whole turn of its core.
-use Rattle.std.proofs.Common.{◌≡◌, ◌≢◌, ℕ, suc, ◌+◌, ◌<◌, ◌≤◌, ◌⊎◌, inl, inr, Bool, true, false, cond, not, ◌==◌, List, [], ◌∷◌, Option, Some, None, refl, sym, subst, ◌∙◌, arith}
+use Rattle.std.proofs.Common.{◌≡◌, ◌≢◌, ℕ, suc, ◌+◌, ◌<◌, ◌≤◌, ◌⊎◌, inl, inr, Bool, true, false, cond, not, ◌==◌, List, [], ◌∷◌, Option, None, refl, sym, subst, arith}
 use Rattle.std.specs.Prelude.{filter, nat_le}
 use Rattle.std.proofs.lemmas.Bool.{cases_lt}
 use Rattle.std.proofs.lemmas.Bool.Decides.{nat_tests}
@@ -11,14 +11,14 @@ use Rattle.mcs_system.specs.System.{System}
 use Rattle.mcs_system.specs.WellFormed.{IsWellFormed}
 use Rattle.std.specs.List.{AllByRecursion}
 use Rattle.mcs_core.specs.Alarms.{ringing, alarms_at}
-use Rattle.mcs_core.specs.Core.{Core, thread_of}
+use Rattle.mcs_core.specs.Core.{Core}
 use Rattle.mcs_core.specs.Places.{times_dated}
 use Rattle.mcs_core.specs.Turn as turns
 use Rattle.mcs_core.specs.Turn.{Turn, silent, says, ◌followed_by◌, each, is_for_now}
 use Rattle.mcs_verdict.specs.declared.standing.Standing.{Standing}
-use Rattle.mcs_verdict.specs.declared.standing.Standing.TheVariants.{Pending, Ready, Running, Throttled, Blocked, Woken, Done}
+use Rattle.mcs_verdict.specs.declared.standing.Standing.TheVariants.{Pending, Ready, Running, Throttled, Blocked, AtServer, Done}
 use Rattle.mcs_verdict_laws.proofs.Steps.{Told, told_of, ended-append, ended-other, walks-append, walks-other}
-use Rattle.mcs_verdict_laws.proofs.Holds.{dated_as, beginning_of, first, start_at, IsUnderWay, IsStarted, IsPending, AreDated, Own, Holds, Loose, Same, same-refl, same-back, holds-same, loose-same, Aside, Goes, goes-aside, goes-then, goes-each, goes-where}
+use Rattle.mcs_verdict_laws.proofs.Holds.{dated_as, first, start_at, IsUnderWay, IsStarted, AreDated, Own, Holds, Loose, Same, same-refl, same-back, holds-same, loose-same, Aside, Goes, goes-aside, goes-then, goes-each, goes-where}
 use Rattle.mcs_verdict_laws.proofs.Entering.{equal, step-release, enters-back}
 use Rattle.mcs_verdict_laws.proofs.Sources.{IsHeard, IsSignalled, alarms-heard}
 use Rattle.mcs_verdict_laws.proofs.Parts.{tick_of-goes, interrupts-goes, arrives-goes, obeys-goes, preempts_by-goes, chooses_of-goes}
@@ -107,7 +107,7 @@ module _ (system : System) (x : ℕ) where
 
   -- .. or is
   one-released : (from t : ℕ) (xs : List Dated) (standing : Standing) (begun : Option ℕ) (k : Core) → (standing ≡ Pending) ⊎ (standing ≡ Throttled)
-      → (standing ≡ Pending → (beginning : ℕ) → begun ≡ Some beginning → t ≤ beginning) → times_dated x xs ≡ 1
+      → (standing ≡ Pending → t ≡ start_at system x) → times_dated x xs ≡ 1
       → Loose system x t begun k → Goes system x from t (told_of standing begun) (each (turns.released by_priority) xs k)
   one-released from t [] standing begun k was early one l = absurd (omega (arith, one))
   one-released from t (d ∷ xs) standing begun k was early one l =
@@ -163,7 +163,7 @@ module _ (system : System) (x : ℕ) where
       by Running h o = o
       by Throttled h o = o
       by Blocked h o = o
-      by Woken h o = o
+      by AtServer h o = o
       by Done h o = o
 
   -- those that are left
@@ -196,7 +196,7 @@ module _ (system : System) (x : ℕ) where
       record { last = q.last; walks = q.walks; holds = q.holds; ended = q.ended }
 
   is-due : (t : ℕ) (standing : Standing) (begun : Option ℕ) (k : Core) → (standing ≡ Pending) ⊎ (standing ≡ Throttled)
-      → (standing ≡ Pending → (beginning : ℕ) → begun ≡ Some beginning → t ≤ beginning) → times_dated x (filter (is_due t) k.releases) ≡ 1
+      → (standing ≡ Pending → t ≡ start_at system x) → times_dated x (filter (is_due t) k.releases) ≡ 1
       → Loose system x t begun (left t k)
       → Goes system x (suc t) t (told_of standing begun) (turns.releases by_priority system t k)
   unfolding left
@@ -236,8 +236,8 @@ module _ (system : System) (x : ℕ) where
   loose-left t begun k Running (inr e) one h u s = absurd (cc)
   loose-left t begun k Blocked (inl e) one h u s = absurd (cc)
   loose-left t begun k Blocked (inr e) one h u s = absurd (cc)
-  loose-left t begun k Woken (inl e) one h u s = absurd (cc)
-  loose-left t begun k Woken (inr e) one h u s = absurd (cc)
+  loose-left t begun k AtServer (inl e) one h u s = absurd (cc)
+  loose-left t begun k AtServer (inr e) one h u s = absurd (cc)
   loose-left t begun k Done (inl e) one h u s = absurd (cc)
   loose-left t begun k Done (inr e) one h u s = absurd (cc)
 
@@ -263,23 +263,6 @@ module _ (system : System) (x : ℕ) where
       (later-holds t (suc t) t standing begun (left t k) other
       (holds-same system x t t (told_of standing begun) k (left t k) (left-same t k empty) h))
 
-  -- the first round of a pending thread begins at its start, if it has begun
-  at_start : (waits : Option ℕ) (item since beginning : ℕ) → beginning_of waits item since ≡ Some beginning → since ≡ beginning
-  at_start None item since beginning e = cc
-  at_start (Some note) item since beginning e = by (item == 0) e
-    where
-      by : (b : Bool) → cond b None (Some since) ≡ Some beginning → since ≡ beginning
-      by true f = absurd (cc)
-      by false f = cc
-
-  early : (t : ℕ) (begun : Option ℕ) (k : Core) → IsUnderWay system x begun k → IsPending system x t k → Pending ≡ Pending → (beginning : ℕ)
-      → begun ≡ Some beginning → t ≤ beginning
-  early t begun k u p same beginning e =
-      let since = at_start (first system x).waits (thread_of k x).place.item (thread_of k x).since beginning (sym u.begins ∙ e) in
-      let later = p.later in
-      let start = p.since in
-      omega (arith, since, later, start)
-
   releases-as : (t : ℕ) (standing : Standing) (begun : Option ℕ) (k : Core) → Holds system x t t (told_of standing begun) k
       → Goes system x (suc t) t (told_of standing begun) (turns.releases by_priority system t k)
   unfolding left
@@ -287,7 +270,7 @@ module _ (system : System) (x : ℕ) where
   releases-as t Running begun k h = undated-goes t Running begun k (λ e. cc) refl h
   releases-as t Blocked begun k h = undated-goes t Blocked begun k (λ e. cc) refl h
   releases-as t Done begun k h = undated-goes t Done begun k (λ e. cc) refl h
-  releases-as t Woken begun k h = absurd h.own
+  releases-as t AtServer begun k h = undated-goes t AtServer begun k (λ e. cc) refl h
   releases-as t Throttled begun k h = by (due-cases t k (let d = h.dated in omega (arith, d)))
     where
       by : (times_dated x (filter (is_due t) k.releases) ≡ 0) ⊎ (times_dated x (filter (is_due t) k.releases) ≡ 1)
@@ -320,7 +303,8 @@ module _ (system : System) (x : ℕ) where
       by (inr one) =
           let start = due_then t (start_at system x) k.releases h.own.1.dates (omega (arith, one)) in
           let since = h.own.1.since in
-          is-due t Pending begun k (inl refl) (early t begun k h.own.0 h.own.1) one
+          let later = h.own.1.later in
+          is-due t Pending begun k (inl refl) (λ same. omega (arith, start, later)) one
           (loose-left t begun k Pending (inl refl) one h h.own.0 record { start = start; since = omega (arith, since, start) })
 
 -- the whole turn

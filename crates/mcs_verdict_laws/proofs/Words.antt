@@ -35,7 +35,7 @@ module _ (note : ℕ) where
   -- a signal adds its badge, and wakes a thread only while the word is 0; who takes the word takes all of it
   abbrev pub IsRight : ℕ → What → Type 0
   IsRight before (row.Hold n word) = (n == note) ≡ true → (badge : ℕ) × (word ≡ bit_or before badge)
-  IsRight before (row.Wake y n word) = (n == note) ≡ true → before ≡ 0
+  IsRight before (row.Wake y n word until) = (n == note) ≡ true → before ≡ 0
   IsRight before (row.Got y n word) = (n == note) ≡ true → word ≡ before
   IsRight before _ = Unit {0}
 
@@ -52,7 +52,7 @@ module _ (note : ℕ) where
   plain-words before [] all = refl
   plain-words before (row.Hold n word ∷ rows) all = absurd all.0
   plain-words before (row.Got y n word ∷ rows) all = absurd all.0
-  plain-words before (row.Wake y n word ∷ rows) all = absurd all.0
+  plain-words before (row.Wake y n word until ∷ rows) all = absurd all.0
   plain-words before (row.Release y ∷ rows) all = (tt, plain-words before rows all.1)
   plain-words before (row.Run y ∷ rows) all = (tt, plain-words before rows all.1)
   plain-words before (row.Stop y cause charged until ∷ rows) all = (tt, plain-words before rows all.1)
@@ -144,10 +144,10 @@ module _ (note : ℕ) where
   posts_as-sounds system t n badge (Woke y word) k e sound =
       let noted = with_note n (after_post (Woke y word) (note_of k n)) k in
       let first =
-      said-sounds n (after_post (Woke y word) (note_of k n)) (row.Wake y n word) k sound (λ f. zero-word f)
+      said-sounds n (after_post (Woke y word) (note_of k n)) (row.Wake y n word (turns.woken_until system t y k)) k sound (λ f. zero-word f)
       (same-word (n == note) refl) (λ f. inr (same (equal n note f) ∙ zero-word f))
       in
-      sounds-then k.notes (says (row.Wake y n word) noted) (turns.wakes by_priority system t y word) first
+      sounds-then k.notes (says (row.Wake y n word (turns.woken_until system t y k)) noted) (turns.wakes by_priority system t y word) first
       (plain-sounds noted.notes (turns.wakes by_priority system t y word noted) first.sound (wakes-plain system t y word noted))
     where
       same : n ≡ note → (note_of k n).word ≡ word_in k.notes
@@ -235,10 +235,10 @@ module _ (note : ℕ) where
       let state = after_post (Woke y word) (note_of k n) in
       let noted = with_note n state k in
       let first =
-      said-sounds n state (row.Wake y n word) k sound (λ f. absurd (contrary (n == note) e f))
+      said-sounds n state (row.Wake y n word (turns.woken_until system t y k)) k sound (λ f. absurd (contrary (n == note) e f))
       (sym (ap (λ b. cond b state.word (word_in k.notes)) e)) (λ f. absurd (contrary (n == note) e f))
       in
-      sounds-then k.notes (says (row.Wake y n word) noted) (turns.let_in by_priority system t y) first
+      sounds-then k.notes (says (row.Wake y n word (turns.woken_until system t y k)) noted) (turns.let_in by_priority system t y) first
       (plain-sounds noted.notes (turns.let_in by_priority system t y noted) first.sound (let_in-plain system t y noted))
   frees_as-sounds system t n (Held word) k e sound =
       let state = after_post (Held word) (note_of k n) in
@@ -256,7 +256,7 @@ module _ (note : ℕ) where
   abbrev pub IsStill : What → Type 0
   IsStill (row.Hold n word) = (n == note) ≡ false
   IsStill (row.Got y n word) = (n == note) ≡ false
-  IsStill (row.Wake y n word) = (n == note) ≡ false
+  IsStill (row.Wake y n word until) = (n == note) ≡ false
   IsStill _ = Unit {0}
 
   pub still-words : (before : ℕ) (rows : List What) → AllByRecursion IsStill rows → Words before rows before
@@ -267,7 +267,7 @@ module _ (note : ℕ) where
   still-words before (row.Got y n word ∷ rows) all =
       let P : ℕ → Type 0 = λ w. Words w rows before in
       ((λ f. absurd (contrary (n == note) all.0 f)), subst P (sym (ap (λ b. cond b 0 before) all.0)) (still-words before rows all.1))
-  still-words before (row.Wake y n word ∷ rows) all = ((λ f. absurd (contrary (n == note) all.0 f)), still-words before rows all.1)
+  still-words before (row.Wake y n word until ∷ rows) all = ((λ f. absurd (contrary (n == note) all.0 f)), still-words before rows all.1)
   still-words before (row.Release y ∷ rows) all = (tt, still-words before rows all.1)
   still-words before (row.Run y ∷ rows) all = (tt, still-words before rows all.1)
   still-words before (row.Stop y cause charged until ∷ rows) all = (tt, still-words before rows all.1)
@@ -285,7 +285,7 @@ module _ (note : ℕ) where
   plain-still [] all = tt
   plain-still (row.Hold n word ∷ rows) all = absurd all.0
   plain-still (row.Got y n word ∷ rows) all = absurd all.0
-  plain-still (row.Wake y n word ∷ rows) all = absurd all.0
+  plain-still (row.Wake y n word until ∷ rows) all = absurd all.0
   plain-still (row.Release y ∷ rows) all = (tt, plain-still rows all.1)
   plain-still (row.Run y ∷ rows) all = (tt, plain-still rows all.1)
   plain-still (row.Stop y cause charged until ∷ rows) all = (tt, plain-still rows all.1)

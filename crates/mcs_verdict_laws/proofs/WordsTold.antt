@@ -25,7 +25,7 @@ use Rattle.mcs_core.proofs.Clock.{core_shown-first, turn_of-kept, core_shown-kep
 use Rattle.mcs_verdict.specs.declared.held.Held.{Held}
 use Rattle.mcs_verdict.specs.Findings.{past_of}
 use Rattle.mcs_verdict.specs.Calls.{waited_on, first_wait}
-use Rattle.mcs_verdict.specs.Words.{no_word, held_with, taken, held_after, firsts_from}
+use Rattle.mcs_verdict.specs.Words.{no_word, held_with, gave, taken, held_after, firsts_from}
 use Rattle.mcs_verdict_laws.proofs.Fits.{first_held, held_in}
 use Rattle.mcs_verdict_laws.proofs.Finishing.{item_home}
 use Rattle.mcs_verdict_laws.proofs.Steps.{contrary}
@@ -43,7 +43,12 @@ held-next note m (row.Hold n w) before = by (n == note)
     by false = refl
 held-next note m (row.Got y n w) before = by (n == note)
   where
-    by : (b : Bool) → (cond b (taken before) before).word ≡ cond b 0 before.word
+    by : (b : Bool) → (cond b (taken w before) before).word ≡ cond b 0 before.word
+    by true = refl
+    by false = refl
+held-next note m (row.Wake y n w until) before = by (n == note)
+  where
+    by : (b : Bool) → (cond b (gave w before) before).word ≡ before.word
     by true = refl
     by false = refl
 held-next note m (row.Release y) before = refl
@@ -51,7 +56,6 @@ held-next note m (row.Run y) before = refl
 held-next note m (row.Stop y cause charged until) before = refl
 held-next note m (row.Signal y n badge) before = refl
 held-next note m (row.Arrive n badge maker) before = refl
-held-next note m (row.Wake y n w) before = refl
 held-next note m (row.Round y number response) before = refl
 held-next note m (row.Order context) before = refl
 held-next note m (row.Interrupt source at_note badge) before = refl
@@ -70,6 +74,11 @@ module _ (system : System) (note : ℕ) where
   abbrev pub AreRight : List Row → List Row → Type 0
   AreRight past [] = Unit {0}
   AreRight past (r ∷ rows) = IsRight note (held_in system note past).word r.what × AreRight (r ∷ past) rows
+
+  -- the later ones of them
+  pub right-later : (past rows more : List Row) → AreRight past (rows ++ more) → AreRight (past_of past rows) more
+  right-later past [] more all = all
+  right-later past (r ∷ rows) more all = right-later (r ∷ past) rows more all.1
 
   -- rows by which the word becomes this one
   record Leaves (past rows : List Row) (last : ℕ) : Type 0 where

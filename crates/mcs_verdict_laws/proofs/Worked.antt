@@ -1,23 +1,29 @@
 -- Standings and beginnings that were worked by hand.
 use Rattle.std.specs.Prelude.{◌≡◌, ℕ, Bool, true, false, List, [], ◌∷◌, Some, None, is_some, refl}
-use Rattle.std.proofs.Common.{sym, ◌∙◌, arith}
+use Rattle.std.specs.List.{list_any}
+use Rattle.std.proofs.Common.{inl, sym, ◌∙◌, arith}
 use Rattle.mcs_control.specs.declared.config.Mode.TheVariants as mode
 use Rattle.mcs_script.specs.declared.item.Item.{Item}
-use Rattle.mcs_script.specs.declared.item.Item.TheVariants.{Compute, Signal, Wait}
+use Rattle.mcs_script.specs.declared.item.Item.TheVariants.{Compute, Signal, Wait, Enter, Leave}
 use Rattle.mcs_system.specs.declared.part.ThreadPart.{ThreadPart}
 use Rattle.mcs_system.specs.declared.part.ContextPart.{ContextPart}
 use Rattle.mcs_system.specs.System.{System}
 use Rattle.mcs_core.specs.Clock.{schedule}
+use Rattle.mcs_verdict.specs.declared.finding.Finding.TheVariants.{Overdue, Untaken}
+use Rattle.mcs_verdict.specs.declared.job.Job.{Job}
 use Rattle.mcs_verdict.specs.declared.standing.Standing.{Standing}
-use Rattle.mcs_verdict.specs.declared.standing.Standing.TheVariants.{Pending, Ready, Running, Throttled, Blocked, Woken, Done}
+use Rattle.mcs_verdict.specs.declared.standing.Standing.TheVariants.{Pending, Ready, Running, Throttled, Blocked, AtServer, Done}
 use Rattle.mcs_verdict.specs.Findings.{past_of, found_in}
-use Rattle.mcs_verdict.specs.Jobs.{job}
+use Rattle.mcs_verdict.specs.Due.{untaken}
+use Rattle.mcs_verdict.specs.Jobs.{job, jobs_in}
 use Rattle.mcs_verdict.specs.Misses.{overdue, never}
 use Rattle.mcs_verdict.specs.Rounds.{begun_of}
 use Rattle.mcs_verdict.specs.Standing.{standing_at, telling}
 use Rattle.mcs_verdict_laws.specs.Standing.{standing_in_clock}
+use Rattle.mcs_verdict.specs.Takers.{due_of}
+use Rattle.mcs_verdict_laws.specs.laws.Fate.{rows_to, is_end, HasEnded, IsOverdue, IsUntaken, HasMissed, WasTaken}
 use Rattle.mcs_verdict_laws.specs.laws.Horizons.{has_miss_of}
-use Rattle.mcs_verdict_laws.specs.laws.Responses.{HasParts, IsTold}
+use Rattle.mcs_verdict_laws.specs.laws.Responses.{IsTold, HasParts, IsSummed}
 use Rattle.mcs_verdict_laws.specs.laws.Running.{ticks_running}
 
 abbrev context : ℕ → ℕ → ContextPart
@@ -47,7 +53,7 @@ one_core contexts threads =
 
 -- by the rows up to a horizon
 abbrev told : System → ℕ → ℕ → ℕ → Standing
-told system horizon tick thread = standing_at tick None (telling thread (past_of [] (schedule system horizon)))
+told system horizon tick thread = standing_at tick (telling thread (past_of [] (schedule system horizon)))
 
 -- Five ticks of work on a budget of 2 in 5, from moment 1 on: it runs at 1, 2, 6, 7 and 11.
 abbrev depletes : System
@@ -100,10 +106,10 @@ at_its_wait = refl
 woken_with_no_budget : standing_in_clock woken 5 1 ≡ Throttled
 woken_with_no_budget = refl
 
-which_the_rows_leave_open : told woken 9 5 1 ≡ Woken
-which_the_rows_leave_open = refl
+as_the_row_of_its_wake_says : told woken 5 5 1 ≡ Throttled
+as_the_row_of_its_wake_says = refl
 
-until_its_release : told woken 10 5 1 ≡ Throttled
+until_its_release : told woken 10 9 1 ≡ Throttled
 until_its_release = refl
 
 done_at_once : standing_in_clock woken 5 0 ≡ Done
@@ -124,36 +130,125 @@ no_other_response is =
     omega (arith, f, g)
 
 -- its parts: throttled from 5 to 10, and one tick of work
-its_parts : HasParts 6 (job woken (past_of [] (schedule woken 10)) 11 1 1).stood
-its_parts = record { sum = refl; pending = refl; woken = refl; done = refl }
+abbrev its_job : Job
+its_job = job woken (past_of [] (schedule woken 10)) 11 1 1
 
-its_throttled_ticks : (job woken (past_of [] (schedule woken 10)) 11 1 1).stood.throttled ≡ 5
+its_parts : IsSummed its_job
+its_parts = record { parts = record { sum = refl; pending = refl; done = refl }; response_is = refl }
+
+which_are_six_ticks : its_job.response ≡ 6
+which_are_six_ticks = refl
+
+none_of_them_queued : its_job.queued ≡ 0
+none_of_them_queued = refl
+
+its_throttled_ticks : its_job.stood.throttled ≡ 5
 its_throttled_ticks = refl
 
--- whether a thread is overdue at a horizon, and whether one of its rounds missed its deadline up to
--- there
+-- Thread 0 signals at 2 and at 6. Thread 1 waits at 2, and preempted from 4 to 6 it ends its first round at 8: the second word waits
+-- two ticks for that. It is taken at 9, and its round ends at 12.
+abbrev queues : System
+queues =
+    one_core (context 2 4 ∷ context 20 20 ∷ [])
+    (thread 0 9 0 2 (Compute 1 ∷ Signal 0 1 ∷ []) ∷ record (thread 1 5 0 0 (Wait 0 ∷ Compute 3 ∷ [])) { deadline = 3 } ∷ [])
+
+abbrev first_job : Job
+first_job = job queues (past_of [] (schedule queues 7)) 8 1 1
+
+abbrev second_job : Job
+second_job = job queues (past_of [] (schedule queues 11)) 12 1 2
+
+first_activation : first_job.activated ≡ 2
+first_activation = refl
+
+first_in_the_queue : first_job.queued ≡ 0
+first_in_the_queue = refl
+
+ready_while_preempted : first_job.stood.ready ≡ 2
+ready_while_preempted = refl
+
+running_with_its_wait : first_job.stood.running ≡ 4
+running_with_its_wait = refl
+
+second_activation : second_job.activated ≡ 6
+second_activation = refl
+
+up_to_the_end_of_the_first : second_job.queued ≡ 2
+up_to_the_end_of_the_first = refl
+
+then_it_runs : second_job.stood.running ≡ 4
+then_it_runs = refl
+
+and_they_sum : HasParts 6 2 second_job.stood
+and_they_sum = record { sum = refl; pending = refl; done = refl }
+
+no_other_sum : HasParts 7 2 second_job.stood → ⊥
+no_other_sum parts = let s = parts.sum in omega (arith, s)
+
+-- a tick before, it is overdue: 5 ticks after its activation
+its_age : overdue queues (past_of [] (schedule queues 11)) 11 1
+    ≡ Some (Overdue 1 2 5 3 6 2 (record { pending = 0; ready = 0; running = 3; throttled = 0; blocked = 0; server = 0; done = 0 }))
+its_age = refl
+
+-- Thread 0 is in the server from 1 on, and spends its budget there. Thread 1 calls the server at 5 and is let in at 21.
+abbrev at_server : System
+at_server =
+    record
+    (one_core (context 3 10 ∷ context 20 100 ∷ [])
+    (thread 0 10 0 1 (Enter 0 40 ∷ Compute 5 ∷ Leave 0 10 ∷ []) ∷ thread 1 30 4 1 (Enter 0 40 ∷ Compute 5 ∷ Leave 0 30 ∷ []) ∷ []))
+    { notes = record { name = []; core = 0; word = 1 } ∷ []; servers = 1 }
+
+before_its_call : standing_in_clock at_server 4 1 ≡ Running
+before_its_call = refl
+
+in_front_of_the_server : standing_in_clock at_server 5 1 ≡ AtServer
+in_front_of_the_server = refl
+
+as_the_rows_say : told at_server 5 5 1 ≡ AtServer
+as_the_rows_say = refl
+
+until_it_is_let_in : standing_in_clock at_server 20 1 ≡ AtServer
+until_it_is_let_in = refl
+
+then_it_has_the_server : standing_in_clock at_server 21 1 ≡ Running
+then_it_has_the_server = refl
+
+-- whether a thread is overdue at a horizon, whether the word of a notification is untaken there, and
+-- whether a round of the thread missed its deadline up to there
 abbrev is_overdue : System → ℕ → ℕ → Bool
-is_overdue system horizon thread = is_some (overdue system (past_of [] (schedule system horizon)) horizon thread)
+is_overdue system horizon thread = is_some (overdue system (rows_to system horizon) horizon thread)
+
+abbrev is_untaken : System → ℕ → ℕ → Bool
+is_untaken system horizon note = is_some (untaken system (rows_to system horizon) horizon note)
+
+abbrev is_never : System → ℕ → ℕ → Bool
+is_never system horizon thread = is_some (never system (rows_to system horizon) horizon thread)
 
 abbrev missed_by : System → ℕ → ℕ → Bool
 missed_by system horizon thread = has_miss_of thread (found_in system [] (schedule system horizon))
 
--- Thread 0 signals at 4 and is done; thread 1 comes after a third one, which runs from 4 to 8. Its
--- round was activated at 4, and it takes the word at 9.
+-- Thread 0 signals at 4 and is done; thread 1 comes after a third one, which runs from 4 to 8. The
+-- word was set at 4, and thread 1 takes it at 9: its round was activated at 4.
 abbrev late : System
 late =
     one_core (context 20 20 ∷ context 20 20 ∷ context 20 20 ∷ [])
     (thread 0 9 0 1 (Compute 3 ∷ Signal 0 1 ∷ []) ∷ record (thread 1 5 0 0 (Wait 0 ∷ Compute 1 ∷ [])) { deadline = 3 }
     ∷ thread 2 7 0 1 (Compute 4 ∷ []) ∷ [])
 
-not_before_its_deadline : is_overdue late 6 1 ≡ false
+not_before_its_deadline : is_untaken late 6 0 ≡ false
 not_before_its_deadline = refl
 
-at_its_deadline : is_overdue late 7 1 ≡ true
+at_its_deadline : untaken late (rows_to late 7) 7 0 ≡ Some (Untaken 0 1 3 3 4)
 at_its_deadline = refl
 
-also_when_it_took_its_word : is_overdue late 9 1 ≡ true
-also_when_it_took_its_word = refl
+of_the_notification_alone : is_overdue late 8 1 ≡ false
+of_the_notification_alone = refl
+
+not_when_it_is_taken : is_untaken late 9 0 ≡ false
+not_when_it_is_taken = refl
+
+but_of_the_thread_then : IsOverdue late 9 1 4
+but_of_the_thread_then = refl
 
 no_miss_yet : missed_by late 9 1 ≡ false
 no_miss_yet = refl
@@ -161,28 +256,61 @@ no_miss_yet = refl
 not_when_its_round_ended : is_overdue late 10 1 ≡ false
 not_when_its_round_ended = refl
 
-which_missed_its_deadline : missed_by late 10 1 ≡ true
+which_missed_its_deadline : HasMissed late 7 10 1 4
 which_missed_its_deadline = refl
 
--- The third one now takes the word, as its second item, at 9: thread 1 is overdue until then, and at 20 there is neither a miss nor a round
--- that is overdue. This is what `TakesItAlone` is for.
+and_ended : HasEnded late 9 10 1 4
+and_ended = refl
+
+no_second_time : list_any (is_end 10 1 4) (jobs_in late [] (schedule late 14)) ≡ false
+no_second_time = refl
+
+-- Two threads wait first for the notification, with deadlines of 3 and 6. The word is untaken once
+-- the greater one has passed: whoever takes it then misses its deadline.
+abbrev pool : System
+pool =
+    one_core (context 20 20 ∷ context 20 20 ∷ context 20 20 ∷ context 20 20 ∷ [])
+    (thread 0 9 0 1 (Compute 3 ∷ Signal 0 1 ∷ []) ∷ record (thread 1 5 0 0 (Wait 0 ∷ Compute 1 ∷ [])) { deadline = 3 }
+    ∷ record (thread 2 6 0 0 (Wait 0 ∷ Compute 1 ∷ [])) { deadline = 6 } ∷ thread 3 7 0 1 (Compute 9 ∷ []) ∷ [])
+
+by_the_greater_deadline : due_of 0 pool.threads ≡ Some 6
+by_the_greater_deadline = refl
+
+not_after_the_least : is_untaken pool 9 0 ≡ false
+not_after_the_least = refl
+
+after_the_greatest : IsUntaken pool 10 0 4
+after_the_greatest = refl
+
+taken_by_the_second : WasTaken pool 10 14 0 4
+taken_by_the_second = record { thread = 2; waits = refl; late = inl refl }
+
+and_missed : HasMissed pool 10 16 2 4
+and_missed = refl
+
+-- no thread is never activated while another takes the words
+not_the_spare_one : is_never pool 16 1 ≡ false
+not_the_spare_one = refl
+
+-- The third one now takes the word as its second item, at 9. So the notification has no deadline,
+-- and nothing is found of a word that may be taken in time.
 abbrev taken_by_another : System
 taken_by_another =
     one_core (context 20 20 ∷ context 20 20 ∷ context 20 20 ∷ [])
     (thread 0 9 0 1 (Compute 3 ∷ Signal 0 1 ∷ []) ∷ record (thread 1 5 0 0 (Wait 0 ∷ Compute 1 ∷ [])) { deadline = 3 }
     ∷ thread 2 7 0 1 (Compute 4 ∷ Wait 0 ∷ Compute 1 ∷ []) ∷ [])
 
-overdue_before : is_overdue taken_by_another 8 1 ≡ true
-overdue_before = refl
+without_a_deadline : due_of 0 taken_by_another.threads ≡ None
+without_a_deadline = refl
 
-not_overdue_after : is_overdue taken_by_another 20 1 ≡ false
-not_overdue_after = refl
+not_untaken : is_untaken taken_by_another 8 0 ≡ false
+not_untaken = refl
 
-and_no_miss : missed_by taken_by_another 20 1 ≡ false
-and_no_miss = refl
+not_overdue : is_overdue taken_by_another 8 1 ≡ false
+not_overdue = refl
 
-activated_before : never taken_by_another (past_of [] (schedule taken_by_another 8)) 8 1 ≡ None
-activated_before = refl
+never_before_it_was_given : is_never taken_by_another 8 1 ≡ true
+never_before_it_was_given = refl
 
-never_after : is_some (never taken_by_another (past_of [] (schedule taken_by_another 20)) 20 1) ≡ true
-never_after = refl
+not_never_after : is_never taken_by_another 9 1 ≡ false
+not_never_after = refl

@@ -2,10 +2,11 @@
 #![tactic(auto)]
 
 ghost use Rattle.mcs_verdict_laws.specs.laws.Order.{SchedulesAreInOrder};
-ghost use Rattle.mcs_verdict_laws.specs.laws.Responses.{ResponsesAreTold, PartsSumToResponses};
+ghost use Rattle.mcs_verdict_laws.specs.laws.Responses.{ResponsesAreTold, PartsSumToResponses, PartsSumToAges};
 ghost use Rattle.mcs_verdict_laws.specs.laws.Standings.{StandingsAreTheClocks};
 ghost use Rattle.mcs_verdict_laws.specs.laws.Running.{RunningIsRan};
-ghost use Rattle.mcs_verdict_laws.specs.laws.Horizons.{WhoWaitsAloneTakesIt, OverdueStays, ActivationStays, NothingIsFoundBetween, NothingAtAllIsFoundBetween};
+ghost use Rattle.mcs_verdict_laws.specs.laws.Fate.{RoundsStayUntilTheyEnd, OverdueEndsWithAMiss, UntakenEndsWithAMiss};
+ghost use Rattle.mcs_verdict_laws.specs.laws.Horizons.{OverdueStays, ActivationStays, NothingIsFoundBetween, NothingAtAllIsFoundBetween};
 
 /// A law of the clock: no row of a schedule is earlier than a row before it, or later than the
 /// horizon. All findings of a schedule can then be found as its rows come.
@@ -19,14 +20,20 @@ pub fn responses_are_told()
     ensures { ResponsesAreTold }
 {}
 
-/// The parts of each job sum to the response of its `round` row. They are ready, running, throttled
-/// and blocked ticks; the thread was pending, woken or done in no tick.
+/// The parts of each job sum to its response, which counts from its activation. They are its
+/// queued, ready, running, throttled, blocked and server ticks. The thread was pending or done in
+/// no tick.
 pub fn parts_sum_to_responses()
     ensures { PartsSumToResponses }
 {}
 
+/// The parts of each overdue round sum to its age: the ticks from its activation to the horizon.
+pub fn parts_sum_to_ages()
+    ensures { PartsSumToAges }
+{}
+
 /// A law of the clock: in each tick up to the horizon, the state of each thread on its core is that
-/// of the schedule's rows. If they only say that it was woken, it is ready or throttled.
+/// of the schedule's rows.
 pub fn standings_are_the_clocks()
     ensures { StandingsAreTheClocks }
 {}
@@ -37,28 +44,38 @@ pub fn running_is_ran()
     ensures { RunningIsRan }
 {}
 
-/// A law of the clock: if no other script has a wait for the notification for which a thread's
-/// script waits first, no other thread takes its word.
-pub fn who_waits_alone_takes_it()
-    ensures { WhoWaitsAloneTakesIt }
+/// A law of the clock: a round that is under way stays so until it ends, with its activation.
+pub fn rounds_stay_until_they_end()
+    ensures { RoundsStayUntilTheyEnd }
 {}
 
 /// A law of the clock: an overdue round stays overdue until it ends, and then it missed its
-/// deadline. If no round of a thread missed its deadline up to a horizon, and no round is overdue
-/// there, then no round was overdue at an earlier horizon. If the thread's script begins with a
-/// wait, no other thread may take its word in between.
+/// deadline.
+pub fn overdue_ends_with_a_miss()
+    ensures { OverdueEndsWithAMiss }
+{}
+
+/// A law of the clock: an untaken word stays untaken until a thread takes it whose script begins
+/// with a wait for it. The round that it begins is overdue until it ends, and then it missed its
+/// deadline.
+pub fn untaken_ends_with_a_miss()
+    ensures { UntakenEndsWithAMiss }
+{}
+
+/// A law of the clock: if no round of a thread missed its deadline up to a horizon, and no round is
+/// overdue there, then no round was overdue at an earlier horizon.
 pub fn overdue_stays()
     ensures { OverdueStays }
 {}
 
 /// A law of the clock: a thread that was activated up to a horizon has no `Never` finding at a
-/// later one. If its script begins with a wait, no other thread may take its word in between.
+/// later one.
 pub fn activation_stays()
     ensures { ActivationStays }
 {}
 
 /// If a group of cores has no findings up to a horizon and up to a later one, it has no findings up
-/// to any horizon between them. Its threads with deadlines need the premise of `overdue_stays`.
+/// to any horizon between them.
 pub fn nothing_is_found_between()
     ensures { NothingIsFoundBetween }
 {}

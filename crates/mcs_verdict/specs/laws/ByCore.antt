@@ -8,6 +8,7 @@ use Rattle.mcs_verdict.specs.declared.finding.Found.{Found}
 use Rattle.mcs_verdict.specs.Account.{subject}
 use Rattle.mcs_verdict.specs.Rounds.{first_wait}
 use Rattle.mcs_verdict.specs.Misses.{unended}
+use Rattle.mcs_verdict.specs.Due.{untaken}
 use Rattle.mcs_verdict.specs.Findings.{UpTo, past_of, found_in}
 
 -- the rows of core c
@@ -22,6 +23,7 @@ found_on c found = filter (λ (f : Found). f.core == c) found
 abbrev pub word_told : What → Option ℕ
 word_told (row.Hold note word) = Some note
 word_told (row.Got thread note word) = Some note
+word_told (row.Wake thread note word until) = Some note
 word_told _ = None
 
 module _ (system : System) where
@@ -56,6 +58,12 @@ module _ (system : System) where
       (rows : List Row) (horizon thread : ℕ) → ComeHome [] rows → UpTo horizon (past_of [] rows) → WaitsAtHome thread
       → unended system (past_of [] (rows_on (home_of thread) rows)) horizon thread ≡ unended system (past_of [] rows) horizon thread
 
--- both hold in every system
+  -- and for each word
+  abbrev pub UntakenByCore : Type 0
+  UntakenByCore =
+      (rows : List Row) (horizon note : ℕ) → ComeHome [] rows → UpTo horizon (past_of [] rows)
+      → untaken system (past_of [] (rows_on (note_home_of note) rows)) horizon note ≡ untaken system (past_of [] rows) horizon note
+
+-- these hold in every system
 abbrev pub CoresAreWatched : Type 0
-CoresAreWatched = (system : System) → FoundByCore system × UnendedByCore system
+CoresAreWatched = (system : System) → FoundByCore system × UnendedByCore system × UntakenByCore system

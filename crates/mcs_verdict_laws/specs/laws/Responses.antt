@@ -1,4 +1,4 @@
--- The responses of rows, counted from the beginnings of rounds by the rows.
+-- The responses of rows, counted from the beginnings of rounds by the rows, and the parts of rounds.
 use Rattle.std.specs.Prelude.{◌≡◌, ℕ, ◌+◌, List, [], ◌∷◌, Some}
 use Rattle.mcs_ticks.specs.declared.row.Row.{Row}
 use Rattle.mcs_ticks.specs.declared.row.What.{What}
@@ -6,9 +6,14 @@ use Rattle.mcs_ticks.specs.declared.row.What.TheVariants as row
 use Rattle.mcs_system.specs.System.{System}
 use Rattle.mcs_system.specs.WellFormed.{IsWellFormed}
 use Rattle.mcs_core.specs.Clock.{schedule}
-use Rattle.mcs_verdict.specs.Jobs.{job}
-use Rattle.mcs_verdict.specs.Rounds.{begun_of}
+use Rattle.mcs_verdict.specs.declared.finding.Finding.{Finding}
+use Rattle.mcs_verdict.specs.declared.finding.Finding.TheVariants.{Overdue}
+use Rattle.mcs_verdict.specs.declared.job.Job.{Job}
 use Rattle.mcs_verdict.specs.declared.standing.Stood.{Stood}
+use Rattle.mcs_verdict.specs.Findings.{past_of}
+use Rattle.mcs_verdict.specs.Jobs.{job}
+use Rattle.mcs_verdict.specs.Misses.{overdue}
+use Rattle.mcs_verdict.specs.Rounds.{begun_of}
 
 -- the rows before the end of a round have its beginning, and its response counts from there
 pub record IsTold (system : System) (past : List Row) (moment thread response : ℕ) : Type 0 where
@@ -16,16 +21,22 @@ pub record IsTold (system : System) (past : List Row) (moment thread response : 
   pub told : begun_of system thread past ≡ Some beginning
   pub response_is : moment ≡ beginning + response
 
--- the ready, running, throttled and blocked ticks sum to `ticks`, and there are no others
-pub record HasParts (ticks : ℕ) (stood : Stood) : Type 0 where
-  pub sum : stood.ready + stood.running + stood.throttled + stood.blocked ≡ ticks
+-- the ticks are queued, ready, running, throttled or blocked, or the thread waited for a server in
+-- them; it was pending or done in none
+pub record HasParts (ticks queued : ℕ) (stood : Stood) : Type 0 where
+  pub sum : queued + (stood.ready + stood.running + stood.throttled + stood.blocked + stood.server) ≡ ticks
   pub pending : stood.pending ≡ 0
-  pub woken : stood.woken ≡ 0
   pub done : stood.done ≡ 0
 
--- the parts of the round's job sum to its response
-abbrev pub IsSummed : System → List Row → ℕ → ℕ → ℕ → ℕ → Type 0
-IsSummed system past moment thread number response = HasParts response (job system past moment thread number).stood
+-- the parts of a job sum to its response, which counts from its activation
+pub record IsSummed (job : Job) : Type 0 where
+  pub parts : HasParts job.response job.queued job.stood
+  pub response_is : job.ended ≡ job.activated + job.response
+
+-- the parts of an overdue round sum to its age, which counts from its activation
+abbrev pub IsAged : ℕ → Finding → Type 0
+IsAged horizon (Overdue thread number age deadline activated queued stood) = HasParts age queued stood × (horizon ≡ activated + age)
+IsAged horizon _ = Unit {0}
 
 -- the law for a row that comes after these, if it ends a round
 abbrev pub IsToldBy : System → List Row → ℕ → What → Type 0
@@ -33,7 +44,7 @@ IsToldBy system past moment (row.Round thread number response) = IsTold system p
 IsToldBy system past moment _ = Unit {0}
 
 abbrev pub IsSummedBy : System → List Row → ℕ → What → Type 0
-IsSummedBy system past moment (row.Round thread number response) = IsSummed system past moment thread number response
+IsSummedBy system past moment (row.Round thread number response) = IsSummed (job system past moment thread number)
 IsSummedBy system past moment _ = Unit {0}
 
 -- the law for each row, by the rows before it
@@ -51,3 +62,8 @@ ResponsesAreTold = (system : System) → IsWellFormed system → (horizon : ℕ)
 
 abbrev pub PartsSumToResponses : Type 0
 PartsSumToResponses = (system : System) → IsWellFormed system → (horizon : ℕ) → AreSummed system [] (schedule system horizon)
+
+abbrev pub PartsSumToAges : Type 0
+PartsSumToAges =
+    (system : System) → IsWellFormed system → (horizon thread : ℕ) (found : Finding) →
+    overdue system (past_of [] (schedule system horizon)) horizon thread ≡ Some found → IsAged horizon found

@@ -1,10 +1,10 @@
-use Rattle.std.proofs.Common.{◌≡◌, List, [], ◌++◌, ap, subst, sym, ◌∙◌}
+use Rattle.std.proofs.Common.{◌≡◌, [], ◌++◌, ap, subst, sym, ◌∙◌}
 use Rattle.std.specs.Arc.{arc_value}
 use Rattle.mcs_core.specs.Clock.{schedule}
 use Rattle.mcs_system.specs.System.{System}
 use Rattle.mcs_system.specs.WellFormed.{IsWellFormed}
 use Rattle.mcs_ticks.specs.Given.{Given}
-use Rattle.mcs_verdict.specs.Findings.{found_at_end, found_in, past_of}
+use Rattle.mcs_verdict.specs.Findings.{all_at_end, found_in, past_of}
 use Rattle.mcs_verdict.specs.Watch.{watch_of}
 use Rattle.mcs_verdict.specs.laws.Given.{FindsRow}
 use Rattle.example_verdict.proofs.run.verdict.Goals as goal
@@ -28,4 +28,4 @@ returns-in-Ok-append g c =
     let unended = c.in-Ok-find_unended.ensures (past_of [] rows) seen order.1 in
     c.in-Ok-append.ensures.items
     ∙ ap (λ xs. xs ++ c.in-Ok-find_unended.unended.items) (found.1 ∙ ap (λ xs. xs ++ found_in system [] rows) c.in-Ok.ensures.found)
-    ∙ ap (λ xs. found_in system [] rows ++ xs) (unended ∙ ap (λ (s : System). found_at_end s (past_of [] rows) horizon 0 s.threads) c.deref-3.ensures)
+    ∙ ap (λ xs. found_in system [] rows ++ xs) (unended ∙ ap (λ (s : System). all_at_end s (past_of [] rows) horizon) c.deref-3.ensures)
