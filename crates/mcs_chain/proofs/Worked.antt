@@ -74,9 +74,9 @@ two_cores =
 abbrev over_two_cores : List Row
 over_two_cores =
     at 0 0 (row.Release 0) ∷ at 0 0 (row.Run 0) ∷ at 0 1 (row.Release 1) ∷ at 0 1 (row.Run 1) ∷ at 1 0 (row.Stop 0 why.Wait 1 None)
-    ∷ at 1 1 (row.Stop 1 why.Wait 1 None) ∷ at 3 0 (row.Interrupt 0 0 1) ∷ at 3 0 (row.Wake 0 0 1) ∷ at 3 0 (row.Run 0)
+    ∷ at 1 1 (row.Stop 1 why.Wait 1 None) ∷ at 3 0 (row.Interrupt 0 0 1) ∷ at 3 0 (row.Wake 0 0 1 None) ∷ at 3 0 (row.Run 0)
     ∷ at 6 0 (row.Signal 0 1 1) ∷ at 6 0 (row.Round 0 1 3) ∷ at 7 0 (row.Stop 0 why.Wait 4 None) ∷ at 8 1 (row.Arrive 1 1 0)
-    ∷ at 8 1 (row.Wake 1 1 1) ∷ at 8 1 (row.Run 1) ∷ at 12 1 (row.Round 1 1 4) ∷ at 13 1 (row.Stop 1 why.Wait 5 None) ∷ []
+    ∷ at 8 1 (row.Wake 1 1 1 None) ∷ at 8 1 (row.Run 1) ∷ at 12 1 (row.Round 1 1 4) ∷ at 13 1 (row.Stop 1 why.Wait 5 None) ∷ []
 
 nine_ticks : latencies two_cores (chain 0 1 0 8) (latest_first [] over_two_cores) ≡ 9 ∷ []
 nine_ticks = refl
@@ -91,8 +91,8 @@ three_ticks = refl
 abbrev before_the_answer : List Row
 before_the_answer =
     latest_first []
-    (at 3 0 (row.Interrupt 0 0 1) ∷ at 3 0 (row.Wake 0 0 1) ∷ at 6 0 (row.Signal 0 1 1) ∷ at 6 0 (row.Round 0 1 3)
-    ∷ at 8 1 (row.Arrive 1 1 0) ∷ at 8 1 (row.Wake 1 1 1) ∷ [])
+    (at 3 0 (row.Interrupt 0 0 1) ∷ at 3 0 (row.Wake 0 0 1 None) ∷ at 6 0 (row.Signal 0 1 1) ∷ at 6 0 (row.Round 0 1 3)
+    ∷ at 8 1 (row.Arrive 1 1 0) ∷ at 8 1 (row.Wake 1 1 1 None) ∷ [])
 
 -- one tick more than the deadline allows; an answer at the deadline itself is not slow
 answers_late : slow two_cores (chain 0 1 0 8) before_the_answer (at 12 1 (row.Round 1 1 4)) ≡ Some (Slow 9 8 3)
@@ -107,7 +107,7 @@ answers_one = refl
 -- of two chains only that of the driver is answered at 6, where it ends its first round
 answers_of_the_driver :
     answers_at two_cores
-    (latest_first [] (at 3 0 (row.Interrupt 0 0 1) ∷ at 3 0 (row.Wake 0 0 1) ∷ at 6 0 (row.Signal 0 1 1) ∷ []))
+    (latest_first [] (at 3 0 (row.Interrupt 0 0 1) ∷ at 3 0 (row.Wake 0 0 1 None) ∷ at 6 0 (row.Signal 0 1 1) ∷ []))
     (at 6 0 (row.Round 0 1 3)) 0 (chain 0 1 0 8 ∷ chain 0 0 0 0 ∷ [])
     ≡ answer 6 0 1 0 1 3 3 0 ∷ []
 answers_of_the_driver = refl
@@ -128,9 +128,9 @@ abbrev handled : List Row
 handled =
     latest_first []
     (at 0 0 (row.Release 0) ∷ at 0 0 (row.Run 0) ∷ at 1 0 (row.Stop 0 why.Wait 1 None) ∷ at 2 0 (row.Interrupt 0 0 1)
-    ∷ at 2 0 (row.Wake 0 0 1) ∷ at 2 0 (row.Interrupt 1 0 2) ∷ at 2 0 (row.Hold 0 2) ∷ at 2 0 (row.Run 0) ∷ at 4 0 (row.Round 0 1 2)
+    ∷ at 2 0 (row.Wake 0 0 1 None) ∷ at 2 0 (row.Interrupt 1 0 2) ∷ at 2 0 (row.Hold 0 2) ∷ at 2 0 (row.Run 0) ∷ at 4 0 (row.Round 0 1 2)
     ∷ at 5 0 (row.Got 0 0 2) ∷ at 8 0 (row.Round 0 2 3) ∷ at 9 0 (row.Stop 0 why.Wait 7 None) ∷ at 12 0 (row.Interrupt 0 0 1)
-    ∷ at 12 0 (row.Wake 0 0 1) ∷ at 12 0 (row.Run 0) ∷ [])
+    ∷ at 12 0 (row.Wake 0 0 1 None) ∷ at 12 0 (row.Run 0) ∷ [])
 
 first_source : latencies handlers (chain 0 0 0 0) handled ≡ 2 ∷ []
 first_source = refl
@@ -155,7 +155,7 @@ one_loop = system (context 0 ∷ []) (note 0 ∷ []) (thread 0 (Wait 0 ∷ Compu
 abbrev overload : List Row
 overload =
     latest_first []
-    (at 2 0 (row.Interrupt 0 0 1) ∷ at 2 0 (row.Wake 0 0 1) ∷ at 12 0 (row.Interrupt 0 0 1) ∷ at 12 0 (row.Hold 0 1)
+    (at 2 0 (row.Interrupt 0 0 1) ∷ at 2 0 (row.Wake 0 0 1 None) ∷ at 12 0 (row.Interrupt 0 0 1) ∷ at 12 0 (row.Hold 0 1)
     ∷ at 22 0 (row.Interrupt 0 0 1) ∷ at 22 0 (row.Hold 0 1) ∷ at 22 0 (row.Round 0 1 20) ∷ at 23 0 (row.Got 0 0 1)
     ∷ at 32 0 (row.Interrupt 0 0 1) ∷ at 32 0 (row.Hold 0 1) ∷ at 43 0 (row.Round 0 2 20) ∷ [])
 
@@ -201,8 +201,8 @@ signals_twice =
 abbrev answered_twice : List Row
 answered_twice =
     latest_first []
-    (at 2 0 (row.Interrupt 0 0 1) ∷ at 2 0 (row.Wake 0 0 1) ∷ at 3 0 (row.Signal 0 1 1) ∷ at 3 0 (row.Wake 1 1 1) ∷ at 4 0 (row.Round 1 1 1)
-    ∷ at 10 0 (row.Signal 0 1 1) ∷ at 10 0 (row.Wake 1 1 1) ∷ at 10 0 (row.Round 0 1 8) ∷ at 11 0 (row.Round 1 2 1) ∷ [])
+    (at 2 0 (row.Interrupt 0 0 1) ∷ at 2 0 (row.Wake 0 0 1 None) ∷ at 3 0 (row.Signal 0 1 1) ∷ at 3 0 (row.Wake 1 1 1 None) ∷ at 4 0 (row.Round 1 1 1)
+    ∷ at 10 0 (row.Signal 0 1 1) ∷ at 10 0 (row.Wake 1 1 1 None) ∷ at 10 0 (row.Round 0 1 8) ∷ at 11 0 (row.Round 1 2 1) ∷ [])
 
 first_answer : latencies signals_twice (chain 0 1 0 0) answered_twice ≡ 2 ∷ []
 first_answer = refl
@@ -211,7 +211,7 @@ first_answer = refl
 abbrev nobodys : List Row
 nobodys =
     latest_first []
-    (at 2 0 (row.Interrupt 0 0 4) ∷ at 2 0 (row.Wake 0 0 4) ∷ at 3 0 (row.Interrupt 1 0 1) ∷ at 3 0 (row.Hold 0 1)
+    (at 2 0 (row.Interrupt 0 0 4) ∷ at 2 0 (row.Wake 0 0 4 None) ∷ at 3 0 (row.Interrupt 1 0 1) ∷ at 3 0 (row.Hold 0 1)
     ∷ at 4 0 (row.Interrupt 0 0 4) ∷ at 4 0 (row.Hold 0 5) ∷ at 5 0 (row.Got 0 0 5) ∷ at 7 0 (row.Round 0 1 2) ∷ [])
 
 no_answer : latencies handlers (chain 0 0 0 0) nobodys ≡ []
@@ -231,7 +231,7 @@ abbrev both_ways : List Row
 both_ways =
     latest_first []
     (at 2 0 (row.Interrupt 0 0 1) ∷ at 2 0 (row.Hold 0 1) ∷ at 3 0 (row.Interrupt 1 0 2) ∷ at 3 0 (row.Hold 0 3) ∷ at 4 0 (row.Got 0 0 3)
-    ∷ at 5 0 (row.Signal 0 1 1) ∷ at 5 0 (row.Wake 1 1 1) ∷ at 6 0 (row.Signal 0 2 1) ∷ at 6 0 (row.Wake 2 2 1) ∷ at 6 0 (row.Round 0 1 2)
+    ∷ at 5 0 (row.Signal 0 1 1) ∷ at 5 0 (row.Wake 1 1 1 None) ∷ at 6 0 (row.Signal 0 2 1) ∷ at 6 0 (row.Wake 2 2 1 None) ∷ at 6 0 (row.Round 0 1 2)
     ∷ at 7 0 (row.Round 1 1 1) ∷ at 8 0 (row.Round 2 1 1) ∷ [])
 
 first_way : latencies two_ways (chain 0 1 0 0) both_ways ≡ 5 ∷ []
@@ -254,7 +254,7 @@ abbrev waited_later : List Row
 waited_later =
     latest_first []
     (at 1 0 (row.Hold 0 3) ∷ at 2 0 (row.Got 0 0 3) ∷ at 3 0 (row.Interrupt 0 1 1) ∷ at 3 0 (row.Hold 1 1) ∷ at 4 0 (row.Got 0 1 1)
-    ∷ at 6 0 (row.Signal 0 2 1) ∷ at 6 0 (row.Wake 1 2 1) ∷ at 6 0 (row.Round 0 1 4) ∷ at 8 0 (row.Round 1 1 1) ∷ [])
+    ∷ at 6 0 (row.Signal 0 2 1) ∷ at 6 0 (row.Wake 1 2 1 None) ∷ at 6 0 (row.Round 0 1 4) ∷ at 8 0 (row.Round 1 1 1) ∷ [])
 
 handler_has_it : latencies later_wait (chain 0 0 1 0) waited_later ≡ 3 ∷ []
 handler_has_it = refl
@@ -276,7 +276,7 @@ goes_on :
     latencies in_the_middle (chain 0 1 0 0)
     (latest_first []
     (at 1 0 (row.Hold 0 1) ∷ at 2 0 (row.Got 0 0 1) ∷ at 3 0 (row.Signal 0 1 1) ∷ at 3 0 (row.Round 0 1 3) ∷ at 3 0 (row.Interrupt 0 0 1)
-    ∷ at 3 0 (row.Hold 0 1) ∷ at 5 0 (row.Got 0 0 1) ∷ at 5 1 (row.Arrive 1 1 0) ∷ at 5 1 (row.Wake 1 1 1) ∷ at 6 0 (row.Signal 0 1 1)
-    ∷ at 6 0 (row.Round 0 2 3) ∷ at 6 1 (row.Round 1 1 1) ∷ at 8 1 (row.Arrive 1 1 0) ∷ at 8 1 (row.Wake 1 1 1) ∷ at 9 1 (row.Round 1 2 1) ∷ []))
+    ∷ at 3 0 (row.Hold 0 1) ∷ at 5 0 (row.Got 0 0 1) ∷ at 5 1 (row.Arrive 1 1 0) ∷ at 5 1 (row.Wake 1 1 1 None) ∷ at 6 0 (row.Signal 0 1 1)
+    ∷ at 6 0 (row.Round 0 2 3) ∷ at 6 1 (row.Round 1 1 1) ∷ at 8 1 (row.Arrive 1 1 0) ∷ at 8 1 (row.Wake 1 1 1 None) ∷ at 9 1 (row.Round 1 2 1) ∷ []))
     ≡ 6 ∷ []
 goes_on = refl

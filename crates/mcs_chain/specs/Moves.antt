@@ -52,7 +52,7 @@ moves_by system all r (row.Signal thread note badge) =
     gives system r thread note badge (step_of (thread_part system thread) (gone_of all thread))
 moves_by system all r (row.Arrive note badge maker) = Land maker (r.moment - delay_between system maker r.core)
 moves_by system all r (row.Hold note word) = Hold note
-moves_by system all r (row.Wake thread note word) =
+moves_by system all r (row.Wake thread note word until) =
     let part = thread_part system thread in
     Wake thread (taking part (step_of part (gone_of all thread)) (gone_of all thread))
 moves_by system all r (row.Got thread note word) =

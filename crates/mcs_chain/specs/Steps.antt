@@ -64,7 +64,7 @@ is_given part step word gone = record (goes_behind step gone) { word = if is_fir
 -- a row of this thread
 abbrev pub goes_by : ThreadPart → What → Gone → Gone
 goes_by part (row.Signal x note badge) gone = goes_behind (step_of part gone) gone
-goes_by part (row.Wake x note word) gone = is_given part (step_of part gone) word gone
+goes_by part (row.Wake x note word until) gone = is_given part (step_of part gone) word gone
 goes_by part (row.Got x note word) gone = is_given part (step_of part gone) word gone
 goes_by part (row.Round x number response) gone = fresh
 goes_by part _ gone = gone
@@ -72,7 +72,7 @@ goes_by part _ gone = gone
 -- the thread of a row that posts, takes or ends a round
 abbrev pub goer : What → Option ℕ
 goer (row.Signal x note badge) = Some x
-goer (row.Wake x note word) = Some x
+goer (row.Wake x note word until) = Some x
 goer (row.Got x note word) = Some x
 goer (row.Round x number response) = Some x
 goer _ = None

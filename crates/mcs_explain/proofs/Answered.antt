@@ -111,9 +111,9 @@ two_cores =
     }
 
 way : why_text format.Text two_cores 12 (codes "packet", codes "1")
-    ≡ codes "12 1 answer packet round 1 origin 3 latency 9 deadline 7\n3 0 ran D to 6 ticks 3 ready 0 running 3 throttled 0 blocked 0\n"
-    ++ codes "6 0 delay core 1 to 8 ticks 2\n8 1 ran C to 12 ticks 4 ready 0 running 4 throttled 0 blocked 0\n"
-    ++ codes "sum ticks 9 held 0 delay 2 ready 0 running 7 throttled 0 blocked 0\n"
+    ≡ codes "12 1 answer packet round 1 origin 3 latency 9 deadline 7\n3 0 ran D to 6 ticks 3 ready 0 running 3 throttled 0 blocked 0 server 0\n"
+    ++ codes "6 0 delay core 1 to 8 ticks 2\n8 1 ran C to 12 ticks 4 ready 0 running 4 throttled 0 blocked 0 server 0\n"
+    ++ codes "sum ticks 9 held 0 delay 2 ready 0 running 7 throttled 0 blocked 0 server 0\n"
 unfolding two_cores digits
 way = refl
 

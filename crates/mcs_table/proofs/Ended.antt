@@ -94,8 +94,8 @@ same_row system horizon k m core (row.Signal x note badge) past differs =
     same_with system horizon k (row_at m core (row.Signal x note badge)) past refl (λ d. refl)
 same_row system horizon k m core (row.Arrive note badge maker) past differs =
     same_with system horizon k (row_at m core (row.Arrive note badge maker)) past refl (λ d. refl)
-same_row system horizon k m core (row.Wake x note word) past differs =
-    same_with system horizon k (row_at m core (row.Wake x note word)) past refl (λ d. refl)
+same_row system horizon k m core (row.Wake x note word until) past differs =
+    same_with system horizon k (row_at m core (row.Wake x note word until)) past refl (λ d. refl)
 same_row system horizon k m core (row.Hold note word) past differs =
     same_with system horizon k (row_at m core (row.Hold note word)) past refl (λ d. refl)
 same_row system horizon k m core (row.Got x note word) past differs =
@@ -255,7 +255,7 @@ no_job system m past (row.Run x) differs = refl
 no_job system m past (row.Stop x cause charged until) differs = refl
 no_job system m past (row.Signal x note badge) differs = refl
 no_job system m past (row.Arrive note badge maker) differs = refl
-no_job system m past (row.Wake x note word) differs = refl
+no_job system m past (row.Wake x note word until) differs = refl
 no_job system m past (row.Hold note word) differs = refl
 no_job system m past (row.Got x note word) differs = refl
 no_job system m past (row.Round x number response) differs = absurd (differs x number response refl)
@@ -277,7 +277,7 @@ none_told system horizon m core (row.Signal x note badge) past e k has =
     same_row system horizon k m core (row.Signal x note badge) past (λ a b c e. cc)
 none_told system horizon m core (row.Arrive note badge maker) past e k has =
     same_row system horizon k m core (row.Arrive note badge maker) past (λ a b c e. cc)
-none_told system horizon m core (row.Wake x note word) past e k has = same_row system horizon k m core (row.Wake x note word) past (λ a b c e. cc)
+none_told system horizon m core (row.Wake x note word until) past e k has = same_row system horizon k m core (row.Wake x note word until) past (λ a b c e. cc)
 none_told system horizon m core (row.Hold note word) past e k has = same_row system horizon k m core (row.Hold note word) past (λ a b c e. cc)
 none_told system horizon m core (row.Got x note word) past e k has = same_row system horizon k m core (row.Got x note word) past (λ a b c e. cc)
 none_told system horizon m core (row.Order context) past e k has = same_row system horizon k m core (row.Order context) past (λ a b c e. cc)

@@ -13,6 +13,7 @@ use Rattle.mcs_verdict.specs.declared.job.Job.{Job}
 use Rattle.mcs_verdict.specs.Findings.{UpTo}
 use Rattle.mcs_verdict.specs.Jobs.{job, job_of}
 use Rattle.mcs_verdict.specs.Misses.{is_above}
+use Rattle.mcs_verdict.proofs.Orders.{up_to-later}
 use Rattle.mcs_table.specs.declared.figures.Rounds.{Rounds}
 use Rattle.mcs_ticks.specs.Capped.{capped}
 use Rattle.mcs_table.specs.Rounds.{jobs_of, responses_of, greatest, missed_in, is_late, late_in}
@@ -26,7 +27,7 @@ within system m past (row.Run x) found e = absurd (cc)
 within system m past (row.Stop x cause charged until) found e = absurd (cc)
 within system m past (row.Signal x note badge) found e = absurd (cc)
 within system m past (row.Arrive note badge maker) found e = absurd (cc)
-within system m past (row.Wake x note word) found e = absurd (cc)
+within system m past (row.Wake x note word until) found e = absurd (cc)
 within system m past (row.Hold note word) found e = absurd (cc)
 within system m past (row.Got x note word) found e = absurd (cc)
 within system m past (row.Order context) found e = absurd (cc)
@@ -40,7 +41,7 @@ all_within : (system : System) (horizon thread : ℕ) (past : List Row) → UpTo
     → All (λ (n : ℕ). n ≤ horizon) (responses_of system thread past)
 all_within system horizon thread [] up = λ k d h. absurd (omega arith)
 all_within system horizon thread (r ∷ past) up =
-    by (job_of system past r.moment r.what) refl (all_within system horizon thread past up.1)
+    by (job_of system past r.moment r.what) refl (all_within system horizon thread past (up_to-later r.moment horizon past up.0 up.1))
   where
     one : (found : Job) (b : Bool) → found.response ≤ horizon → All (λ (n : ℕ). n ≤ horizon) (responses_of system thread past)
         → All (λ (n : ℕ). n ≤ horizon) (map (λ (job : Job). job.response) (cond b (found ∷ []) [] ++ jobs_of system thread past))

@@ -50,7 +50,7 @@ ran_all horizon context n ran past parts rest e small h =
 
 -- a thread runs in no more ticks than there are
 pub running-le : (thread : ℕ) (past : List Row) (horizon : ℕ) → (stood_in thread past 0 horizon).running ≤ horizon
-running-le thread past horizon = let all = all-stood_for None (telling thread past) 0 (horizon - 0) in omega (arith, all)
+running-le thread past horizon = let all = all-stood_for (telling thread past) 0 (horizon - 0) in omega (arith, all)
 
 -- the account of a thread
 pub read_account : (system : System) (horizon y thread : ℕ) (accounts : List Account) (past : List Row) (read : Account)

@@ -203,7 +203,7 @@ all_figures :
       deadline = 8;
       margin = Some (Left 5);
       signals = None;
-      stood = record { pending = 0; ready = 0; running = 6; throttled = 14; blocked = 0; woken = 0; done = 0 };
+      stood = record { pending = 0; ready = 0; running = 6; throttled = 14; blocked = 0; server = 0; done = 0 };
     }
 unfolding doublings
 all_figures = refl
@@ -219,6 +219,6 @@ no_figures :
       deadline = 0;
       margin = None;
       signals = Some (record { lost = 0; merged = 0 });
-      stood = record { pending = 20; ready = 0; running = 0; throttled = 0; blocked = 0; woken = 0; done = 0 };
+      stood = record { pending = 20; ready = 0; running = 0; throttled = 0; blocked = 0; server = 0; done = 0 };
     }
 no_figures = refl

@@ -23,16 +23,16 @@ chain = [{ name = "c", source = "s", thread = "L", deadline = 20 }]
 
 const FIRST_WAY: &str = "\
 22 0 answer c round 1 origin 2 latency 20 deadline 20
-2 0 ran L to 22 ticks 20 ready 0 running 20 throttled 0 blocked 0
-sum ticks 20 held 0 delay 0 ready 0 running 20 throttled 0 blocked 0
+2 0 ran L to 22 ticks 20 ready 0 running 20 throttled 0 blocked 0 server 0
+sum ticks 20 held 0 delay 0 ready 0 running 20 throttled 0 blocked 0 server 0
 ";
 
 /// The notification holds the interrupt until L waits again.
 const THIRD_WAY: &str = "\
 43 0 answer c round 2 origin 22 latency 21 deadline 20
 22 0 held n to 23 ticks 1
-23 0 ran L to 43 ticks 20 ready 0 running 20 throttled 0 blocked 0
-sum ticks 21 held 1 delay 0 ready 0 running 20 throttled 0 blocked 0
+23 0 ran L to 43 ticks 20 ready 0 running 20 throttled 0 blocked 0 server 0
+sum ticks 21 held 1 delay 0 ready 0 running 20 throttled 0 blocked 0 server 0
 ";
 
 const LONG: &str = "aaaaaaaaaaaaaaaaaaaaaaaaaaaaaaaaaaaaaaaaaaaaaaaaaaaaaaaaaaaaaaaaa";

@@ -1,9 +1,7 @@
 -- One more answer is counted.
-use Rattle.std.proofs.Common.{◌≡◌, ◌∙◌, ℕ, zero, suc, ◌+◌, ◌-◌, ◌⊎◌, inl, inr, List, [], ◌∷◌, ◌++◌, length, Some, None, refl, sym, ap, arith}
-use Rattle.std.specs.Prelude.{if◌then◌else◌, slice_get}
-use Rattle.std.proofs.lemmas.Bool.{cases_eq, eq-eqb, ne_eqb}
+use Rattle.std.proofs.Common.{◌≡◌, ℕ, zero, suc, List, [], ◌∷◌, ◌++◌, length, Some, refl, arith}
+use Rattle.std.specs.Prelude.{slice_get}
 use Rattle.mcs_chain.specs.declared.answer.Answer.{Answer}
-use Rattle.mcs_way.specs.Sought.{numbered}
 
 get-last : (answers : List Answer) (a : Answer) (i : ℕ) → i ≡ length answers → slice_get (answers ++ a ∷ []) i ≡ Some a
 get-last [] a zero e = refl

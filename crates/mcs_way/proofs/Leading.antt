@@ -72,7 +72,7 @@ SplitsTo moment stood (Some trace) = all_ticks stood ≡ moment - trace.since
 
 splits : (thread : ℕ) (past : List Row) (moment : ℕ) (spot : Option Trace) → SplitsTo moment (stood_since thread past moment (since_of spot)) spot
 splits thread past moment None = tt
-splits thread past moment (Some trace) = all-stood_for None (telling thread past) trace.since (moment - trace.since)
+splits thread past moment (Some trace) = all-stood_for (telling thread past) trace.since (moment - trace.since)
 
 left-led : (origin now moment places : ℕ) (carrier : Carrier) (trace : Trace) → IsLed origin now trace → now ≤ moment
     → IsSplit carrier (moment - trace.since) → IsLed origin moment (left carrier moment places trace)
@@ -338,7 +338,7 @@ row-splits system all past r c (row.Round x number response) = splits x past r.m
 row-splits system all past r c (row.Release x) = tt
 row-splits system all past r c (row.Run x) = tt
 row-splits system all past r c (row.Stop x cause charged until) = tt
-row-splits system all past r c (row.Wake x note word) = tt
+row-splits system all past r c (row.Wake x note word until) = tt
 row-splits system all past r c (row.Got x note word) = tt
 row-splits system all past r c (row.Arrive note badge maker) = tt
 row-splits system all past r c (row.Hold note word) = tt

@@ -91,8 +91,8 @@ pub carried-next : (system : System) (aim : Aim) (all : List Gone) (r : Row) (st
 carried-next system aim all r stood c (row.Release x) thread e = stay-next r.moment thread c.carried
 carried-next system aim all r stood c (row.Run x) thread e = stay-next r.moment thread c.carried
 carried-next system aim all r stood c (row.Stop x cause charged until) thread e = stay-next r.moment thread c.carried
-carried-next system aim all r stood c (row.Wake x note word) thread e =
-    subst (λ t. AreNext t r.moment c.carried (moved aim r stood (moves_by system all r (row.Wake x note word)) c).carried) (some-is x thread e)
+carried-next system aim all r stood c (row.Wake x note word until) thread e =
+    subst (λ t. AreNext t r.moment c.carried (moved aim r stood (moves_by system all r (row.Wake x note word until)) c).carried) (some-is x thread e)
     (come-next r.moment x (taken _ _ r.moment c.posted) c.carried (taken-new _ _ r.moment c.posted))
 carried-next system aim all r stood c (row.Got x note word) thread e =
     subst (λ t. AreNext t r.moment c.carried (moved aim r stood (moves_by system all r (row.Got x note word)) c).carried) (some-is x thread e)
@@ -125,6 +125,6 @@ carried-same system aim all r stood c (row.Interrupt source note badge) e = eith
 carried-same system aim all r stood c (row.Release x) e = absurd (cc)
 carried-same system aim all r stood c (row.Run x) e = absurd (cc)
 carried-same system aim all r stood c (row.Stop x cause charged until) e = absurd (cc)
-carried-same system aim all r stood c (row.Wake x note word) e = absurd (cc)
+carried-same system aim all r stood c (row.Wake x note word until) e = absurd (cc)
 carried-same system aim all r stood c (row.Got x note word) e = absurd (cc)
 carried-same system aim all r stood c (row.Round x number response) e = absurd (cc)

@@ -6,46 +6,44 @@ use Rattle.std.proofs.lemmas.List.{ext_get_or, length-set, get_or-set_same, get_
 use Rattle.mcs_ticks.specs.declared.row.Row.{Row}
 use Rattle.mcs_ticks.specs.declared.row.What.{What}
 use Rattle.mcs_ticks.specs.declared.row.What.TheVariants as row
-use Rattle.mcs_verdict.specs.Standing.{tells, telling, settled}
-use Rattle.mcs_verdict.specs.Stood.{no_ticks, all_ticks, stood_for}
+use Rattle.mcs_verdict.specs.Standing.{tells, telling}
+use Rattle.mcs_verdict.specs.Stood.{all_ticks, stood_for}
 use Rattle.mcs_verdict.specs.Findings.{UpTo}
-use Rattle.mcs_verdict.specs.Account.{standing_of, since_of, stood_of, subject}
-use Rattle.mcs_verdict.proofs.Accounts.{none_yet, unsettled}
+use Rattle.mcs_verdict.specs.Account.{since_of, stood_of, subject}
 use Rattle.mcs_verdict.proofs.Stretches.{stretch, stretch_pending}
-use Rattle.mcs_verdict.proofs.Watches.{since-up_to, all-stood_of}
+use Rattle.mcs_verdict.proofs.Orders.{since-up_to}
+use Rattle.mcs_verdict.proofs.Watches.{all-stood_of}
 use Rattle.mcs_way.specs.declared.stance.Stance.{Stance}
 use Rattle.mcs_way.specs.Trace.{Trace, since_of as since_at}
-use Rattle.mcs_way.specs.Stances.{stood_since, stance_of, stances_of, passed, IsNext, AreNext}
+use Rattle.mcs_way.specs.Stances.{stood_since, stance_of, stances_of, passed, AreNext}
 
 -- no more ticks are counted than have passed
 pub stance-small : (from : Option ℕ) (m : ℕ) (rows : List Row) → since_of rows ≤ m → m ≤ 2 ^ 42 → all_ticks (stance_of from rows).stood + m < 2 ^ 64
 stance-small from m rows h small = omega (arith, all-stood_of from rows)
 
 -- a stance is enough to say how the thread stood up to some time
-passed-from : (from m : ℕ) (next : Option What) (rows : List Row) → since_of rows ≤ m
-    → passed (settled next (standing_of rows)) m (Some from) (stance_of (Some from) rows) ≡ stood_for next rows from (m - from)
-passed-from from m next [] h = grind (arith, stretch_pending next from (m - from))
-passed-from from m next (r ∷ rows) h = sym (stretch next r rows from m h)
+passed-from : (from m : ℕ) (rows : List Row) → since_of rows ≤ m
+    → passed m (Some from) (stance_of (Some from) rows) ≡ stood_for rows from (m - from)
+passed-from from m [] h = grind (arith, stretch_pending from (m - from))
+passed-from from m (r ∷ rows) h = sym (stretch r rows from m h)
 
 pub stood-now : (thread m : ℕ) (from : Option ℕ) (past : List Row) → UpTo m past
-    → passed (standing_of (telling thread past)) m from (stance_of from (telling thread past)) ≡ stood_since thread past m from
+    → passed m from (stance_of from (telling thread past)) ≡ stood_since thread past m from
 stood-now thread m None past up = refl
-stood-now thread m (Some from) past up =
-    let rows = telling thread past in
-    cc (unsettled (standing_of rows), passed-from from m None rows (since-up_to thread m past up))
+stood-now thread m (Some from) past up = passed-from from m (telling thread past) (since-up_to thread m past up)
 
 -- a telling row
 pub stance-told : (from : Option ℕ) (r : Row) (rows : List Row) → since_of rows ≤ r.moment
-    → passed (settled (Some r.what) (standing_of rows)) r.moment from (stance_of from rows) ≡ stood_of from (r ∷ rows)
+    → passed r.moment from (stance_of from rows) ≡ stood_of from (r ∷ rows)
 stance-told None r rows h = refl
-stance-told (Some from) r rows h = passed-from from r.moment (Some r.what) rows h
+stance-told (Some from) r rows h = passed-from from r.moment rows h
 
 -- whether a row decides how a thread stands
 tells-by : (what : What) (x k : ℕ) → subject what ≡ Some x → (x ≡ k → ⊥) → tells k what ≡ false
 tells-by (row.Release y) x k e differ = ne_eqb y k (λ h. differ (cc))
 tells-by (row.Run y) x k e differ = ne_eqb y k (λ h. differ (cc))
 tells-by (row.Stop y cause charged until) x k e differ = ne_eqb y k (λ h. differ (cc))
-tells-by (row.Wake y note word) x k e differ = ne_eqb y k (λ h. differ (cc))
+tells-by (row.Wake y note word until) x k e differ = ne_eqb y k (λ h. differ (cc))
 tells-by (row.Got y note word) x k e differ = refl
 tells-by (row.Round y number response) x k e differ = refl
 tells-by (row.Signal y note badge) x k e differ = refl
@@ -58,7 +56,7 @@ tells-none : (what : What) (k : ℕ) → subject what ≡ None → tells k what 
 tells-none (row.Release y) k e = absurd (cc)
 tells-none (row.Run y) k e = absurd (cc)
 tells-none (row.Stop y cause charged until) k e = absurd (cc)
-tells-none (row.Wake y note word) k e = absurd (cc)
+tells-none (row.Wake y note word until) k e = absurd (cc)
 tells-none (row.Got y note word) k e = refl
 tells-none (row.Round y number response) k e = refl
 tells-none (row.Signal y note badge) k e = refl

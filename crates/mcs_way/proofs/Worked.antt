@@ -1,5 +1,5 @@
 -- Ways that were worked by hand, of the rows of small systems.
-use Rattle.std.specs.Prelude.{◌≡◌, ℕ, List, [], ◌∷◌, get_or, None, refl}
+use Rattle.std.specs.Prelude.{◌≡◌, ℕ, List, [], ◌∷◌, get_or, Some, None, refl}
 use Rattle.mcs_ticks.specs.declared.row.Row.{Row}
 use Rattle.mcs_ticks.specs.declared.row.What.{What}
 use Rattle.mcs_ticks.specs.declared.row.What.TheVariants as row
@@ -73,7 +73,7 @@ answer moment core n thread number origin latency =
 -- how long a thread was ready, running and throttled
 abbrev stood : ℕ → ℕ → ℕ → Stood
 stood ready running throttled =
-    record { pending = 0; ready = ready; running = running; throttled = throttled; blocked = 0; woken = 0; done = 0 }
+    record { pending = 0; ready = ready; running = running; throttled = throttled; blocked = 0; server = 0; done = 0 }
 
 abbrev leg : ℕ → Carrier → ℕ → Leg
 leg from carrier to = record { carrier = carrier; from = from; to = to }
@@ -88,7 +88,7 @@ abbrev handled : List Row
 handled =
     latest_first []
     (at 0 0 (row.Release 0) ∷ at 0 0 (row.Run 0) ∷ at 1 0 (row.Stop 0 why.Wait 1 None) ∷ at 2 0 (row.Interrupt 0 0 1)
-    ∷ at 2 0 (row.Wake 0 0 1) ∷ at 2 0 (row.Interrupt 1 0 2) ∷ at 2 0 (row.Hold 0 2) ∷ at 2 0 (row.Run 0) ∷ at 4 0 (row.Round 0 1 2)
+    ∷ at 2 0 (row.Wake 0 0 1 None) ∷ at 2 0 (row.Interrupt 1 0 2) ∷ at 2 0 (row.Hold 0 2) ∷ at 2 0 (row.Run 0) ∷ at 4 0 (row.Round 0 1 2)
     ∷ at 5 0 (row.Got 0 0 2) ∷ at 8 0 (row.Round 0 2 3) ∷ at 9 0 (row.Stop 0 why.Wait 7 None) ∷ [])
 
 taken_at_once : way_of handlers (answer 4 0 0 0 1 2 2) handled ≡ leg 2 (by.Thread 0 (stood 0 2 0)) 4 ∷ []
@@ -108,9 +108,9 @@ abbrev before_the_answer : List Row
 before_the_answer =
     latest_first []
     (at 0 0 (row.Release 0) ∷ at 0 0 (row.Run 0) ∷ at 0 1 (row.Release 1) ∷ at 0 1 (row.Run 1) ∷ at 1 0 (row.Stop 0 why.Wait 1 None)
-    ∷ at 1 1 (row.Stop 1 why.Wait 1 None) ∷ at 3 0 (row.Interrupt 0 0 1) ∷ at 3 0 (row.Wake 0 0 1) ∷ at 4 0 (row.Run 0)
+    ∷ at 1 1 (row.Stop 1 why.Wait 1 None) ∷ at 3 0 (row.Interrupt 0 0 1) ∷ at 3 0 (row.Wake 0 0 1 None) ∷ at 4 0 (row.Run 0)
     ∷ at 6 0 (row.Signal 0 1 1) ∷ at 6 0 (row.Round 0 1 3) ∷ at 7 0 (row.Stop 0 why.Wait 3 None) ∷ at 8 1 (row.Arrive 1 1 0)
-    ∷ at 8 1 (row.Wake 1 1 1) ∷ at 10 1 (row.Release 1) ∷ at 10 1 (row.Run 1) ∷ [])
+    ∷ at 8 1 (row.Wake 1 1 1 (Some 10)) ∷ at 10 1 (row.Release 1) ∷ at 10 1 (row.Run 1) ∷ [])
 
 with_a_delay : way_of two_cores (answer 12 1 0 1 1 3 9) (at 12 1 (row.Round 1 1 4) ∷ before_the_answer)
     ≡ leg 3 (by.Thread 0 (stood 1 2 0)) 6 ∷ leg 6 (by.Signal 0 1) 8 ∷ leg 8 (by.Thread 1 (stood 0 2 2)) 12 ∷ []
@@ -134,7 +134,7 @@ abbrev signalled_twice : List Row
 signalled_twice =
     latest_first []
     (at 0 0 (row.Release 1) ∷ at 0 0 (row.Release 0) ∷ at 0 0 (row.Run 0) ∷ at 1 0 (row.Stop 0 why.Wait 1 None) ∷ at 2 0 (row.Interrupt 0 0 1)
-    ∷ at 2 0 (row.Wake 0 0 1) ∷ at 2 0 (row.Run 0) ∷ at 3 0 (row.Signal 0 1 1) ∷ at 3 0 (row.Hold 1 1) ∷ at 10 0 (row.Signal 0 1 1)
+    ∷ at 2 0 (row.Wake 0 0 1 None) ∷ at 2 0 (row.Run 0) ∷ at 3 0 (row.Signal 0 1 1) ∷ at 3 0 (row.Hold 1 1) ∷ at 10 0 (row.Signal 0 1 1)
     ∷ at 10 0 (row.Hold 1 1) ∷ at 10 0 (row.Round 0 1 8) ∷ at 10 0 (row.Stop 0 why.Wait 8 None) ∷ at 10 0 (row.Run 1) ∷ at 11 0 (row.Got 1 1 1)
     ∷ at 12 0 (row.Round 1 1 1) ∷ [])
 
@@ -152,8 +152,8 @@ two_branches =
 abbrev both_signalled : List Row
 both_signalled =
     latest_first []
-    (at 2 0 (row.Interrupt 0 0 1) ∷ at 2 0 (row.Wake 0 0 1) ∷ at 2 0 (row.Run 0) ∷ at 3 0 (row.Signal 0 2 4) ∷ at 3 0 (row.Wake 2 2 4)
-    ∷ at 4 0 (row.Signal 0 1 1) ∷ at 4 0 (row.Wake 1 1 1) ∷ at 4 0 (row.Round 0 1 2) ∷ at 5 0 (row.Stop 0 why.Wait 3 None)
+    (at 2 0 (row.Interrupt 0 0 1) ∷ at 2 0 (row.Wake 0 0 1 None) ∷ at 2 0 (row.Run 0) ∷ at 3 0 (row.Signal 0 2 4) ∷ at 3 0 (row.Wake 2 2 4 None)
+    ∷ at 4 0 (row.Signal 0 1 1) ∷ at 4 0 (row.Wake 1 1 1 None) ∷ at 4 0 (row.Round 0 1 2) ∷ at 5 0 (row.Stop 0 why.Wait 3 None)
     ∷ at 5 0 (row.Run 1) ∷ [])
 
 dropped_here : get_or (course_of two_branches (aim_of two_branches (answer 7 0 0 1 1 2 5)) both_signalled).carried 2 None ≡ None
@@ -170,7 +170,7 @@ one_loop = system (context 0 ∷ []) (note 0 ∷ []) (thread 0 (Wait 0 ∷ Compu
 abbrev overload : List Row
 overload =
     latest_first []
-    (at 2 0 (row.Interrupt 0 0 1) ∷ at 2 0 (row.Wake 0 0 1) ∷ at 12 0 (row.Interrupt 0 0 1) ∷ at 12 0 (row.Hold 0 1)
+    (at 2 0 (row.Interrupt 0 0 1) ∷ at 2 0 (row.Wake 0 0 1 None) ∷ at 12 0 (row.Interrupt 0 0 1) ∷ at 12 0 (row.Hold 0 1)
     ∷ at 22 0 (row.Interrupt 0 0 1) ∷ at 22 0 (row.Hold 0 1) ∷ at 22 0 (row.Round 0 1 20) ∷ at 23 0 (row.Got 0 0 1)
     ∷ at 32 0 (row.Interrupt 0 0 1) ∷ at 32 0 (row.Hold 0 1) ∷ at 43 0 (row.Round 0 2 20) ∷ [])
 

@@ -117,7 +117,7 @@ answers thread way c = record (ends thread c) { way = kept c.way way }
 
 -- the notification from which a row wakes a thread
 abbrev pub note_of : What → ℕ
-note_of (row.Wake x note word) = note
+note_of (row.Wake x note word until) = note
 note_of _ = 0
 
 -- whether a source's interrupt is the origin

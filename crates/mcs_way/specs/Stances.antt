@@ -1,7 +1,6 @@
 -- How each thread stands by the rows so far, the latest first, and how it stood since it has an origin.
 use Rattle.std.specs.Prelude.{ℕ, suc, ◌≡◌, ◌≢◌, ◌-◌, max, List, [], ◌∷◌, get_or, length, Option, Some, None}
 use Rattle.mcs_ticks.specs.declared.row.Row.{Row}
-use Rattle.mcs_verdict.specs.declared.standing.Standing.{Standing}
 use Rattle.mcs_verdict.specs.declared.standing.Stood.{Stood}
 use Rattle.mcs_verdict.specs.Standing.{telling}
 use Rattle.mcs_verdict.specs.Stood.{no_ticks, counted, stood_in}
@@ -23,10 +22,10 @@ abbrev pub stances_of : ℕ → List (Option Trace) → List Row → List Stance
 stances_of n [] past = []
 stances_of n (spot ∷ spots) past = stance_of (since_at spot) (telling n past) ∷ stances_of (suc n) spots past
 
--- how a thread stood up to a moment, if it stood so since its latest telling row
-abbrev pub passed : Standing → ℕ → Option ℕ → Stance → Stood
-passed standing moment None stance = stance.stood
-passed standing moment (Some from) stance = counted standing (moment - max stance.since from) stance.stood
+-- how a thread stood up to a moment, if no row told of it since
+abbrev pub passed : ℕ → Option ℕ → Stance → Stood
+passed moment None stance = stance.stood
+passed moment (Some from) stance = counted stance.standing (moment - max stance.since from) stance.stood
 
 -- The origin stays with the thread, comes to it at this moment, or leaves it. The numbers say since when the thread has it.
 abbrev pub IsNext : ℕ → Option ℕ → Option ℕ → Type 0

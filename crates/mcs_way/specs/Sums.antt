@@ -50,4 +50,5 @@ sums_of legs =
       running = total (λ leg. (stood_in leg).running) legs;
       throttled = total (λ leg. (stood_in leg).throttled) legs;
       blocked = total (λ leg. (stood_in leg).blocked) legs;
+      server = total (λ leg. (stood_in leg).server) legs;
     }

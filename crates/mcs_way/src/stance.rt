@@ -3,14 +3,14 @@ ghost use Rattle.std.specs.Prelude.{◌≡◌, ◌+◌, ◌<◌, ◌≤◌, ◌^
 ghost use Rattle.mcs_ticks.specs.declared.row.Row.{Row as TheRow};
 ghost use Rattle.mcs_verdict.specs.Account.{since_of, subject};
 ghost use Rattle.mcs_verdict.specs.Findings.{UpTo};
-ghost use Rattle.mcs_verdict.specs.Standing.{settled, standing_after, telling, tells};
-ghost use Rattle.mcs_verdict.specs.Stood.{all_ticks, counted, no_ticks};
+ghost use Rattle.mcs_verdict.specs.Standing.{standing_after, telling, tells};
+ghost use Rattle.mcs_verdict.specs.Stood.{all_ticks, no_ticks};
 ghost use Rattle.mcs_way.specs.Stances.{AreNext, IsNext, passed, stance_of, stances_of, stood_since};
 ghost use Rattle.mcs_way.specs.Trace.{Trace as TheTrace, since_of as since_at};
 
 use mcs_system::SystemParts;
-use mcs_ticks::{Limits, NoMemory, Row, ThreadId, Tick, What, Why};
-use mcs_verdict::{Standing, Stood};
+use mcs_ticks::{Limits, NoMemory, Row, ThreadId, Tick, What};
+use mcs_verdict::{Standing, Stood, standing_after};
 use std::alloc::Global;
 
 /// How a thread stands, and how it stood since it has the origin.
@@ -21,63 +21,6 @@ pub(crate) struct Stance {
     since: Tick,
     /// How it stood up to then, since it has the origin.
     stood: Stood,
-}
-
-/// No ticks.
-pub(crate) const NO_TICKS: Stood = Stood {
-    pending: 0,
-    ready: 0,
-    running: 0,
-    throttled: 0,
-    blocked: 0,
-    woken: 0,
-    done: 0,
-};
-
-/// How a thread stands after such a row.
-fn standing_after(what: &What) -> Standing
-    ensures { result ≡ standing_after what.now }
-{
-    match *what {
-        What::Run { .. } => Standing::Running,
-        What::Wake { .. } => Standing::Woken,
-        What::Stop {
-            why: Why::Wait | Why::Call,
-            ..
-        } => Standing::Blocked,
-        What::Stop { why: Why::Done, .. } => Standing::Done,
-        What::Stop { until: Some(_), .. } => Standing::Throttled,
-        _ => Standing::Ready,
-    }
-}
-
-/// How a thread stood before the row `next`, if the latest row left it as `standing`.
-fn settled(next: &What, standing: Standing) -> Standing
-    ensures { result ≡ settled (Some next.now) standing }
-{
-    match standing {
-        Standing::Woken => match *next {
-            What::Release { .. } => Standing::Throttled,
-            What::Run { .. } => Standing::Ready,
-            _ => Standing::Woken,
-        },
-        _ => standing,
-    }
-}
-
-/// Adds ticks. No count wraps if the sum of all of them stays below 2^64.
-fn count(stood: &mut Stood, standing: Standing, ticks: u64)
-    ensures { all_ticks stood.old + ticks < 2 ^ 64 → stood.new ≡ counted standing ticks stood.old }
-{
-    match standing {
-        Standing::Pending => stood.pending = stood.pending.wrapping_add(ticks),
-        Standing::Ready => stood.ready = stood.ready.wrapping_add(ticks),
-        Standing::Running => stood.running = stood.running.wrapping_add(ticks),
-        Standing::Throttled => stood.throttled = stood.throttled.wrapping_add(ticks),
-        Standing::Blocked => stood.blocked = stood.blocked.wrapping_add(ticks),
-        Standing::Woken => stood.woken = stood.woken.wrapping_add(ticks),
-        Standing::Done => stood.done = stood.done.wrapping_add(ticks),
-    }
 }
 
 fn later(a: Tick, b: Tick) -> Tick
@@ -104,19 +47,18 @@ impl Stance {
         Stance {
             standing: Standing::Pending,
             since: Tick::ZERO,
-            stood: NO_TICKS,
+            stood: Stood::new(),
         }
     }
 
-    /// How the thread stood up to `moment`, since it has the origin, if it stood as `standing`
-    /// since its latest telling row.
-    fn passed(&self, standing: Standing, moment: Tick, from: Option<Tick>) -> Stood
-        ensures { all_ticks self.now.stood + moment < 2 ^ 64 → result ≡ passed standing moment from self.now }
+    /// How the thread stood up to `moment`, since it has the origin.
+    fn passed(&self, moment: Tick, from: Option<Tick>) -> Stood
+        ensures { all_ticks self.now.stood + moment < 2 ^ 64 → result ≡ passed moment from self.now }
     {
         let mut stood = self.stood;
         if let Some(from) = from {
             let ticks = moment.get().saturating_sub(later(self.since, from).get());
-            count(&mut stood, standing, ticks);
+            stood.count(self.standing, ticks);
         }
         stood
     }
@@ -128,7 +70,7 @@ impl Stance {
     {
         // Keeps every count below 2^64.
         prove!(moment.get() <= Limits::TICK);
-        self.passed(self.standing, moment, from)
+        self.passed(moment, from)
     }
 
     /// Takes a row that decides how the thread stands from then on.
@@ -138,7 +80,7 @@ impl Stance {
     {
         // Keeps every count below 2^64.
         prove!(row.moment.get() <= Limits::TICK);
-        self.stood = self.passed(settled(&row.what, self.standing), row.moment, from);
+        self.stood = self.passed(row.moment, from);
         self.standing = standing_after(&row.what);
         self.since = row.moment;
     }
@@ -147,7 +89,7 @@ impl Stance {
     fn begin(&mut self)
         ensures { self.new ≡ record self.old { stood = no_ticks } }
     {
-        self.stood = NO_TICKS;
+        self.stood = Stood::new();
     }
 
     /// Takes a row of this thread, which has the origin since then.
@@ -213,7 +155,7 @@ pub(crate) fn stood_of(
     if thread.0 < stances.len() {
         stances[thread.0].stood_at(moment, from)
     } else {
-        NO_TICKS
+        Stood::new()
     }
 }
 

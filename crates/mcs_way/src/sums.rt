@@ -3,7 +3,6 @@ ghost use Rattle.std.specs.Prelude.{◌≡◌, ◌∷◌, [], ◌++◌, List};
 ghost use Rattle.mcs_way.specs.declared.leg.Leg.{Leg as TheLeg};
 ghost use Rattle.mcs_way.specs.Sums.{delay_in, held_in, stood_in, sums_of, ticks_of};
 
-use crate::stance::NO_TICKS;
 use crate::{Carrier, Leg};
 use mcs_verdict::Stood;
 
@@ -20,6 +19,7 @@ pub struct Sums {
     pub running: u64,
     pub throttled: u64,
     pub blocked: u64,
+    pub server: u64,
 }
 
 impl Leg {
@@ -56,7 +56,7 @@ impl Leg {
     {
         match self.carrier {
             Carrier::Thread(_, stood) => stood,
-            _ => NO_TICKS,
+            _ => Stood::new(),
         }
     }
 }
@@ -74,6 +74,7 @@ impl Sums {
             running: 0,
             throttled: 0,
             blocked: 0,
+            server: 0,
         }
     }
 
@@ -89,6 +90,7 @@ impl Sums {
         self.running = self.running.saturating_add(stood.running);
         self.throttled = self.throttled.saturating_add(stood.throttled);
         self.blocked = self.blocked.saturating_add(stood.blocked);
+        self.server = self.server.saturating_add(stood.server);
     }
 }
 

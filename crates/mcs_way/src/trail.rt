@@ -13,7 +13,7 @@ ghost use Rattle.mcs_way.specs.Trail.{aim_of, goes_on, stood_by, trail_of, way_o
 use crate::Leg;
 use crate::aim::Aim;
 use crate::course::Course;
-use crate::stance::{NO_TICKS, Stance, all_new, stand, stood_of, subject};
+use crate::stance::{Stance, all_new, stand, stood_of, subject};
 use mcs_chain::{Answer, Move, Steps};
 use mcs_system::{System, SystemParts};
 use mcs_ticks::{NoMemory, Row, SourceId, ThreadId, What};
@@ -74,7 +74,7 @@ fn stood_by(stances: &[Stance], course: &Course, row: &Row) -> Stood
 {
     match goer(&row.what) {
         Some(thread) => stood_of(stances, thread, row.moment, course.since(thread)),
-        None => NO_TICKS,
+        None => Stood::new(),
     }
 }
 

@@ -38,7 +38,7 @@ system =
     }
 
 abbrev stood : ℕ → ℕ → Stood
-stood ready running = record { pending = 0; ready = ready; running = running; throttled = 0; blocked = 0; woken = 0; done = 0 }
+stood ready running = record { pending = 0; ready = ready; running = running; throttled = 0; blocked = 0; server = 0; done = 0 }
 
 abbrev leg : ℕ → Carrier → ℕ → Leg
 leg from carrier to = record { carrier = carrier; from = from; to = to }
@@ -50,15 +50,15 @@ way =
 
 as_text : way_text system way
     ≡ codes "40 0 held frame to 42 ticks 2\n"
-    ++ codes "42 0 ran Camera to 50 ticks 8 ready 1 running 7 throttled 0 blocked 0\n"
+    ++ codes "42 0 ran Camera to 50 ticks 8 ready 1 running 7 throttled 0 blocked 0 server 0\n"
     ++ codes "50 0 delay core 1 to 53 ticks 3\n"
-    ++ codes "53 1 ran Actuator to 59 ticks 6 ready 0 running 6 throttled 0 blocked 0\n"
-    ++ codes "sum ticks 19 held 2 delay 3 ready 1 running 13 throttled 0 blocked 0\n"
+    ++ codes "53 1 ran Actuator to 59 ticks 6 ready 0 running 6 throttled 0 blocked 0 server 0\n"
+    ++ codes "sum ticks 19 held 2 delay 3 ready 1 running 13 throttled 0 blocked 0 server 0\n"
 unfolding system digits
 as_text = refl
 
 -- no legs
-as_no_text : way_text system [] ≡ codes "sum ticks 0 held 0 delay 0 ready 0 running 0 throttled 0 blocked 0\n"
+as_no_text : way_text system [] ≡ codes "sum ticks 0 held 0 delay 0 ready 0 running 0 throttled 0 blocked 0 server 0\n"
 unfolding system digits
 as_no_text = refl
 
@@ -69,7 +69,7 @@ held_object = refl
 
 ran_object : leg_object system (leg 53 (by.Thread 1 (stood 0 6)) 59)
     ≡ codes "{\"moment\":53,\"core\":1,\"kind\":\"ran\",\"thread\":\"Actuator\",\"to\":59,\"ticks\":6,"
-    ++ codes "\"ready\":0,\"running\":6,\"throttled\":0,\"blocked\":0}\n"
+    ++ codes "\"ready\":0,\"running\":6,\"throttled\":0,\"blocked\":0,\"server\":0}\n"
 unfolding system digits serde_json_on_literals
 ran_object = refl
 
@@ -80,6 +80,6 @@ delay_object = refl
 
 sum_object : way_objects system (leg 50 (by.Signal 0 1) 53 ∷ [])
     ≡ codes "{\"moment\":50,\"core\":0,\"kind\":\"delay\",\"home\":1,\"to\":53,\"ticks\":3}\n"
-    ++ codes "{\"kind\":\"sum\",\"ticks\":3,\"held\":0,\"delay\":3,\"ready\":0,\"running\":0,\"throttled\":0,\"blocked\":0}\n"
+    ++ codes "{\"kind\":\"sum\",\"ticks\":3,\"held\":0,\"delay\":3,\"ready\":0,\"running\":0,\"throttled\":0,\"blocked\":0,\"server\":0}\n"
 unfolding system digits serde_json_on_literals
 sum_object = refl

@@ -27,7 +27,7 @@ times leg = (codes "to", leg.to) ∷ (codes "ticks", ticks_of leg) ∷ []
 abbrev pub ways : Stood → List (Text × ℕ)
 ways stood =
     (codes "ready", stood.ready) ∷ (codes "running", stood.running) ∷ (codes "throttled", stood.throttled)
-    ∷ (codes "blocked", stood.blocked) ∷ []
+    ∷ (codes "blocked", stood.blocked) ∷ (codes "server", stood.server) ∷ []
 
 abbrev pub words_by : System → Leg → Carrier → List Text
 words_by system leg (Note note) = codes "held" ∷ note_name system note ∷ counted (times leg)
@@ -44,17 +44,17 @@ fields_by system leg (Note note) =
     (codes "moment", amount leg.from) ∷ (codes "core", amount (core_by system (Note note))) ∷ (codes "kind", name (codes "held"))
     ∷ (codes "thread", empty) ∷ (codes "note", name (note_name system note)) ∷ (codes "home", empty) ∷ (codes "to", amount leg.to)
     ∷ (codes "ticks", amount (ticks_of leg)) ∷ (codes "ready", empty) ∷ (codes "running", empty) ∷ (codes "throttled", empty)
-    ∷ (codes "blocked", empty) ∷ []
+    ∷ (codes "blocked", empty) ∷ (codes "server", empty) ∷ []
 fields_by system leg (Thread thread stood) =
     (codes "moment", amount leg.from) ∷ (codes "core", amount (core_by system (Thread thread stood))) ∷ (codes "kind", name (codes "ran"))
     ∷ (codes "thread", name (thread_name system thread)) ∷ (codes "note", empty) ∷ (codes "home", empty) ∷ (codes "to", amount leg.to)
     ∷ (codes "ticks", amount (ticks_of leg)) ∷ (codes "ready", amount stood.ready) ∷ (codes "running", amount stood.running)
-    ∷ (codes "throttled", amount stood.throttled) ∷ (codes "blocked", amount stood.blocked) ∷ []
+    ∷ (codes "throttled", amount stood.throttled) ∷ (codes "blocked", amount stood.blocked) ∷ (codes "server", amount stood.server) ∷ []
 fields_by system leg (Signal maker home) =
     (codes "moment", amount leg.from) ∷ (codes "core", amount (core_by system (Signal maker home))) ∷ (codes "kind", name (codes "delay"))
     ∷ (codes "thread", empty) ∷ (codes "note", empty) ∷ (codes "home", amount home) ∷ (codes "to", amount leg.to)
     ∷ (codes "ticks", amount (ticks_of leg)) ∷ (codes "ready", empty) ∷ (codes "running", empty) ∷ (codes "throttled", empty)
-    ∷ (codes "blocked", empty) ∷ []
+    ∷ (codes "blocked", empty) ∷ (codes "server", empty) ∷ []
 
 abbrev pub leg_fields : System → Leg → Fields
 leg_fields system leg = fields_by system leg leg.carrier
@@ -66,13 +66,14 @@ leg_object system leg = object_text (leg_fields system leg)
 abbrev pub sum_text : Sums → Text
 sum_text sums =
     line (codes "sum") (counted ((codes "ticks", sums.ticks) ∷ (codes "held", sums.held) ∷ (codes "delay", sums.delay)
-    ∷ (codes "ready", sums.ready) ∷ (codes "running", sums.running) ∷ (codes "throttled", sums.throttled) ∷ (codes "blocked", sums.blocked) ∷ []))
+    ∷ (codes "ready", sums.ready) ∷ (codes "running", sums.running) ∷ (codes "throttled", sums.throttled) ∷ (codes "blocked", sums.blocked)
+    ∷ (codes "server", sums.server) ∷ []))
 
 abbrev pub sum_fields : Sums → Fields
 sum_fields sums =
     (codes "kind", name (codes "sum")) ∷ (codes "ticks", amount sums.ticks) ∷ (codes "held", amount sums.held)
     ∷ (codes "delay", amount sums.delay) ∷ (codes "ready", amount sums.ready) ∷ (codes "running", amount sums.running)
-    ∷ (codes "throttled", amount sums.throttled) ∷ (codes "blocked", amount sums.blocked) ∷ []
+    ∷ (codes "throttled", amount sums.throttled) ∷ (codes "blocked", amount sums.blocked) ∷ (codes "server", amount sums.server) ∷ []
 
 -- all lines of a way, as text and as objects
 abbrev pub way_text : System → List Leg → Text

@@ -11,7 +11,7 @@ use mcs_ticks::{CoreId, NoteId, ThreadId};
 use mcs_verdict::Stood;
 use mcs_way::{Carrier, Leg, Sums};
 
-fn note_fields<'s>(system: &'s System, leg: &Leg, note: NoteId) -> [Field<'s>; 12]
+fn note_fields<'s>(system: &'s System, leg: &Leg, note: NoteId) -> [Field<'s>; 13]
     ensures { map field_of result ≡ fields_by system.now leg.now (Carrier.Note note) }
 {
     [
@@ -30,6 +30,7 @@ fn note_fields<'s>(system: &'s System, leg: &Leg, note: NoteId) -> [Field<'s>; 1
         ("running", Cell::Empty),
         ("throttled", Cell::Empty),
         ("blocked", Cell::Empty),
+        ("server", Cell::Empty),
     ]
 }
 
@@ -38,7 +39,7 @@ fn thread_fields<'s>(
     leg: &Leg,
     thread: ThreadId,
     stood: Stood,
-) -> [Field<'s>; 12]
+) -> [Field<'s>; 13]
     ensures { map field_of result ≡ fields_by system.now leg.now (Carrier.Thread thread stood) }
 {
     let core = core_by(system, &Carrier::Thread(thread, stood));
@@ -55,10 +56,11 @@ fn thread_fields<'s>(
         ("running", Cell::Number(stood.running)),
         ("throttled", Cell::Number(stood.throttled)),
         ("blocked", Cell::Number(stood.blocked)),
+        ("server", Cell::Number(stood.server)),
     ]
 }
 
-fn signal_fields<'s>(system: &'s System, leg: &Leg, maker: CoreId, home: CoreId) -> [Field<'s>; 12]
+fn signal_fields<'s>(system: &'s System, leg: &Leg, maker: CoreId, home: CoreId) -> [Field<'s>; 13]
     ensures { map field_of result ≡ fields_by system.now leg.now (Carrier.Signal maker home) }
 {
     let core = core_by(system, &Carrier::Signal(maker, home));
@@ -75,11 +77,12 @@ fn signal_fields<'s>(system: &'s System, leg: &Leg, maker: CoreId, home: CoreId)
         ("running", Cell::Empty),
         ("throttled", Cell::Empty),
         ("blocked", Cell::Empty),
+        ("server", Cell::Empty),
     ]
 }
 
 /// The values of a leg.
-pub(crate) fn leg_fields<'s>(system: &'s System, leg: &Leg) -> [Field<'s>; 12]
+pub(crate) fn leg_fields<'s>(system: &'s System, leg: &Leg) -> [Field<'s>; 13]
     ensures { map field_of result ≡ leg_fields system.now leg.now }
 {
     match leg.carrier {
@@ -90,7 +93,7 @@ pub(crate) fn leg_fields<'s>(system: &'s System, leg: &Leg) -> [Field<'s>; 12]
 }
 
 /// The values of the sums.
-pub(crate) fn sum_fields(sums: &Sums) -> [Field<'static>; 8]
+pub(crate) fn sum_fields(sums: &Sums) -> [Field<'static>; 9]
     ensures { map field_of result ≡ sum_fields sums.now }
 {
     [
@@ -102,5 +105,6 @@ pub(crate) fn sum_fields(sums: &Sums) -> [Field<'static>; 8]
         ("running", Cell::Number(sums.running)),
         ("throttled", Cell::Number(sums.throttled)),
         ("blocked", Cell::Number(sums.blocked)),
+        ("server", Cell::Number(sums.server)),
     ]
 }

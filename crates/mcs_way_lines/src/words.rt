@@ -60,6 +60,7 @@ fn append_ways(text: &mut Vec<u8>, stood: &Stood) -> Result<(), NoMemory>
             ("running", stood.running),
             ("throttled", stood.throttled),
             ("blocked", stood.blocked),
+            ("server", stood.server),
         ],
     )
 }
@@ -146,6 +147,7 @@ pub(crate) fn append_sum(text: &mut Vec<u8>, sums: &Sums) -> Result<(), NoMemory
             ("running", sums.running),
             ("throttled", sums.throttled),
             ("blocked", sums.blocked),
+            ("server", sums.server),
         ],
     )?;
     text.push(b'\n')?;

@@ -8,7 +8,7 @@ use Rattle.mcs_verdict.specs.Account.{since_of}
 use Rattle.mcs_verdict.specs.Findings.{UpTo}
 use Rattle.mcs_why.specs.Running.{is_turn, runner, turns, is_thread, is_nobody, ticks_for, ran_in, idle_in}
 use Rattle.mcs_why.specs.Account.{Account, runner_now, passed_at, account_at, account_of}
-use Rattle.mcs_why.proofs.Ticks.{earlier, passes, few, passed_more, passed_after, passed_before, passed_whole, passed_until, up_since, no_turn, turn}
+use Rattle.mcs_why.proofs.Ticks.{earlier, passes, few, passed_more, passed_after, passed_before, passed_whole, passed_until, up_since, turn}
 use Rattle.mcs_why.proofs.Ranges.{same_numbers, with_more, counts-first, count_of}
 
 abbrev pub account : ℕ → ℕ → ℕ → ℕ → Option ℕ → List ℕ → ℕ → Account
@@ -69,12 +69,6 @@ turned threads core from to r past e =
     (λ thread h. sym (earlier (is_thread thread) r rows from n (passed_before from to r.moment))))
     (sym (earlier is_nobody r rows from n (passed_before from to r.moment)))
     ∙ ap (λ rows. account_at threads core from to rows (passed_at from to (since_of rows))) (sym (turn core r past e))
-
--- and one that does not, or that is of another core
-pub unturned : (threads core from to : ℕ) (r : Row) (past : List Row) → (eqb r.core core && is_turn r.what) ≡ false
-    → account_of threads core from to past ≡ account_of threads core from to (r ∷ past)
-unturned threads core from to r past e =
-    ap (λ rows. account_at threads core from to rows (passed_at from to (since_of rows))) (sym (no_turn core r past e))
 
 -- how long a thread ran, at the end of the span
 pub ran_whole : (threads core from to thread y old more new d : ℕ) (past : List Row) (counts : List ℕ) → y ≡ thread → y < length counts

@@ -1,5 +1,5 @@
 -- Counts by number, and more of them for one.
-use Rattle.std.proofs.Common.{◌≡◌, ◌≢◌, ℕ, ◌+◌, ◌-◌, ◌^◌, ◌<◌, ◌≤◌, min, ◌⊎◌, inl, inr, Bool, true, false, eqb, cond, List, length, get_or, set, map, replicate, Option, Some, None, refl, sym, ap, ◌∙◌, arith}
+use Rattle.std.proofs.Common.{◌≡◌, ◌≢◌, ℕ, ◌+◌, ◌-◌, ◌^◌, ◌<◌, ◌≤◌, min, ◌⊎◌, inl, inr, Bool, true, false, eqb, cond, List, length, get_or, set, map, replicate, Option, Some, refl, sym, ap, ◌∙◌, arith}
 use Rattle.std.specs.List.{range_with_len}
 use Rattle.std.proofs.Math.Nat.{zero-add}
 use Rattle.std.proofs.lemmas.Bool.{cases_eq, eq-eqb, ne_eqb}
@@ -66,12 +66,6 @@ pub counts-past : (before : ℕ → ℕ) (threads y ticks : ℕ) (counts : List 
 counts-past before threads y ticks counts e past =
     let long : length counts ≡ threads = ap length e ∙ length-map-range_with_len before 0 threads in
     e ∙ same_numbers before (with_more (Some y) ticks before) threads (λ k h. other before y ticks k (λ same. omega arith))
-
--- if nobody runs
-pub counts-none : (before : ℕ → ℕ) (threads ticks : ℕ)
-    → map before (range_with_len 0 threads) ≡ map (with_more None ticks before) (range_with_len 0 threads)
-counts-none before threads ticks =
-    same_numbers before (with_more None ticks before) threads (λ k h. not_here false ticks (before k) refl)
 
 -- before the first row
 pub counts-first : (threads : ℕ) → replicate {A = ℕ} threads 0 ≡ map (λ thread. 0) (range_with_len 0 threads)

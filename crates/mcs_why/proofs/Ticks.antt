@@ -4,6 +4,7 @@ use Rattle.std.proofs.lemmas.Bool.Decides.{nat_tests}
 use Rattle.mcs_ticks.specs.declared.row.Row.{Row}
 use Rattle.mcs_verdict.specs.Account.{since_of}
 use Rattle.mcs_verdict.specs.Findings.{UpTo}
+use Rattle.mcs_verdict.proofs.Orders.{up_to-later}
 use Rattle.mcs_why.specs.Running.{is_turn, runner, turns, runner_at, ticks_for}
 use Rattle.mcs_why.specs.Account.{runner_now, passed_at}
 
@@ -88,11 +89,8 @@ since_if false m r rows h g = g
 
 pub up_since : (core m : ℕ) (past : List Row) → UpTo m past → since_of (turns core past) ≤ m
 up_since core m [] up = omega arith
-up_since core m (r ∷ past) up = since_if (eqb r.core core && is_turn r.what) m r (turns core past) up.0 (up_since core m past up.1)
+up_since core m (r ∷ past) up = since_if (eqb r.core core && is_turn r.what) m r (turns core past) up.0 (up_since core m past (up_to-later r.moment m past up.0 up.1))
 
--- a row of another core, or one that does not say who runs
-pub no_turn : (core : ℕ) (r : Row) (past : List Row) → (eqb r.core core && is_turn r.what) ≡ false → turns core (r ∷ past) ≡ turns core past
-no_turn core r past e = ap (λ b. cond b (r ∷ turns core past) (turns core past)) e
-
+-- a row that says who runs
 pub turn : (core : ℕ) (r : Row) (past : List Row) → (eqb r.core core && is_turn r.what) ≡ true → turns core (r ∷ past) ≡ r ∷ turns core past
 turn core r past e = ap (λ b. cond b (r ∷ turns core past) (turns core past)) e

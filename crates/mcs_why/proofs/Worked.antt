@@ -70,7 +70,7 @@ to_the_wait rest =
 
 abbrev to_the_wake : List Row → List Row
 to_the_wake rest =
-    at 26 (row.Round 2 1 20) ∷ at 26 (row.Stop 2 why.Done 20 None) ∷ at 26 (row.Run 1) ∷ at 29 (row.Signal 1 0 1) ∷ at 29 (row.Wake 3 0 1)
+    at 26 (row.Round 2 1 20) ∷ at 26 (row.Stop 2 why.Done 20 None) ∷ at 26 (row.Run 1) ∷ at 29 (row.Signal 1 0 1) ∷ at 29 (row.Wake 3 0 1 None)
     ∷ at 29 (row.Round 1 1 27) ∷ at 29 (row.Stop 1 why.Done 3 None) ∷ at 29 (row.Run 3) ∷ rest
 
 abbrev locked : List Row
@@ -212,12 +212,12 @@ handles = system (thread 1 5 0 (Wait 0 ∷ On 1 ∷ Compute 9 ∷ []) ∷ [])
 abbrev woken_for_nothing : List Row → List Row
 woken_for_nothing rest =
     past_of []
-    (at 0 (row.Run 0) ∷ at 1 (row.Stop 0 why.Wait 1 None) ∷ at 3 (row.Wake 0 0 4) ∷ at 3 (row.Run 0) ∷ at 4 (row.Stop 0 why.Wait 1 None) ∷ rest)
+    (at 0 (row.Run 0) ∷ at 1 (row.Stop 0 why.Wait 1 None) ∷ at 3 (row.Wake 0 0 4 None) ∷ at 3 (row.Run 0) ∷ at 4 (row.Stop 0 why.Wait 1 None) ∷ rest)
 
 waits_again : sought handles 9 (woken_for_nothing []) 0 1 ≡ There (span 0 1 4 9 false None None)
 waits_again = refl
 
-woken_for_something : sought handles 9 (woken_for_nothing (at 7 (row.Wake 0 0 1) ∷ [])) 0 1 ≡ There (span 0 1 4 9 false (Some 7) (Some 7))
+woken_for_something : sought handles 9 (woken_for_nothing (at 7 (row.Wake 0 0 1 None) ∷ [])) 0 1 ≡ There (span 0 1 4 9 false (Some 7) (Some 7))
 woken_for_something = refl
 
 -- rows at both ends of a span are shown

@@ -1,14 +1,15 @@
 -- The state that is kept of a schedule's rows to find a round.
-use Rattle.std.specs.Prelude.{ℕ, nat_lt, if◌then◌else◌, List, Option, Some, None}
+use Rattle.std.specs.Prelude.{ℕ, List}
 use Rattle.mcs_ticks.specs.declared.row.Row.{Row}
 use Rattle.mcs_system.specs.System.{System, thread_part, core_of}
 use Rattle.mcs_verdict.specs.Standing.{telling}
 use Rattle.mcs_verdict.specs.Calls.{first_wait, bits_of}
-use Rattle.mcs_verdict.specs.Rounds.{begun_of}
+use Rattle.mcs_verdict.specs.Rounds.{begun_of, rounds_of}
+use Rattle.mcs_verdict.specs.Parts.{free}
 use Rattle.mcs_verdict.specs.Account.{standing_of}
 use Rattle.mcs_why.specs.declared.trail.Trail.{Trail}
-use Rattle.mcs_why.specs.Waits.{stopped, waited_of, free}
-use Rattle.mcs_why.specs.Spans.{span_in, ended}
+use Rattle.mcs_why.specs.Waits.{stopped, waited_of}
+use Rattle.mcs_why.specs.Spans.{span_in}
 
 -- the state after these rows, for the thread's round with this number
 abbrev pub trail_of : System → ℕ → ℕ → List Row → Trail
@@ -20,7 +21,7 @@ trail_of system thread number past =
       core = core_of system part;
       waits = first_wait part;
       bits = bits_of part;
-      ended = ended thread past;
+      ended = rounds_of thread past;
       found = span_in system thread number past;
       begun = begun_of system thread past;
       waited = waited_of system thread past;
@@ -28,9 +29,3 @@ trail_of system thread number past =
       free = free part.start thread past;
       standing = standing_of (telling thread past);
     }
-
--- the activation of a round under way, by the watch's activation of a round that ends at the
--- horizon: a word that begins a round activates it, any other activation is before the horizon
-abbrev pub told_by : Option ℕ → ℕ → ℕ → Option ℕ
-told_by (Some note) horizon moment = Some moment
-told_by None horizon moment = if nat_lt moment horizon then Some moment else None

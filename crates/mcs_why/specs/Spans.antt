@@ -2,14 +2,12 @@
 -- first.
 use Rattle.std.specs.Prelude.{ℕ, ◌==◌, ◌&&◌, Bool, true, false, nat_le, min, if◌then◌else◌, List, [], ◌∷◌, Option, Some, None}
 use Rattle.mcs_ticks.specs.declared.row.Row.{Row}
-use Rattle.mcs_ticks.specs.declared.row.What.{What}
-use Rattle.mcs_ticks.specs.declared.row.What.TheVariants as row
 use Rattle.mcs_system.specs.System.{System, thread_part, core_of}
 use Rattle.mcs_verdict.specs.declared.job.Job.{Job}
 use Rattle.mcs_verdict.specs.declared.standing.Standing.{Standing}
 use Rattle.mcs_verdict.specs.declared.standing.Standing.TheVariants.{Blocked, Done}
 use Rattle.mcs_verdict.specs.Standing.{telling}
-use Rattle.mcs_verdict.specs.Rounds.{begun_of, activated}
+use Rattle.mcs_verdict.specs.Rounds.{begun_of, activated_of, rounds_of}
 use Rattle.mcs_verdict.specs.Misses.{word_set}
 use Rattle.mcs_ticks.specs.Capped.{one_more}
 use Rattle.mcs_verdict.specs.Jobs.{job_of}
@@ -17,7 +15,8 @@ use Rattle.mcs_verdict.specs.Account.{standing_of}
 use Rattle.mcs_why.specs.declared.span.Span.{Span}
 use Rattle.mcs_why.specs.declared.span.Sought.{Sought}
 use Rattle.mcs_why.specs.declared.span.Sought.TheVariants.{There, Missing}
-use Rattle.mcs_why.specs.Waits.{stopped, waited_of, free}
+use Rattle.mcs_verdict.specs.Parts.{free}
+use Rattle.mcs_why.specs.Waits.{stopped, waited_of}
 
 -- a round's activation, or when its thread began to wait for the word that began it, if that is
 -- earlier
@@ -58,24 +57,10 @@ span_in system thread number (r ∷ past) =
     or_later (span_in system thread number past)
     (span_if thread number (core_of system (thread_part system thread)) (waited_of system thread past) (job_of system past r.moment r.what))
 
--- the number of the thread's latest round that ended; 0 if no round ended
-abbrev pub ended_after : ℕ → What → ℕ → ℕ
-ended_after thread (row.Round x number response) before = if x == thread then number else before
-ended_after thread _ before = before
-
-abbrev pub ended : ℕ → List Row → ℕ
-ended thread [] = 0
-ended thread (r ∷ past) = ended_after thread r.what (ended thread past)
-
 -- the span of a round under way begins as above, or at its beginning if it is not activated yet
 abbrev pub from_begun : ℕ → Option ℕ → Option ℕ → ℕ
 from_begun begun None waited = begun
 from_begun begun (Some activated) waited = from_of activated waited
-
--- when the round under way was activated
-abbrev pub activated_of : System → ℕ → List Row → ℕ → Option ℕ → Option ℕ
-activated_of system thread past horizon None = None
-activated_of system thread past horizon (Some begun) = activated system thread past begun horizon
 
 -- a held word activates the next round, if there is one to come
 abbrev pub to_begin : Standing → Option ℕ → Option ℕ
@@ -127,8 +112,8 @@ abbrev pub open_of : System → ℕ → List Row → ℕ → Option Span
 open_of system horizon past thread =
     let part = thread_part system thread in
     let standing = standing_of (telling thread past) in
-    open_by thread (core_of system part) (ended thread past) horizon (begun_of system thread past)
-    (activated_of system thread past horizon (begun_of system thread past)) (waited_of system thread past)
+    open_by thread (core_of system part) (rounds_of thread past) horizon (begun_of system thread past)
+    (activated_of system thread past horizon) (waited_of system thread past)
     (to_begin standing (word_set system past thread)) (waits_since standing (stopped thread past)) (comes_since standing (free part.start thread past))
 
 -- the span if it is the round with this number, else how many rounds there are
@@ -143,4 +128,4 @@ sought_by number before (Some span) unended = There span
 -- the round of the thread with this number
 abbrev pub sought : System → ℕ → List Row → ℕ → ℕ → Sought
 sought system horizon past thread number =
-    sought_by number (ended thread past) (span_in system thread number past) (open_of system horizon past thread)
+    sought_by number (rounds_of thread past) (span_in system thread number past) (open_of system horizon past thread)

@@ -5,8 +5,8 @@ use Rattle.mcs_ticks.specs.declared.row.Row.{Row}
 use Rattle.mcs_ticks.specs.declared.row.What.{What}
 use Rattle.mcs_ticks.specs.declared.row.What.TheVariants as row
 use Rattle.mcs_system.specs.System.{System, thread_part}
-use Rattle.mcs_verdict.specs.Calls.{first_wait, calls, bits_of}
-use Rattle.mcs_verdict.specs.Rounds.{begun}
+use Rattle.mcs_verdict.specs.Calls.{first_wait, bits_of}
+use Rattle.mcs_verdict.specs.Rounds.{begun, begins_round}
 
 -- when the thread stopped last
 abbrev pub stopped_after : ℕ → ℕ → What → Option ℕ → Option ℕ
@@ -18,16 +18,16 @@ stopped thread [] = None
 stopped thread (r ∷ past) = stopped_after thread r.moment r.what (stopped thread past)
 
 -- if this word begins a round, when the thread began to wait for it
-abbrev pub waited_by : Option ℕ → Option ℕ → ℕ → Option ℕ → Option ℕ → Option ℕ → Option ℕ
-waited_by (Some note) bits word None since before = if calls bits word then since else before
-waited_by waits bits word begun since before = before
+abbrev pub waited_by : Option ℕ → Option ℕ → ℕ → ℕ → Option ℕ → Option ℕ → Option ℕ → Option ℕ
+waited_by waits bits note word None since before = if begins_round waits bits note word then since else before
+waited_by waits bits note word (Some begun) since before = before
 
 -- a thread that is woken waited since it stopped; one that takes a held word did not wait
 abbrev pub waited_after : Option ℕ → Option ℕ → ℕ → Option ℕ → Option ℕ → What → Option ℕ → Option ℕ
-waited_after waits bits thread begun stopped (row.Wake x note word) before =
-    if x == thread then waited_by waits bits word begun stopped before else before
+waited_after waits bits thread begun stopped (row.Wake x note word until) before =
+    if x == thread then waited_by waits bits note word begun stopped before else before
 waited_after waits bits thread begun stopped (row.Got x note word) before =
-    if x == thread then waited_by waits bits word begun None before else before
+    if x == thread then waited_by waits bits note word begun None before else before
 waited_after waits bits thread begun stopped _ before = before
 
 -- when the thread began to wait for the word that began its latest round, if it waited
@@ -40,12 +40,3 @@ abbrev pub waited_of : System → ℕ → List Row → Option ℕ
 waited_of system thread past =
     let part = thread_part system thread in
     waited (first_wait part) (bits_of part) part.start thread past
-
--- when the thread's latest round ended, or its start; from then on it proceeds to its first item
-abbrev pub free_after : ℕ → ℕ → What → ℕ → ℕ
-free_after thread moment (row.Round x number response) before = if x == thread then moment else before
-free_after thread moment _ before = before
-
-abbrev pub free : ℕ → ℕ → List Row → ℕ
-free start thread [] = start
-free start thread (r ∷ past) = free_after thread r.moment r.what (free start thread past)

@@ -10,7 +10,7 @@ ghost use Rattle.mcs_why.specs.Spans.{sought};
 use crate::Sought;
 use crate::trail::Trail;
 use mcs_system::System;
-use mcs_ticks::{Row, ThreadId, Tick, What};
+use mcs_ticks::{Row, ThreadId, Tick};
 use mcs_verdict::{Job, Watch};
 use std::marker::Model;
 
@@ -55,17 +55,9 @@ impl Search {
             watch.now ≡ watch_of system past → UpTo horizon past → thread < length system.threads →
             result ≡ sought system horizon past thread number }
     {
-        // As if the round under way ended at the horizon: the watch then has its activation.
-        let end = Row {
-            moment: horizon,
-            core: self.trail.core,
-            what: What::Round {
-                thread: self.trail.thread,
-                number: self.trail.number,
-                response: 0,
-            },
-        };
-        let set = watch.word_set(self.trail.thread);
-        self.trail.sought(horizon, watch.job(&end), set)
+        let thread = self.trail.thread;
+        let activated = watch.activated(horizon, thread);
+        self.trail
+            .sought(horizon, activated, watch.word_set(thread))
     }
 }

@@ -3,17 +3,18 @@ ghost use Rattle.std.specs.Prelude.{◌≡◌, ℕ, ◌<◌, List, [], ◌∷◌
 ghost use Rattle.mcs_ticks.specs.declared.row.Row.{Row as TheRow};
 ghost use Rattle.mcs_system.specs.System.{System as TheSystem};
 ghost use Rattle.mcs_verdict.specs.Jobs.{job_of};
-ghost use Rattle.mcs_verdict.specs.Rounds.{begun_after};
-ghost use Rattle.mcs_verdict.specs.Standing.{telling, standing_after};
+ghost use Rattle.mcs_verdict.specs.Rounds.{begins_round, begun_after, rounds_after};
+ghost use Rattle.mcs_verdict.specs.Parts.{free_after};
+ghost use Rattle.mcs_verdict.specs.Standing.{telling};
 ghost use Rattle.mcs_verdict.specs.Account.{standing_of};
-ghost use Rattle.mcs_why.specs.Waits.{stopped_after, waited_after, free_after};
-ghost use Rattle.mcs_why.specs.Spans.{from_of, span_of, span_if, ended_after};
+ghost use Rattle.mcs_why.specs.Waits.{stopped_after, waited_after};
+ghost use Rattle.mcs_why.specs.Spans.{from_of, span_of, span_if};
 ghost use Rattle.mcs_why.specs.Search.{trail_of};
 
 use crate::Span;
 use mcs_system::SystemParts;
 use mcs_ticks::{CoreId, NoteId, Row, ThreadId, Tick, What, Why};
-use mcs_verdict::{Job, Standing, bits_of, calls, first_wait};
+use mcs_verdict::{Job, Standing, bits_of, calls, first_wait, standing_after};
 
 /// The state that is kept of the rows so far to find a round of a thread.
 #[derive(Clone, Copy, Debug, PartialEq, Eq)]
@@ -38,8 +39,8 @@ pub(crate) struct Trail {
     pub standing: Standing,
 }
 
-fn ended_after(thread: ThreadId, what: &What, before: u64) -> u64
-    ensures { result ≡ ended_after thread what.now before }
+fn rounds_after(thread: ThreadId, what: &What, before: u64) -> u64
+    ensures { result ≡ rounds_after thread what.now before }
 {
     match *what {
         What::Round {
@@ -57,6 +58,16 @@ fn stopped_after(thread: ThreadId, moment: Tick, what: &What, before: Option<Tic
     match *what {
         What::Stop { thread: other, .. } if other.0 == thread.0 => Some(moment),
         _ => before,
+    }
+}
+
+/// Whether a word begins a round if none is under way.
+fn begins_round(waits: Option<NoteId>, bits: Option<u32>, note: NoteId, word: u32) -> bool
+    ensures { result ≡ begins_round waits bits note word }
+{
+    match waits {
+        Some(first) => first.0 == note.0 && calls(bits, word),
+        None => false,
     }
 }
 
@@ -78,14 +89,15 @@ fn begun_after(
         },
         What::Got {
             thread: other,
+            note,
             word,
-            ..
         }
         | What::Wake {
             thread: other,
+            note,
             word,
             ..
-        } if other.0 == thread.0 && waits.is_some() && begun.is_none() && calls(bits, word) => {
+        } if other.0 == thread.0 && begun.is_none() && begins_round(waits, bits, note, word) => {
             Some(moment)
         }
         What::Stop {
@@ -109,48 +121,37 @@ fn waited_after(
 ) -> Option<Tick>
     ensures { result ≡ waited_after waits bits thread begun stopped what.now before }
 {
-    if waits.is_none() || begun.is_some() {
+    if begun.is_some() {
         return before;
     }
     match *what {
         What::Wake {
             thread: other,
+            note,
             word,
             ..
-        } if other.0 == thread.0 && calls(bits, word) => stopped,
+        } if other.0 == thread.0 && begins_round(waits, bits, note, word) => stopped,
         What::Got {
             thread: other,
+            note,
             word,
-            ..
-        } if other.0 == thread.0 && calls(bits, word) => None,
+        } if other.0 == thread.0 && begins_round(waits, bits, note, word) => None,
         _ => before,
     }
 }
 
-/// When the thread's latest round ended, or its start.
+/// When the thread's latest round ended, or the thread started.
 fn free_after(thread: ThreadId, moment: Tick, what: &What, before: Tick) -> Tick
     ensures { result ≡ free_after thread moment what.now before }
 {
     match *what {
-        What::Round { thread: other, .. } if other.0 == thread.0 => moment,
-        _ => before,
-    }
-}
-
-/// How a thread stands after one of its telling rows.
-fn standing_after(what: &What) -> Standing
-    ensures { result ≡ standing_after what.now }
-{
-    match *what {
-        What::Run { .. } => Standing::Running,
-        What::Wake { .. } => Standing::Woken,
-        What::Stop {
-            why: Why::Wait | Why::Call,
+        What::Round { thread: other, .. }
+        | What::Stop {
+            thread: other,
+            why: Why::Done,
             ..
-        } => Standing::Blocked,
-        What::Stop { why: Why::Done, .. } => Standing::Done,
-        What::Stop { until: Some(_), .. } => Standing::Throttled,
-        _ => Standing::Ready,
+        } if other.0 == thread.0 => moment,
+        _ => before,
     }
 }
 
@@ -259,7 +260,7 @@ impl Trail {
             what,
             self.begun,
         );
-        self.ended = ended_after(self.thread, what, self.ended);
+        self.ended = rounds_after(self.thread, what, self.ended);
         self.stopped = stopped_after(self.thread, row.moment, what, self.stopped);
         self.free = free_after(self.thread, row.moment, what, self.free);
         self.standing = standing_now(self.thread, what, self.standing);

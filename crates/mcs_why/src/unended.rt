@@ -1,18 +1,16 @@
 //! A round that has not ended at the horizon.
-ghost use Rattle.std.specs.Prelude.{◌≡◌, ℕ, ◌<◌, List, length, Some, None};
+ghost use Rattle.std.specs.Prelude.{◌≡◌, ℕ, List, Some, None};
 ghost use Rattle.mcs_ticks.specs.declared.row.Row.{Row as TheRow};
-ghost use Rattle.mcs_ticks.specs.declared.row.What.TheVariants as row;
 ghost use Rattle.mcs_system.specs.System.{System as TheSystem};
-ghost use Rattle.mcs_verdict.specs.Jobs.{job_of};
-ghost use Rattle.mcs_verdict.specs.Rounds.{begun_of};
+ghost use Rattle.mcs_verdict.specs.Rounds.{activated_of};
 ghost use Rattle.mcs_verdict.specs.Misses.{word_set};
-ghost use Rattle.mcs_why.specs.Spans.{activated_of, to_begin, waits_since, comes_since, open_span, open_by, open_if, sought};
-ghost use Rattle.mcs_why.specs.Search.{told_by, trail_of};
+ghost use Rattle.mcs_why.specs.Spans.{to_begin, waits_since, comes_since, open_span, open_by, open_if, sought};
+ghost use Rattle.mcs_why.specs.Search.{trail_of};
 
 use crate::trail::{Trail, from_of};
 use crate::{Sought, Span};
-use mcs_ticks::{NoteId, Tick};
-use mcs_verdict::{Job, Standing};
+use mcs_ticks::Tick;
+use mcs_verdict::Standing;
 
 fn to_begin(standing: Standing, set: Option<Tick>) -> Option<Tick>
     ensures { result ≡ to_begin standing set }
@@ -39,19 +37,6 @@ fn comes_since(standing: Standing, free: Tick) -> Option<Tick>
         None
     } else {
         Some(free)
-    }
-}
-
-/// The activation of a round under way. `moment` is what the watch gives as if the round ended at
-/// the horizon. A word that begins a round activates it; any other round is activated only if that
-/// is before the horizon.
-fn told_by(waits: Option<NoteId>, horizon: Tick, moment: Tick) -> Option<Tick>
-    ensures { result ≡ told_by waits horizon moment }
-{
-    match waits {
-        Some(_) => Some(moment),
-        None if moment.get() < horizon.get() => Some(moment),
-        None => None,
     }
 }
 
@@ -142,35 +127,16 @@ impl Trail {
         }
     }
 
-    /// When the round under way was activated. `job` is that round, as if it ended at the horizon.
-    fn activated(&self, horizon: Tick, job: Option<Job>) -> Option<Tick>
-        ensures { (system : TheSystem) (thread number response : ℕ) (past : List TheRow) → self.now ≡ trail_of system thread number past →
-            thread < length system.threads → job ≡ job_of system past horizon (row.Round thread number response) →
-            result ≡ activated_of system thread past horizon (begun_of system thread past) }
-    {
-        match self.begun {
-            Some(_) => match job {
-                Some(job) => told_by(self.waits, horizon, job.activated),
-                None => None,
-            },
-            None => None,
-        }
-    }
-
-    /// Returns the span of the round that is sought. `job` is the round under way, as if it ended
-    /// at the horizon; `set` is when the word that is held for its thread was set.
-    pub(crate) fn sought(&self, horizon: Tick, job: Option<Job>, set: Option<Tick>) -> Sought
-        ensures { (system : TheSystem) (thread number response : ℕ) (past : List TheRow) → self.now ≡ trail_of system thread number past →
-            thread < length system.threads → job ≡ job_of system past horizon (row.Round thread number response) →
-            set ≡ word_set system past thread →
+    /// Returns the span of the round that is sought. `activated` is when the round under way was
+    /// activated; `set` is when the word that is held for its thread was set.
+    pub(crate) fn sought(&self, horizon: Tick, activated: Option<Tick>, set: Option<Tick>) -> Sought
+        ensures { (system : TheSystem) (thread number : ℕ) (past : List TheRow) → self.now ≡ trail_of system thread number past →
+            activated ≡ activated_of system thread past horizon → set ≡ word_set system past thread →
             result ≡ sought system horizon past thread number }
     {
         match self.found {
             Some(span) => Sought::There(span),
-            None => {
-                let unended = self.open(horizon, self.activated(horizon, job), set);
-                open_if(self.number, self.ended, unended)
-            }
+            None => open_if(self.number, self.ended, self.open(horizon, activated, set)),
         }
     }
 }

@@ -22,7 +22,7 @@ kind_of system (row.Run x) = codes "run"
 kind_of system (row.Stop x cause charged until) = codes "stop"
 kind_of system (row.Signal x note badge) = if is_server system note then codes "leave" else codes "signal"
 kind_of system (row.Arrive note badge maker) = codes "arrive"
-kind_of system (row.Wake x note word) = if is_server system note then codes "enter" else codes "wake"
+kind_of system (row.Wake x note word until) = if is_server system note then codes "enter" else codes "wake"
 kind_of system (row.Hold note word) = codes "hold"
 kind_of system (row.Got x note word) = if is_server system note then codes "enter" else codes "got"
 kind_of system (row.Round x number response) = codes "round"
@@ -35,7 +35,7 @@ thread_of system (row.Release x) = name (thread_name system x)
 thread_of system (row.Run x) = name (thread_name system x)
 thread_of system (row.Stop x cause charged until) = name (thread_name system x)
 thread_of system (row.Signal x note badge) = name (thread_name system x)
-thread_of system (row.Wake x note word) = name (thread_name system x)
+thread_of system (row.Wake x note word until) = name (thread_name system x)
 thread_of system (row.Got x note word) = name (thread_name system x)
 thread_of system (row.Round x number response) = name (thread_name system x)
 thread_of system _ = empty
@@ -68,7 +68,7 @@ until_of _ = empty
 abbrev pub note_of : System → What → Value
 note_of system (row.Signal x note badge) = of_note system note (name (note_name system note))
 note_of system (row.Arrive note badge maker) = name (note_name system note)
-note_of system (row.Wake x note word) = of_note system note (name (note_name system note))
+note_of system (row.Wake x note word until) = of_note system note (name (note_name system note))
 note_of system (row.Hold note word) = name (note_name system note)
 note_of system (row.Got x note word) = of_note system note (name (note_name system note))
 note_of system (row.Interrupt source note badge) = name (note_name system note)
@@ -76,7 +76,7 @@ note_of system _ = empty
 
 abbrev pub server_of : System → What → Value
 server_of system (row.Signal x note badge) = of_server system note (name (note_name system note))
-server_of system (row.Wake x note word) = of_server system note (name (note_name system note))
+server_of system (row.Wake x note word until) = of_server system note (name (note_name system note))
 server_of system (row.Got x note word) = of_server system note (name (note_name system note))
 server_of system _ = empty
 
@@ -93,7 +93,7 @@ maker_of _ = empty
 
 -- the word of a notification, as it is taken or held
 abbrev pub word_of : System → What → Value
-word_of system (row.Wake x note word) = of_note system note (amount word)
+word_of system (row.Wake x note word until) = of_note system note (amount word)
 word_of system (row.Hold note word) = amount word
 word_of system (row.Got x note word) = of_note system note (amount word)
 word_of system _ = empty

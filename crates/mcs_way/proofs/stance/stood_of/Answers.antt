@@ -15,4 +15,4 @@ pub returns-else-thread-stances : goal.returns-else-thread-stances
 returns-else-thread-stances c = λ spots past e up since.
     let none : length c.args.stances.now ≤ c.thread.inside.0 = omega arith in
     let is_none : get_or spots c.args.thread None ≡ None = no-stance c.args.stances.now spots past c.thread.inside.0 c.args.thread e c.thread.view_is none in
-    ap (stood_since c.args.thread past c.args.moment) (sym (since ∙ ap since_of is_none))
+    c.new.ensures ∙ ap (stood_since c.args.thread past c.args.moment) (sym (since ∙ ap since_of is_none))

@@ -1,6 +1,6 @@
 use Rattle.std.proofs.Common.{◌≤◌, ◌∷◌, arith}
 use Rattle.mcs_verdict.specs.Standing.{telling}
-use Rattle.mcs_verdict.proofs.Watches.{since-up_to}
+use Rattle.mcs_verdict.proofs.Orders.{since-up_to}
 use Rattle.mcs_way.proofs.stance.Stance.see.Goals as goal
 
 pub returns : goal.returns

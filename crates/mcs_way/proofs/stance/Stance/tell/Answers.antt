@@ -1,6 +1,5 @@
-use Rattle.std.proofs.Common.{◌≡◌, ◌∙◌, ◌∷◌, ◌+◌, ◌<◌, ◌^◌, Some, ap, subst, sym, arith}
+use Rattle.std.proofs.Common.{◌≡◌, ◌∙◌, ◌∷◌, ◌+◌, ◌<◌, ◌^◌, ap, subst, sym, arith}
 use Rattle.mcs_verdict.specs.Account.{stood_of}
-use Rattle.mcs_verdict.specs.Standing.{settled}
 use Rattle.mcs_verdict.specs.Stood.{all_ticks}
 use Rattle.mcs_way.specs.declared.stance.Stance.{Stance}
 use Rattle.mcs_way.specs.Stances.{passed, stance_of}
@@ -14,8 +13,7 @@ returns c = λ rows e h.
     let small : all_ticks (stance_of from rows).stood + r.moment < 2 ^ 64 = stance-small from r.moment rows h (omega arith) in
     let stood_is : c.passed-self.result ≡ stood_of from (r ∷ rows) =
     c.passed-self.ensures (subst (λ (s : Stance). all_ticks s.stood + r.moment < 2 ^ 64) (sym e) small)
-    ∙ ap (λ standing. passed standing r.moment from c.args.self.now) c.settled.ensures
-    ∙ ap (λ (s : Stance). passed (settled (Some r.what) s.standing) r.moment from s) e
+    ∙ ap (λ (s : Stance). passed r.moment from s) e
     ∙ stance-told from r rows h
     in
     cc (stood_is, c.standing_after-self.ensures)

@@ -1,6 +1,6 @@
 use Rattle.std.proofs.Common.{◌≡◌, ◌∙◌, true, ap, sym}
 use Rattle.mcs_verdict.specs.Standing.{telling, tells}
-use Rattle.mcs_verdict.proofs.Watches.{since-up_to}
+use Rattle.mcs_verdict.proofs.Orders.{since-up_to}
 use Rattle.mcs_way.specs.Stances.{stance_of}
 use Rattle.mcs_way.proofs.Standings.{telling-more}
 use Rattle.mcs_way.proofs.stance.Stance.tell_own.Goals as goal
