@@ -122,12 +122,12 @@ module _ (queue : Discipline) (system : System) (t : ℕ) where
 
   posts_as-keeps : (note : ℕ) (p : Posted) (k : Core) → Keeps (turns.posts_as queue system t note p k) k
   posts_as-keeps note (Woke x word) k =
-      then_keeps k (says (row.Wake x note word) (with_note note (after_post (Woke x word) (note_of k note)) k)) (turns.wakes queue system t x word) refl (wakes-keeps x word)
+      then_keeps k (says (row.Wake x note word (turns.woken_until system t x k)) (with_note note (after_post (Woke x word) (note_of k note)) k)) (turns.wakes queue system t x word) refl (wakes-keeps x word)
   posts_as-keeps note (Held word) k = refl
 
   frees_as-keeps : (server : ℕ) (p : Posted) (k : Core) → Keeps (turns.frees_as queue system t server p k) k
   frees_as-keeps server (Woke x word) k =
-      then_keeps k (says (row.Wake x server word) (with_note server (after_post (Woke x word) (note_of k server)) k)) (turns.let_in queue system t x) refl (let_in-keeps x)
+      then_keeps k (says (row.Wake x server word (turns.woken_until system t x k)) (with_note server (after_post (Woke x word) (note_of k server)) k)) (turns.let_in queue system t x) refl (let_in-keeps x)
   frees_as-keeps server (Held word) k = refl
 
   frees-keeps : (x server : ℕ) (k : Core) → Keeps (turns.frees queue system t x server k) k

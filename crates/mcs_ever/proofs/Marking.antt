@@ -134,7 +134,7 @@ module _ (system : System) where
     -- what one row marks
     row-tells : (core : ℕ) (what : What) → ((x : ℕ) → IsOwnThread system core x → (mark_by system x what).context ≡ true → ContextKeepsUp system shift x) →
         ((x : ℕ) → IsOwnThread system core x → (mark_by system x what).round ≡ true → RoundKeepsUp system shift x) → IsOfOwn system core what → KeepsUp system shift what
-    row-tells core (row.Wake x note word) context round own =
+    row-tells core (row.Wake x note word until) context round own =
         (context x own.0 (ap (λ (mark : Mark). mark.context) (of_thread-own x _)), round x own.0 (ap (λ (mark : Mark). mark.round) (of_thread-own x _)))
     row-tells core (row.Run x) context round own = by (mode_of system x) refl
       where
@@ -205,7 +205,7 @@ module _ (system : System) where
         never e = cc
 
     context-asked : (x : ℕ) (what : What) → KeepsUp system shift what → (mark_by system x what).context ≡ true → ContextKeepsUp system shift x
-    context-asked x (row.Wake y note word) keeps e = marked-context (ContextKeepsUp system shift) x y _ e (λ _. keeps.0)
+    context-asked x (row.Wake y note word until) keeps e = marked-context (ContextKeepsUp system shift) x y _ e (λ _. keeps.0)
     context-asked x (row.Run y) keeps e = marked-context (ContextKeepsUp system shift) x y _ e (λ marked. by keeps marked)
       where
         by : KeepsUp system shift (row.Run y) → is_bandwidth (mode_of system y) ≡ true → ContextKeepsUp system shift y
@@ -223,7 +223,7 @@ module _ (system : System) where
     context-asked x (row.Interrupt source note badge) keeps e = no e
 
     round-asked : (x : ℕ) (what : What) → KeepsUp system shift what → (mark_by system x what).round ≡ true → RoundKeepsUp system shift x
-    round-asked x (row.Wake y note word) keeps e = marked-round (RoundKeepsUp system shift) x y _ e (λ _. keeps.1)
+    round-asked x (row.Wake y note word until) keeps e = marked-round (RoundKeepsUp system shift) x y _ e (λ _. keeps.1)
     round-asked x (row.Run y) keeps e = marked-round (RoundKeepsUp system shift) x y _ e (λ marked. no marked)
     round-asked x (row.Stop y cause k (Some until)) keeps e = marked-round (RoundKeepsUp system shift) x y _ e (λ marked. no marked)
     round-asked x (row.Stop y cause k None) keeps e = no e

@@ -81,7 +81,7 @@ module _ (system : System) (well : IsWellFormed system) (shift : Shift) (c t : â
       by (row.Run x) own h = tt
       by (row.Signal x note badge) own h = tt
       by (row.Arrive note badge maker) own h = tt
-      by (row.Wake x note word) own h = tt
+      by (row.Wake x note word until) own h = tt
       by (row.Hold note word) own h = tt
       by (row.Got x note word) own h = tt
       by (row.Order context) own h = tt

@@ -23,7 +23,7 @@ module _ (system : System) (shift : Shift) where
   IsProper (row.Run thread) = Unit {0}
   IsProper (row.Signal thread note badge) = Unit {0}
   IsProper (row.Arrive note badge maker) = Unit {0}
-  IsProper (row.Wake thread note word) = Unit {0}
+  IsProper (row.Wake thread note word until) = Unit {0}
   IsProper (row.Hold note word) = Unit {0}
   IsProper (row.Got thread note word) = Unit {0}
   IsProper (row.Order context) = Unit {0}
@@ -38,7 +38,7 @@ module _ (system : System) (shift : Shift) where
   Agrees (row.Run thread) = ContextKeepsUp system shift thread ⊎ IsSporadic system shift thread
   Agrees (row.Signal thread note badge) = Unit {0}
   Agrees (row.Arrive note badge maker) = Unit {0}
-  Agrees (row.Wake thread note word) = ContextKeepsUp system shift thread × RoundKeepsUp system shift thread
+  Agrees (row.Wake thread note word until) = ContextKeepsUp system shift thread × RoundKeepsUp system shift thread
   Agrees (row.Hold note word) = Unit {0}
   Agrees (row.Got thread note word) = RoundKeepsUp system shift thread
   Agrees (row.Order context) = Unit {0}
@@ -56,7 +56,7 @@ module _ (system : System) (shift : Shift) where
   agrees (row.Run thread) a b = a
   agrees (row.Signal thread note badge) a b = tt
   agrees (row.Arrive note badge maker) a b = tt
-  agrees (row.Wake thread note word) a b = a
+  agrees (row.Wake thread note word until) a b = a
   agrees (row.Hold note word) a b = tt
   agrees (row.Got thread note word) a b = a
   agrees (row.Order context) a b = tt

@@ -392,6 +392,12 @@ module _ (queue : Discipline) (system : System) (shift : Shift) (is_shift : IsSh
       ∙ ap (λ m. context_woken (t + m) (later_context (shift.contexts (thread_part system x).context) (turns.its_context system x k))) e
       ∙ ap (context_woken now) (sym (its-later x k)))
 
+  woken_until-later : (x : ℕ) (k : Core) → ContextKeepsUp system shift x →
+      option_map (λ date. date + d) (turns.woken_until system t x k) ≡ turns.woken_until system now x (later k)
+  woken_until-later x k e =
+      let woken : Core = turns.with_woken_context system t x k in
+      date_of-later x why.Wait 1 woken (keeping-up x why.Wait (turns.date_of system t x woken) e) ∙ ap (turns.date_of system now x) (woken-later x k e)
+
   sound-woken : (x : ℕ) (k : Core) → Sound k → Sound (turns.with_woken_context system t x k)
   sound-woken x k s =
       sound-context (thread_part system x).context (context_woken t (turns.its_context system x k)) k s
@@ -441,15 +447,21 @@ module _ (queue : Discipline) (system : System) (shift : Shift) (is_shift : IsSh
   posts_as-goes : (note : ℕ) (p : Posted) (k : Core) → Sound k → Agree (turns.posts_as queue system t note p k).rows →
       Goes (turns.posts_as queue system t note p k) (turns.posts_as queue system now note p (later k))
   posts_as-goes note (Woke x word) k s r =
-      says_first (row.Wake x note word) (with_note note (after_post (Woke x word) (note_of k note)) k) (turns.wakes queue system t x word) (turns.wakes queue system now x word)
-      (record { threads = s.threads; contexts = s.contexts }) (λ l. wakes-goes x word l r.0.0 r.0.1) r
+      let posted : Core = with_note note (after_post (Woke x word) (note_of k note)) k in
+      goes-to _ _ _
+      (says_first (row.Wake x note word (turns.woken_until system t x k)) posted (turns.wakes queue system t x word) (turns.wakes queue system now x word)
+      (record { threads = s.threads; contexts = s.contexts }) (λ l. wakes-goes x word l r.0.0 r.0.1) r)
+      (ap (λ until. says (row.Wake x note word until) (later posted) followed_by turns.wakes queue system now x word) (woken_until-later x k r.0.0))
   posts_as-goes note (Held word) k s r = record { sound = record { threads = s.threads; contexts = s.contexts }; alike = refl }
 
   frees_as-goes : (server : ℕ) (p : Posted) (k : Core) → Sound k → Agree (turns.frees_as queue system t server p k).rows →
       Goes (turns.frees_as queue system t server p k) (turns.frees_as queue system now server p (later k))
   frees_as-goes server (Woke x word) k s r =
-      says_first (row.Wake x server word) (with_note server (after_post (Woke x word) (note_of k server)) k) (turns.let_in queue system t x) (turns.let_in queue system now x)
-      (record { threads = s.threads; contexts = s.contexts }) (λ l. let_in-goes x l r.0.0) r
+      let posted : Core = with_note server (after_post (Woke x word) (note_of k server)) k in
+      goes-to _ _ _
+      (says_first (row.Wake x server word (turns.woken_until system t x k)) posted (turns.let_in queue system t x) (turns.let_in queue system now x)
+      (record { threads = s.threads; contexts = s.contexts }) (λ l. let_in-goes x l r.0.0) r)
+      (ap (λ until. says (row.Wake x server word until) (later posted) followed_by turns.let_in queue system now x) (woken_until-later x k r.0.0))
   frees_as-goes server (Held word) k s r = record { sound = record { threads = s.threads; contexts = s.contexts }; alike = refl }
 
   frees-goes : (x server : ℕ) (k : Core) → Sound k → Agree (turns.frees queue system t x server k).rows →

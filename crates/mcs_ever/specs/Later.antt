@@ -83,7 +83,7 @@ module _ (shift : Shift) where
   later_what (row.Run thread) = row.Run thread
   later_what (row.Signal thread note badge) = row.Signal thread note badge
   later_what (row.Arrive note badge maker) = row.Arrive note badge maker
-  later_what (row.Wake thread note word) = row.Wake thread note word
+  later_what (row.Wake thread note word until) = row.Wake thread note word (option_map (λ date. date + shift.by) until)
   later_what (row.Hold note word) = row.Hold note word
   later_what (row.Got thread note word) = row.Got thread note word
   later_what (row.Order context) = row.Order context
@@ -111,7 +111,7 @@ module _ (system : System) (shift : Shift) where
   -- checks whether the date has come; a round is timed when it ends, and may begin when a word is
   -- given
   abbrev pub KeepsUp : What → Type 0
-  KeepsUp (row.Wake thread note word) = ContextKeepsUp thread × RoundKeepsUp thread
+  KeepsUp (row.Wake thread note word until) = ContextKeepsUp thread × RoundKeepsUp thread
   KeepsUp (row.Run thread) = ContextKeepsUp thread ⊎ IsSporadic thread
   KeepsUp (row.Stop thread why charged (Some until)) = ContextKeepsUp thread
   KeepsUp (row.Stop thread why charged None) = Unit {0}

@@ -36,7 +36,7 @@ module _ (system : System) where
   -- compares only the dates of a context in bandwidth mode, and a stop only those of a thread that
   -- has to wait for its budget
   abbrev pub compared : What → Option (ℕ × Mark)
-  compared (row.Wake thread note word) = Some (thread, record { context = true; round = true })
+  compared (row.Wake thread note word until) = Some (thread, record { context = true; round = true })
   compared (row.Run thread) = Some (thread, record { context = is_bandwidth (mode_of thread); round = false })
   compared (row.Stop thread why charged (Some until)) = Some (thread, record { context = true; round = false })
   compared (row.Stop thread why charged None) = None

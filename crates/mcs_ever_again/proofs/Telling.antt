@@ -71,7 +71,7 @@ module _ (queue : Discipline) (system : System) (c t : ℕ) where
 
   posts_as-tells : (note : ℕ) (p : Posted) (core : Core) → Tells (turns.posts_as queue system t note p core)
   posts_as-tells note (Woke y word) core =
-      tells-then (says (row.Wake y note word) (with_note note (after_post (Woke y word) (note_of core note)) core)) (turns.wakes queue system t y word)
+      tells-then (says (row.Wake y note word (turns.woken_until system t y core)) (with_note note (after_post (Woke y word) (note_of core note)) core)) (turns.wakes queue system t y word)
       refl (λ k. wakes-tells y word k)
   posts_as-tells note (Held word) core = refl
 
@@ -87,7 +87,7 @@ module _ (queue : Discipline) (system : System) (c t : ℕ) where
 
   frees_as-tells : (server : ℕ) (p : Posted) (core : Core) → Tells (turns.frees_as queue system t server p core)
   frees_as-tells server (Woke y word) core =
-      tells-then (says (row.Wake y server word) (with_note server (after_post (Woke y word) (note_of core server)) core)) (turns.let_in queue system t y)
+      tells-then (says (row.Wake y server word (turns.woken_until system t y core)) (with_note server (after_post (Woke y word) (note_of core server)) core)) (turns.let_in queue system t y)
       refl (λ k. let_in-tells y k)
   frees_as-tells server (Held word) core = refl
 

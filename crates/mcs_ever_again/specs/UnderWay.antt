@@ -17,7 +17,7 @@ module _ (system : System) where
   mail_told c t (what.Run thread) = None
   mail_told c t (what.Stop thread why charged until) = None
   mail_told c t (what.Arrive note badge maker) = None
-  mail_told c t (what.Wake thread note word) = None
+  mail_told c t (what.Wake thread note word until) = None
   mail_told c t (what.Hold note word) = None
   mail_told c t (what.Got thread note word) = None
   mail_told c t (what.Round thread number response) = None

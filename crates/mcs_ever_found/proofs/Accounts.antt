@@ -1,7 +1,7 @@
--- A later row changes a later account as the row changes the account, and has the same finding,
+-- A later row changes a later account as the row changes the account, and ends the same round,
 -- later.
-use Rattle.std.proofs.Common.{◌≡◌, ℕ, ◌+◌, ◌-◌, max, Bool, true, false, cond, ◌&&◌, refl, sym, ap, ◌∙◌, Option, Some, None, option_map, arith}
-use Rattle.std.specs.Prelude.{nat_lt}
+use Rattle.std.proofs.Common.{◌≡◌, ℕ, ◌+◌, ◌-◌, ◌≤◌, max, Bool, true, false, cond, ◌&&◌, refl, sym, ap, ◌∙◌, Option, Some, None, option_map, arith}
+use Rattle.std.specs.Prelude.{nat_lt, nat_le}
 use Rattle.std.proofs.lemmas.Bool.Decides.{nat_tests}
 use Rattle.mcs_ticks.specs.declared.row.What.{What}
 use Rattle.mcs_ticks.specs.declared.row.What.TheVariants as row
@@ -9,23 +9,39 @@ use Rattle.mcs_ticks.specs.declared.row.Why.{Why}
 use Rattle.mcs_ticks.specs.declared.row.Why.TheVariants as why
 use Rattle.mcs_verdict.specs.declared.account.Account.{Account}
 use Rattle.mcs_verdict.specs.declared.finding.Finding.{Finding}
-use Rattle.mcs_verdict.specs.declared.finding.Finding.TheVariants.{Miss, Overdue}
-use Rattle.mcs_verdict.specs.declared.held.Held.{Held}
+use Rattle.mcs_verdict.specs.declared.finding.Finding.TheVariants.{Miss}
 use Rattle.mcs_verdict.specs.declared.job.Job.{Job}
 use Rattle.mcs_verdict.specs.declared.standing.Standing.{Standing}
-use Rattle.mcs_verdict.specs.declared.standing.Standing.TheVariants.{Pending, Ready, Running, Throttled, Blocked, Woken, Done}
 use Rattle.mcs_verdict.specs.declared.standing.Stood.{Stood}
 use Rattle.mcs_verdict.specs.Activation.{is_active}
-use Rattle.mcs_verdict.specs.Standing.{standing_stopped, standing_after, woken_before, settled}
+use Rattle.mcs_verdict.specs.Standing.{standing_stopped, standing_until, standing_after}
 use Rattle.mcs_verdict.specs.Stood.{no_ticks, counted}
-use Rattle.mcs_verdict.specs.Calls.{calls}
-use Rattle.mcs_verdict.specs.Rounds.{begun_at, activated_by}
+use Rattle.mcs_verdict.specs.Parts.{counted_from, queued_in}
+use Rattle.mcs_verdict.specs.Rounds.{begun_at, begins_round, activated_by}
 use Rattle.mcs_verdict.specs.Jobs.{with_preemption, or_now, ended}
-use Rattle.mcs_verdict.specs.Misses.{is_above, is_reached, missed, overdue_at, yet_to_begin}
-use Rattle.mcs_verdict.specs.Account.{stood_since, or_first, active_since, told, ends, preempted, given_by, given, seen_own, activated_since, job_by, overdue_from, overdue_by}
+use Rattle.mcs_verdict.specs.Misses.{is_above, missed}
+use Rattle.mcs_verdict.specs.Account.{counting, stood_from, stood_since, or_first, active_since, counting_at, told, ends, preempted, given_by, given, turned, seen_own, activated_if, activated_since, parts_since, job_by}
 use Rattle.mcs_verdict.specs.Later.{later_moment, later_account, without_total, IsLaterAccount}
 use Rattle.mcs_ever.specs.Later.{Shift, later_what, more_rounds}
 use Rattle.mcs_ever_found.specs.Later.{later_job, later_finding}
+
+-- how a thread stood in its round, if one is under way
+abbrev pub stood_if : Option ℕ → Stood → Stood
+stood_if None stood = no_ticks
+stood_if (Some begun) stood = stood
+
+-- an account without what grows, and between rounds without the ticks of the round that the held
+-- word begins, which depend on when the word was set
+abbrev pub quiet : Account → Account
+quiet account = record account { rounds = 0; total = no_ticks; stood = stood_if account.begun account.stood }
+
+abbrev pub IsLaterQuiet : ℕ → Account → Account → Type 0
+IsLaterQuiet by before after = quiet after ≡ later_account by (quiet before)
+
+-- the ticks that are counted, by what they depend on
+abbrev stood_by : Option ℕ → Option ℕ → ℕ → ℕ → Account → Stood
+stood_by waits begun set m a =
+    stood_since (counting waits begun a.free a.called (active_since begun m a.standing a) set) m a.standing a
 
 module _ (shift : Shift) where
   abbrev d : ℕ
@@ -44,10 +60,16 @@ module _ (shift : Shift) where
   less-later : (a b d : ℕ) → nat_lt (a + d) (b + d) ≡ nat_lt a b
   less-later a b d = grind (arith, nat_tests)
 
+  most-later : (a b d : ℕ) → nat_le (a + d) (b + d) ≡ nat_le a b
+  most-later a b d = grind (arith, nat_tests)
+
   past-later : (m from since d : ℕ) → m + d - max (since + d) (from + d) ≡ m - max since from
   past-later m from since d = omega arith
 
-  -- ticks and the first of them
+  under-max : (a b c : ℕ) → a ≤ b → nat_le a (max b c) ≡ true
+  under-max a b c l = let m : a ≤ max b c = omega (arith, l) in grind (arith, nat_tests)
+
+  -- the first tick
   first-later : (earlier : Option ℕ) (active : Bool) (from since m : ℕ) →
       or_first (later_moment d earlier) active (max (since + d) (from + d)) (m + d) ≡ later_moment d (or_first earlier active (max since from) m)
   first-later (Some earlier) active from since m = refl
@@ -60,239 +82,518 @@ module _ (shift : Shift) where
       by true = refl
       by false = refl
 
-  -- the account of a round that began then
   active-later : (begun : Option ℕ) (m : ℕ) (s : Standing) (a : Account) →
       active_since (later_moment d begun) (m + d) s (later a) ≡ later_moment d (active_since begun m s a)
   active-later None m s a = refl
   active-later (Some from) m s a = first-later a.active (is_active s) from a.since m
 
-  stood-later : (begun : Option ℕ) (m : ℕ) (s : Standing) (a : Account) → stood_since (later_moment d begun) (m + d) s (later a) ≡ stood_since begun m s a
-  stood-later None m s a = refl
-  stood-later (Some from) m s a = ap (λ n. counted s n a.stood) (past-later m from a.since d)
+  -- from when ticks are counted
+  from-later : (free : ℕ) (activated : Option ℕ) → counted_from (free + d) (later_moment d activated) ≡ later_moment d (counted_from free activated)
+  from-later free None = refl
+  from-later free (Some activated) = ap Some (max-later activated free d)
 
-  -- neither depends on the ticks from time 0 on
+  counting-later : (waits begun : Option ℕ) (free : ℕ) (called active : Option ℕ) (set : ℕ) →
+      counting waits (later_moment d begun) (free + d) (later_moment d called) (later_moment d active) (set + d)
+      ≡ later_moment d (counting waits begun free called active set)
+  counting-later (Some note) (Some begun) free called active set = from-later free called
+  counting-later (Some note) None free called active set = from-later free (Some set)
+  counting-later None (Some begun) free called active set = from-later free active
+  counting-later None None free called active set = from-later free active
+
+  -- the ticks from then on
+  stood-later : (from : Option ℕ) (m : ℕ) (s : Standing) (a : Account) → stood_since (later_moment d from) (m + d) s (later a) ≡ stood_since from m s a
+  stood-later None m s a = refl
+  stood-later (Some from) m s a =
+      ap (λ n. counted s n (stood_from (from + d) (later a))) (past-later m from a.since d)
+      ∙ ap (λ b. counted s (m - max a.since from) (cond b no_ticks a.stood)) (most-later a.since from d)
+
+  kept-later : (waits begun : Option ℕ) (set m : ℕ) (a : Account) →
+      stood_by waits (later_moment d begun) (set + d) (m + d) (later a) ≡ stood_by waits begun set m a
+  kept-later waits begun set m a =
+      ap (λ active. stood_since (counting waits (later_moment d begun) (a.free + d) (later_moment d a.called) active (set + d)) (m + d) a.standing (later a))
+      (active-later begun m a.standing a)
+      ∙ ap (λ from. stood_since from (m + d) a.standing (later a)) (counting-later waits begun a.free a.called (active_since begun m a.standing a) set)
+      ∙ stood-later (counting waits begun a.free a.called (active_since begun m a.standing a) set) m a.standing a
+
+  -- neither depends on what grows
   active-bare : (begun : Option ℕ) (m : ℕ) (s : Standing) (a : Account) → active_since begun m s (bare a) ≡ active_since begun m s a
   active-bare None m s a = refl
   active-bare (Some from) m s a = refl
 
-  stood-bare : (begun : Option ℕ) (m : ℕ) (s : Standing) (a : Account) → stood_since begun m s (bare a) ≡ stood_since begun m s a
-  stood-bare None m s a = refl
-  stood-bare (Some from) m s a = refl
+  since-bare : (from : Option ℕ) (m : ℕ) (s : Standing) (a : Account) → stood_since from m s (bare a) ≡ stood_since from m s a
+  since-bare None m s a = refl
+  since-bare (Some from) m s a = refl
+
+  stood-bare : (waits begun : Option ℕ) (set m : ℕ) (a : Account) → stood_by waits begun set m (bare a) ≡ stood_by waits begun set m a
+  stood-bare waits begun set m a =
+      ap (λ active. stood_since (counting waits begun a.free a.called active set) m a.standing (bare a)) (active-bare begun m a.standing a)
+      ∙ since-bare (counting waits begun a.free a.called (active_since begun m a.standing a) set) m a.standing a
 
   -- a later row gives the same standing
-  after-later : (what : What) → standing_after (later_what shift what) ≡ standing_after what
-  after-later (row.Stop x cause k until) = by cause until
+  until-later : (until : Option ℕ) → standing_until (option_map (λ date. date + d) until) ≡ standing_until until
+  until-later None = refl
+  until-later (Some date) = refl
+
+  pub after-later : (what : What) → standing_after (later_what shift what) ≡ standing_after what
+  after-later (row.Stop x cause k until) = by cause
     where
-      by : (cause : Why) (until : Option ℕ) → standing_stopped cause (option_map (λ date. date + d) until) ≡ standing_stopped cause until
-      by why.Wait until = refl
-      by why.Call until = refl
-      by why.Done until = refl
-      by why.Spent None = refl
-      by why.Spent (Some date) = refl
-      by why.Yield None = refl
-      by why.Yield (Some date) = refl
-      by why.Preempt None = refl
-      by why.Preempt (Some date) = refl
-      by why.Order None = refl
-      by why.Order (Some date) = refl
+      by : (cause : Why) → standing_stopped cause (option_map (λ date. date + d) until) ≡ standing_stopped cause until
+      by why.Wait = refl
+      by why.Call = refl
+      by why.Done = refl
+      by why.Spent = until-later until
+      by why.Yield = until-later until
+      by why.Preempt = until-later until
+      by why.Order = until-later until
+  after-later (row.Wake x note word until) = until-later until
   after-later (row.Release x) = refl
   after-later (row.Run x) = refl
   after-later (row.Signal x note badge) = refl
   after-later (row.Arrive note badge maker) = refl
-  after-later (row.Wake x note word) = refl
   after-later (row.Hold note word) = refl
   after-later (row.Got x note word) = refl
   after-later (row.Round x number response) = refl
   after-later (row.Order context) = refl
   after-later (row.Interrupt source at_note badge) = refl
 
-  woken-later : (what : What) → woken_before (Some (later_what shift what)) ≡ woken_before (Some what)
-  woken-later (row.Stop x cause k until) = refl
-  woken-later (row.Release x) = refl
-  woken-later (row.Run x) = refl
-  woken-later (row.Signal x note badge) = refl
-  woken-later (row.Arrive note badge maker) = refl
-  woken-later (row.Wake x note word) = refl
-  woken-later (row.Hold note word) = refl
-  woken-later (row.Got x note word) = refl
-  woken-later (row.Round x number response) = refl
-  woken-later (row.Order context) = refl
-  woken-later (row.Interrupt source at_note badge) = refl
-
-  settled-later : (s : Standing) (what : What) → settled (Some (later_what shift what)) s ≡ settled (Some what) s
-  settled-later Woken what = woken-later what
-  settled-later Pending what = refl
-  settled-later Ready what = refl
-  settled-later Running what = refl
-  settled-later Throttled what = refl
-  settled-later Blocked what = refl
-  settled-later Done what = refl
-
   -- a row that decides the standing, after which the thread stands so
   abbrev stood_so : Account → Option ℕ → Stood → Standing → ℕ → Account
   stood_so account active stood standing since =
-      record account { active = active; stood = stood; standing = standing; since = since; total = no_ticks }
+      record account { active = active; stood = stood; standing = standing; since = since; rounds = 0; total = no_ticks }
 
-  bare-told : (m : ℕ) (what : What) (a : Account) → bare (told m what (bare a)) ≡ bare (told m what a)
-  bare-told m what a =
-      ap (λ active. stood_so a active (stood_since a.begun m (settled (Some what) a.standing) (bare a)) (standing_after what) m) (active-bare a.begun m (settled (Some what) a.standing) a)
-      ∙ ap (λ stood. stood_so a (active_since a.begun m (settled (Some what) a.standing) a) stood (standing_after what) m) (stood-bare a.begun m (settled (Some what) a.standing) a)
+  bare-told : (set m : ℕ) (what : What) (a : Account) → bare (told set m what (bare a)) ≡ bare (told set m what a)
+  bare-told set m what a =
+      ap (λ active. stood_so a active (stood_by a.waits a.begun set m (bare a)) (standing_after what) m) (active-bare a.begun m a.standing a)
+      ∙ ap (λ stood. stood_so a (active_since a.begun m a.standing a) stood (standing_after what) m) (stood-bare a.waits a.begun set m a)
 
-  told-later : (m : ℕ) (what : What) (a : Account) → bare (told (m + d) (later_what shift what) (later a)) ≡ later (bare (told m what a))
-  told-later m what a =
-      ap (λ s. stood_so (later a) (active_since (later_moment d a.begun) (m + d) s (later a)) (stood_since (later_moment d a.begun) (m + d) s (later a)) (standing_after (later_what shift what)) (m + d)) (settled-later a.standing what)
-      ∙ ap (λ s. stood_so (later a) (active_since (later_moment d a.begun) (m + d) before (later a)) (stood_since (later_moment d a.begun) (m + d) before (later a)) s (m + d)) (after-later what)
-      ∙ ap (λ active. stood_so (later a) active (stood_since (later_moment d a.begun) (m + d) before (later a)) (standing_after what) (m + d)) (active-later a.begun m before a)
-      ∙ ap (λ stood. stood_so (later a) (later_moment d (active_since a.begun m before a)) stood (standing_after what) (m + d)) (stood-later a.begun m before a)
-    where
-      before : Standing
-      before = settled (Some what) a.standing
+  told-later : (set m : ℕ) (what : What) (a : Account) → bare (told (set + d) (m + d) (later_what shift what) (later a)) ≡ later (bare (told set m what a))
+  told-later set m what a =
+      ap (λ s. stood_so (later a) (active_since (later_moment d a.begun) (m + d) a.standing (later a)) (stood_by a.waits (later_moment d a.begun) (set + d) (m + d) (later a)) s (m + d)) (after-later what)
+      ∙ ap (λ active. stood_so (later a) active (stood_by a.waits (later_moment d a.begun) (set + d) (m + d) (later a)) (standing_after what) (m + d)) (active-later a.begun m a.standing a)
+      ∙ ap (λ stood. stood_so (later a) (later_moment d (active_since a.begun m a.standing a)) stood (standing_after what) (m + d)) (kept-later a.waits a.begun set m a)
+
+  -- between rounds it does not matter when the word was set
+  if-later : (waits begun : Option ℕ) (set set' m : ℕ) (a : Account) →
+      stood_if (later_moment d begun) (stood_by waits (later_moment d begun) set' (m + d) (later a)) ≡ stood_if begun (stood_by waits begun set m a)
+  if-later waits None set set' m a = refl
+  if-later (Some note) (Some begun) set set' m a = kept-later (Some note) (Some begun) set m a
+  if-later None (Some begun) set set' m a = kept-later None (Some begun) set m a
+
+  if-quiet : (waits begun : Option ℕ) (set m : ℕ) (a : Account) →
+      stood_if begun (stood_by waits begun set m (record a { rounds = 0; total = no_ticks; stood = stood_if begun a.stood })) ≡ stood_if begun (stood_by waits begun set m a)
+  if-quiet waits None set m a = refl
+  if-quiet waits (Some begun) set m a = stood-bare waits (Some begun) set m a
+
+  active-quiet : (begun : Option ℕ) (m : ℕ) (s : Standing) (a : Account) → active_since begun m s (quiet a) ≡ active_since begun m s a
+  active-quiet None m s a = refl
+  active-quiet (Some from) m s a = refl
+
+  quiet-told : (set m : ℕ) (what : What) (a : Account) → quiet (told set m what (quiet a)) ≡ quiet (told set m what a)
+  quiet-told set m what a =
+      ap (λ active. stood_so a active (stood_if a.begun (stood_by a.waits a.begun set m (quiet a))) (standing_after what) m) (active-quiet a.begun m a.standing a)
+      ∙ ap (λ stood. stood_so a (active_since a.begun m a.standing a) stood (standing_after what) m) (if-quiet a.waits a.begun set m a)
+
+  told-quiet : (set set' m : ℕ) (what : What) (a : Account) → quiet (told set' (m + d) (later_what shift what) (later a)) ≡ later (quiet (told set m what a))
+  told-quiet set set' m what a =
+      ap (λ s. stood_so (later a) (active_since (later_moment d a.begun) (m + d) a.standing (later a)) (stood_if (later_moment d a.begun) (stood_by a.waits (later_moment d a.begun) set' (m + d) (later a))) s (m + d)) (after-later what)
+      ∙ ap (λ active. stood_so (later a) active (stood_if (later_moment d a.begun) (stood_by a.waits (later_moment d a.begun) set' (m + d) (later a))) (standing_after what) (m + d)) (active-later a.begun m a.standing a)
+      ∙ ap (λ stood. stood_so (later a) (later_moment d (active_since a.begun m a.standing a)) stood (standing_after what) (m + d)) (if-later a.waits a.begun set set' m a)
 
   -- a word that is given
-  bare-given : (m set word : ℕ) (a : Account) → bare (given m set word (bare a)) ≡ bare (given m set word a)
-  bare-given m set word a = by (calls a.bits word) a.waits a.begun
-    where
-      by : (c : Bool) (waits begun : Option ℕ) → bare (given_by m set c waits begun (bare a)) ≡ bare (given_by m set c waits begun a)
-      by true (Some note) None = refl
-      by true (Some note) (Some from) = refl
-      by true None begun = refl
-      by false waits begun = refl
+  abbrev begun_so : Account → ℕ → ℕ → Stood → Account
+  begun_so account m set stood =
+      record account { begun = Some m; called = Some set; active = None; stood = stood; rounds = 0; total = no_ticks }
 
-  given-later : (m set word : ℕ) (a : Account) → bare (given (m + d) (set + d) word (later a)) ≡ later (bare (given m set word a))
-  given-later m set word a = by (calls a.bits word) a.waits a.begun
+  bare-given : (m set note word : ℕ) (a : Account) → bare (given m set note word (bare a)) ≡ bare (given m set note word a)
+  bare-given m set note word a = by (begins_round a.waits a.bits note word) a.begun
     where
-      by : (c : Bool) (waits begun : Option ℕ) → bare (given_by (m + d) (set + d) c waits (later_moment d begun) (later a)) ≡ later (bare (given_by m set c waits begun a))
-      by true (Some note) None = refl
-      by true (Some note) (Some from) = refl
-      by true None None = refl
-      by true None (Some from) = refl
-      by false waits begun = refl
+      by : (c : Bool) (begun : Option ℕ) → bare (given_by m set c begun (bare a)) ≡ bare (given_by m set c begun a)
+      by true None = refl
+      by true (Some from) = refl
+      by false None = refl
+      by false (Some from) = refl
+
+  given-later : (m set note word : ℕ) (a : Account) → bare (given (m + d) (set + d) note word (later a)) ≡ later (bare (given m set note word a))
+  given-later m set note word a = by (begins_round a.waits a.bits note word) a.begun
+    where
+      by : (c : Bool) (begun : Option ℕ) → bare (given_by (m + d) (set + d) c (later_moment d begun) (later a)) ≡ later (bare (given_by m set c begun a))
+      by true None =
+          ap (λ n. begun_so (later a) (m + d) (set + d) (stood_from n (later a))) (max-later set a.free d)
+          ∙ ap (λ b. begun_so (later a) (m + d) (set + d) (cond b no_ticks a.stood)) (most-later a.since (max set a.free) d)
+      by true (Some from) = refl
+      by false None = refl
+      by false (Some from) = refl
+
+  -- a word that wakes the thread, right after that has decided its standing: no tick is counted
+  wake-later : (set set' m note word : ℕ) (what : What) (a : Account) →
+      quiet (given (m + d) (m + d) note word (told set' (m + d) (later_what shift what) (later a))) ≡ later (quiet (given m m note word (told set m what a)))
+  wake-later set set' m note word what a = by (begins_round a.waits a.bits note word) a.begun
+    where
+      after : Account
+      after = told set' (m + d) (later_what shift what) (later a)
+
+      before : Account
+      before = told set m what a
+
+      by : (c : Bool) (begun : Option ℕ) → quiet (given_by (m + d) (m + d) c (later_moment d begun) after) ≡ later (quiet (given_by m m c begun before))
+      by true None =
+          ap (λ b. begun_so after (m + d) (m + d) (cond b no_ticks after.stood)) (under-max (m + d) (m + d) (a.free + d) (omega arith))
+          ∙ ap (λ s. begun_so (record (later a) { standing = s; since = m + d }) (m + d) (m + d) no_ticks) (after-later what)
+          ∙ sym (ap (λ b. later (begun_so before m m (cond b no_ticks before.stood))) (under-max m m a.free (omega arith)))
+      by true (Some from) = told-quiet set set' m what a
+      by false None = told-quiet set set' m what a
+      by false (Some from) = told-quiet set set' m what a
+
+  wake-quiet : (set m note word : ℕ) (what : What) (a : Account) →
+      quiet (given m m note word (told set m what (quiet a))) ≡ quiet (given m m note word (told set m what a))
+  wake-quiet set m note word what a = by (begins_round a.waits a.bits note word) a.begun
+    where
+      after : Account
+      after = told set m what (quiet a)
+
+      before : Account
+      before = told set m what a
+
+      by : (c : Bool) (begun : Option ℕ) → quiet (given_by m m c begun after) ≡ quiet (given_by m m c begun before)
+      by true None =
+          ap (λ b. begun_so after m m (cond b no_ticks after.stood)) (under-max m m a.free (omega arith))
+          ∙ sym (ap (λ b. begun_so before m m (cond b no_ticks before.stood)) (under-max m m a.free (omega arith)))
+      by true (Some from) = quiet-told set m what a
+      by false None = quiet-told set m what a
+      by false (Some from) = quiet-told set m what a
 
   -- a round that ends
-  ends-later : (m : ℕ) (a : Account) → bare (ends (begun_at a.waits (m + d)) (later a)) ≡ later (bare (ends (begun_at a.waits m) a))
-  ends-later m a = ap (λ begun. record (bare (later a)) { begun = begun; active = None; stood = no_ticks; preemptions = 0 }) (by a.waits)
+  begun-later : (waits : Option ℕ) (m : ℕ) → begun_at waits (m + d) ≡ later_moment d (begun_at waits m)
+  begun-later (Some note) m = refl
+  begun-later None m = refl
+
+  abbrev ended_so : Account → ℕ → Option ℕ → Account
+  ended_so account m begun =
+      record account { free = m; rounds = 0; begun = begun; active = None; preemptions = 0; stood = no_ticks; total = no_ticks }
+
+  none-stood : (begun : Option ℕ) → stood_if begun no_ticks ≡ no_ticks
+  none-stood None = refl
+  none-stood (Some from) = refl
+
+  ends-later : (m n k : ℕ) (a : Account) → bare (ends (m + d) n (begun_at a.waits (m + d)) (later a)) ≡ later (bare (ends m k (begun_at a.waits m) a))
+  ends-later m n k a = ap (ended_so (later a) (m + d)) (begun-later a.waits m)
+
+  ends-quiet : (m n k : ℕ) (a : Account) → quiet (ends (m + d) n (begun_at a.waits (m + d)) (later a)) ≡ later (quiet (ends m k (begun_at a.waits m) a))
+  ends-quiet m n k a = by a.waits
     where
-      by : (waits : Option ℕ) → begun_at waits (m + d) ≡ later_moment d (begun_at waits m)
+      by : (waits : Option ℕ) → quiet (ends (m + d) n (begun_at waits (m + d)) (later a)) ≡ later (quiet (ends m k (begun_at waits m) a))
       by (Some note) = refl
       by None = refl
 
+  with-later : (begun : Option ℕ) (n : ℕ) → with_preemption (later_moment d begun) n ≡ with_preemption begun n
+  with-later None n = refl
+  with-later (Some from) n = refl
+
   preempted-later : (a : Account) → bare (preempted (later a)) ≡ later (bare (preempted a))
-  preempted-later a = ap (λ preemptions. record (bare (later a)) { preemptions = preemptions }) (by a.begun)
-    where
-      by : (begun : Option ℕ) → with_preemption (later_moment d begun) a.preemptions ≡ with_preemption begun a.preemptions
-      by None = refl
-      by (Some from) = refl
+  preempted-later a = ap (λ preemptions. record (bare (later a)) { preemptions = preemptions }) (with-later a.begun a.preemptions)
 
-  -- one row more: its effect does not depend on the ticks from time 0 on
+  if-if : (begun : Option ℕ) (stood : Stood) → stood_if (later_moment d begun) stood ≡ stood_if begun stood
+  if-if None stood = refl
+  if-if (Some from) stood = refl
+
+  preempted-quiet : (a : Account) → quiet (preempted (later a)) ≡ later (quiet (preempted a))
+  preempted-quiet a =
+      ap (λ n. record (quiet (later a)) { preemptions = n }) (with-later a.begun a.preemptions)
+      ∙ ap (λ stood. record (quiet (later a)) { preemptions = with_preemption a.begun a.preemptions; stood = stood }) (if-if a.begun a.stood)
+
+  -- a row that decides the standing, and then counts a preemption or ends the last round
+  told-preempted : (set m : ℕ) (what : What) (a : Account) →
+      bare (preempted (told (set + d) (m + d) (later_what shift what) (later a))) ≡ later (bare (preempted (told set m what a)))
+  told-preempted set m what a =
+      ap (λ (b : Account). bare (preempted b)) (told-later set m what a) ∙ preempted-later (bare (told set m what a))
+
+  quiet-preempted : (set set' m : ℕ) (what : What) (a : Account) →
+      quiet (preempted (told set' (m + d) (later_what shift what) (later a))) ≡ later (quiet (preempted (told set m what a)))
+  quiet-preempted set set' m what a =
+      ap (λ n. record (quiet (told set' (m + d) (later_what shift what) (later a))) { preemptions = n }) (with-later a.begun a.preemptions)
+      ∙ ap (λ (b : Account). record b { preemptions = with_preemption a.begun a.preemptions }) (told-quiet set set' m what a)
+
+  quiet-done : (set set' m : ℕ) (what : What) (n k : ℕ) (a : Account) →
+      quiet (ends (m + d) n None (told set' (m + d) (later_what shift what) (later a))) ≡ later (quiet (ends m k None (told set m what a)))
+  quiet-done set set' m what n k a =
+      ap (λ s. record (ended_so (later a) (m + d) None) { standing = s; since = m + d }) (after-later what)
+
+  -- one row more: its effect does not depend on what grows
   seen-bare : (set m : ℕ) (what : What) (a : Account) → bare (seen_own set m what (bare a)) ≡ bare (seen_own set m what a)
-  seen-bare set m (row.Got x note word) a = bare-given m set word a
+  seen-bare set m (row.Got x note word) a = bare-given m set note word a
   seen-bare set m (row.Round x number response) a = refl
-  seen-bare set m (row.Stop x why.Done k until) a = ap (λ (b : Account). bare (ends None b)) (bare-told m (row.Stop x why.Done k until) a)
-  seen-bare set m (row.Stop x why.Preempt k until) a = ap (λ (b : Account). bare (preempted b)) (bare-told m (row.Stop x why.Preempt k until) a)
-  seen-bare set m (row.Stop x why.Spent k until) a = bare-told m (row.Stop x why.Spent k until) a
-  seen-bare set m (row.Stop x why.Yield k until) a = bare-told m (row.Stop x why.Yield k until) a
-  seen-bare set m (row.Stop x why.Wait k until) a = bare-told m (row.Stop x why.Wait k until) a
-  seen-bare set m (row.Stop x why.Call k until) a = bare-told m (row.Stop x why.Call k until) a
-  seen-bare set m (row.Stop x why.Order k until) a = bare-told m (row.Stop x why.Order k until) a
-  seen-bare set m (row.Wake x note word) a =
-      sym (bare-given m m word (told m (row.Wake x note word) (bare a)))
-      ∙ ap (λ (b : Account). bare (given m m word b)) (bare-told m (row.Wake x note word) a)
-      ∙ bare-given m m word (told m (row.Wake x note word) a)
-  seen-bare set m (row.Release x) a = bare-told m (row.Release x) a
-  seen-bare set m (row.Run x) a = bare-told m (row.Run x) a
-  seen-bare set m (row.Signal x note badge) a = bare-told m (row.Signal x note badge) a
-  seen-bare set m (row.Arrive note badge maker) a = bare-told m (row.Arrive note badge maker) a
-  seen-bare set m (row.Hold note word) a = bare-told m (row.Hold note word) a
-  seen-bare set m (row.Order context) a = bare-told m (row.Order context) a
-  seen-bare set m (row.Interrupt source at_note badge) a = bare-told m (row.Interrupt source at_note badge) a
+  seen-bare set m (row.Stop x why.Done k until) a = refl
+  seen-bare set m (row.Stop x why.Preempt k until) a = ap (λ (b : Account). bare (preempted b)) (bare-told set m (row.Stop x why.Preempt k until) a)
+  seen-bare set m (row.Stop x why.Spent k until) a = bare-told set m (row.Stop x why.Spent k until) a
+  seen-bare set m (row.Stop x why.Yield k until) a = bare-told set m (row.Stop x why.Yield k until) a
+  seen-bare set m (row.Stop x why.Wait k until) a = bare-told set m (row.Stop x why.Wait k until) a
+  seen-bare set m (row.Stop x why.Call k until) a = bare-told set m (row.Stop x why.Call k until) a
+  seen-bare set m (row.Stop x why.Order k until) a = bare-told set m (row.Stop x why.Order k until) a
+  seen-bare set m (row.Wake x note word until) a =
+      sym (bare-given m m note word (told set m (row.Wake x note word until) (bare a)))
+      ∙ ap (λ (b : Account). bare (given m m note word b)) (bare-told set m (row.Wake x note word until) a)
+      ∙ bare-given m m note word (told set m (row.Wake x note word until) a)
+  seen-bare set m (row.Release x) a = bare-told set m (row.Release x) a
+  seen-bare set m (row.Run x) a = bare-told set m (row.Run x) a
+  seen-bare set m (row.Signal x note badge) a = bare-told set m (row.Signal x note badge) a
+  seen-bare set m (row.Arrive note badge maker) a = bare-told set m (row.Arrive note badge maker) a
+  seen-bare set m (row.Hold note word) a = bare-told set m (row.Hold note word) a
+  seen-bare set m (row.Order context) a = bare-told set m (row.Order context) a
+  seen-bare set m (row.Interrupt source at_note badge) a = bare-told set m (row.Interrupt source at_note badge) a
 
-  -- the time at which the word was set that a row takes, later
-  abbrev pub later_set : What → ℕ → ℕ
-  later_set (row.Got x note word) set = set + d
-  later_set _ set = set
-
-  seen-later : (set m : ℕ) (what : What) (a : Account) → bare (seen_own (later_set what set) (m + d) (later_what shift what) (later a)) ≡ later (bare (seen_own set m what a))
-  seen-later set m (row.Got x note word) a = given-later m set word a
-  seen-later set m (row.Round x number response) a = ends-later m a
-  seen-later set m (row.Stop x why.Done k until) a = ap (λ (b : Account). bare (ends None b)) (told-later m (row.Stop x why.Done k until) a)
-  seen-later set m (row.Stop x why.Preempt k until) a =
-      ap (λ (b : Account). bare (preempted b)) (told-later m (row.Stop x why.Preempt k until) a)
-      ∙ preempted-later (bare (told m (row.Stop x why.Preempt k until) a))
-  seen-later set m (row.Stop x why.Spent k until) a = told-later m (row.Stop x why.Spent k until) a
-  seen-later set m (row.Stop x why.Yield k until) a = told-later m (row.Stop x why.Yield k until) a
-  seen-later set m (row.Stop x why.Wait k until) a = told-later m (row.Stop x why.Wait k until) a
-  seen-later set m (row.Stop x why.Call k until) a = told-later m (row.Stop x why.Call k until) a
-  seen-later set m (row.Stop x why.Order k until) a = told-later m (row.Stop x why.Order k until) a
-  seen-later set m (row.Wake x note word) a =
-      sym (bare-given (m + d) (m + d) word (told (m + d) (row.Wake x note word) (later a)))
-      ∙ ap (λ (b : Account). bare (given (m + d) (m + d) word b)) (told-later m (row.Wake x note word) a)
-      ∙ given-later m m word (bare (told m (row.Wake x note word) a))
-      ∙ ap later (bare-given m m word (told m (row.Wake x note word) a))
-  seen-later set m (row.Release x) a = told-later m (row.Release x) a
-  seen-later set m (row.Run x) a = told-later m (row.Run x) a
-  seen-later set m (row.Signal x note badge) a = told-later m (row.Signal x note badge) a
-  seen-later set m (row.Arrive note badge maker) a = told-later m (row.Arrive note badge maker) a
-  seen-later set m (row.Hold note word) a = told-later m (row.Hold note word) a
-  seen-later set m (row.Order context) a = told-later m (row.Order context) a
-  seen-later set m (row.Interrupt source at_note badge) a = told-later m (row.Interrupt source at_note badge) a
+  seen-later : (set m : ℕ) (what : What) (a : Account) → bare (seen_own (set + d) (m + d) (later_what shift what) (later a)) ≡ later (bare (seen_own set m what a))
+  seen-later set m (row.Got x note word) a = given-later m set note word a
+  seen-later set m (row.Round x number response) a = ends-later m (more_rounds (shift.rounds x) number) number a
+  seen-later set m (row.Stop x why.Done k until) a = refl
+  seen-later set m (row.Stop x why.Preempt k until) a = told-preempted set m (row.Stop x why.Preempt k until) a
+  seen-later set m (row.Stop x why.Spent k until) a = told-later set m (row.Stop x why.Spent k until) a
+  seen-later set m (row.Stop x why.Yield k until) a = told-later set m (row.Stop x why.Yield k until) a
+  seen-later set m (row.Stop x why.Wait k until) a = told-later set m (row.Stop x why.Wait k until) a
+  seen-later set m (row.Stop x why.Call k until) a = told-later set m (row.Stop x why.Call k until) a
+  seen-later set m (row.Stop x why.Order k until) a = told-later set m (row.Stop x why.Order k until) a
+  seen-later set m (row.Wake x note word until) a =
+      sym (bare-given (m + d) (m + d) note word (told (set + d) (m + d) (later_what shift (row.Wake x note word until)) (later a)))
+      ∙ ap (λ (b : Account). bare (given (m + d) (m + d) note word b)) (told-later set m (row.Wake x note word until) a)
+      ∙ given-later m m note word (bare (told set m (row.Wake x note word until) a))
+      ∙ ap later (bare-given m m note word (told set m (row.Wake x note word until) a))
+  seen-later set m (row.Release x) a = told-later set m (row.Release x) a
+  seen-later set m (row.Run x) a = told-later set m (row.Run x) a
+  seen-later set m (row.Signal x note badge) a = told-later set m (row.Signal x note badge) a
+  seen-later set m (row.Arrive note badge maker) a = told-later set m (row.Arrive note badge maker) a
+  seen-later set m (row.Hold note word) a = told-later set m (row.Hold note word) a
+  seen-later set m (row.Order context) a = told-later set m (row.Order context) a
+  seen-later set m (row.Interrupt source at_note badge) a = told-later set m (row.Interrupt source at_note badge) a
 
   pub account-seen : (set m : ℕ) (what : What) (a b : Account) → IsLaterAccount d a b →
-      IsLaterAccount d (seen_own set m what a) (seen_own (later_set what set) (m + d) (later_what shift what) b)
+      IsLaterAccount d (seen_own set m what a) (seen_own (set + d) (m + d) (later_what shift what) b)
   account-seen set m what a b h =
-      sym (seen-bare (later_set what set) (m + d) (later_what shift what) b)
-      ∙ ap (λ (c : Account). bare (seen_own (later_set what set) (m + d) (later_what shift what) c)) h
+      sym (seen-bare (set + d) (m + d) (later_what shift what) b)
+      ∙ ap (λ (c : Account). bare (seen_own (set + d) (m + d) (later_what shift what) c)) h
       ∙ seen-later set m what (bare a)
       ∙ ap later (seen-bare set m what a)
 
+  -- the same of what is kept between rounds, whenever the word was set; a word that is taken begins
+  -- no round
+  abbrev pub BeginsNone : What → Account → Type 0
+  BeginsNone (row.Got x note word) a = begins_round a.waits a.bits note word ≡ false
+  BeginsNone (row.Release x) a = Unit {0}
+  BeginsNone (row.Run x) a = Unit {0}
+  BeginsNone (row.Stop x cause k until) a = Unit {0}
+  BeginsNone (row.Signal x note badge) a = Unit {0}
+  BeginsNone (row.Arrive note badge maker) a = Unit {0}
+  BeginsNone (row.Wake x note word until) a = Unit {0}
+  BeginsNone (row.Hold note word) a = Unit {0}
+  BeginsNone (row.Round x number response) a = Unit {0}
+  BeginsNone (row.Order context) a = Unit {0}
+  BeginsNone (row.Interrupt source at_note badge) a = Unit {0}
+
+  idle-given : (m set note word : ℕ) (a : Account) → begins_round a.waits a.bits note word ≡ false → given m set note word a ≡ a
+  idle-given m set note word a e = ap (λ c. given_by m set c a.begun a) e ∙ by a.begun
+    where
+      by : (begun : Option ℕ) → given_by m set false begun a ≡ a
+      by None = refl
+      by (Some from) = refl
+
+  seen-quiet : (set m : ℕ) (what : What) (a : Account) → BeginsNone what a → quiet (seen_own set m what (quiet a)) ≡ quiet (seen_own set m what a)
+  seen-quiet set m (row.Got x note word) a e =
+      ap quiet (idle-given m set note word (quiet a) e) ∙ again a.begun ∙ ap quiet (sym (idle-given m set note word a e))
+    where
+      again : (begun : Option ℕ) → record a { rounds = 0; total = no_ticks; stood = stood_if a.begun (stood_if a.begun a.stood) } ≡ quiet a
+      again begun = ap (λ stood. record a { rounds = 0; total = no_ticks; stood = stood }) (twice a.begun)
+        where
+          twice : (begun : Option ℕ) → stood_if begun (stood_if begun a.stood) ≡ stood_if begun a.stood
+          twice None = refl
+          twice (Some from) = refl
+  seen-quiet set m (row.Round x number response) a e = refl
+  seen-quiet set m (row.Stop x why.Done k until) a e = refl
+  seen-quiet set m (row.Stop x why.Preempt k until) a e =
+      ap (λ (b : Account). record b { preemptions = with_preemption a.begun a.preemptions }) (quiet-told set m (row.Stop x why.Preempt k until) a)
+  seen-quiet set m (row.Stop x why.Spent k until) a e = quiet-told set m (row.Stop x why.Spent k until) a
+  seen-quiet set m (row.Stop x why.Yield k until) a e = quiet-told set m (row.Stop x why.Yield k until) a
+  seen-quiet set m (row.Stop x why.Wait k until) a e = quiet-told set m (row.Stop x why.Wait k until) a
+  seen-quiet set m (row.Stop x why.Call k until) a e = quiet-told set m (row.Stop x why.Call k until) a
+  seen-quiet set m (row.Stop x why.Order k until) a e = quiet-told set m (row.Stop x why.Order k until) a
+  seen-quiet set m (row.Wake x note word until) a e = wake-quiet set m note word (row.Wake x note word until) a
+  seen-quiet set m (row.Release x) a e = quiet-told set m (row.Release x) a
+  seen-quiet set m (row.Run x) a e = quiet-told set m (row.Run x) a
+  seen-quiet set m (row.Signal x note badge) a e = quiet-told set m (row.Signal x note badge) a
+  seen-quiet set m (row.Arrive note badge maker) a e = quiet-told set m (row.Arrive note badge maker) a
+  seen-quiet set m (row.Hold note word) a e = quiet-told set m (row.Hold note word) a
+  seen-quiet set m (row.Order context) a e = quiet-told set m (row.Order context) a
+  seen-quiet set m (row.Interrupt source at_note badge) a e = quiet-told set m (row.Interrupt source at_note badge) a
+
+  quiet-later : (set set' m : ℕ) (what : What) (a : Account) → BeginsNone what a →
+      quiet (seen_own set' (m + d) (later_what shift what) (later a)) ≡ later (quiet (seen_own set m what a))
+  quiet-later set set' m (row.Got x note word) a e =
+      ap quiet (idle-given (m + d) set' note word (later a) e)
+      ∙ ap (λ stood. record (quiet (later a)) { stood = stood }) (if-if a.begun a.stood)
+      ∙ ap (λ (b : Account). later (quiet b)) (sym (idle-given m set note word a e))
+  quiet-later set set' m (row.Round x number response) a e = ends-quiet m (more_rounds (shift.rounds x) number) number a
+  quiet-later set set' m (row.Stop x why.Done k until) a e = quiet-done set set' m (row.Stop x why.Done k until) a.rounds a.rounds a
+  quiet-later set set' m (row.Stop x why.Preempt k until) a e = quiet-preempted set set' m (row.Stop x why.Preempt k until) a
+  quiet-later set set' m (row.Stop x why.Spent k until) a e = told-quiet set set' m (row.Stop x why.Spent k until) a
+  quiet-later set set' m (row.Stop x why.Yield k until) a e = told-quiet set set' m (row.Stop x why.Yield k until) a
+  quiet-later set set' m (row.Stop x why.Wait k until) a e = told-quiet set set' m (row.Stop x why.Wait k until) a
+  quiet-later set set' m (row.Stop x why.Call k until) a e = told-quiet set set' m (row.Stop x why.Call k until) a
+  quiet-later set set' m (row.Stop x why.Order k until) a e = told-quiet set set' m (row.Stop x why.Order k until) a
+  quiet-later set set' m (row.Wake x note word until) a e = wake-later set set' m note word (row.Wake x note word until) a
+  quiet-later set set' m (row.Release x) a e = told-quiet set set' m (row.Release x) a
+  quiet-later set set' m (row.Run x) a e = told-quiet set set' m (row.Run x) a
+  quiet-later set set' m (row.Signal x note badge) a e = told-quiet set set' m (row.Signal x note badge) a
+  quiet-later set set' m (row.Arrive note badge maker) a e = told-quiet set set' m (row.Arrive note badge maker) a
+  quiet-later set set' m (row.Hold note word) a e = told-quiet set set' m (row.Hold note word) a
+  quiet-later set set' m (row.Order context) a e = told-quiet set set' m (row.Order context) a
+  quiet-later set set' m (row.Interrupt source at_note badge) a e = told-quiet set set' m (row.Interrupt source at_note badge) a
+
+  none-later : (what : What) (a b : Account) → b.waits ≡ a.waits → b.bits ≡ a.bits → BeginsNone what a → BeginsNone (later_what shift what) b
+  none-later (row.Got x note word) a b e f h = ap (λ waits. begins_round waits b.bits note word) e ∙ ap (λ bits. begins_round a.waits bits note word) f ∙ h
+  none-later (row.Release x) a b e f h = tt
+  none-later (row.Run x) a b e f h = tt
+  none-later (row.Stop x cause k until) a b e f h = tt
+  none-later (row.Signal x note badge) a b e f h = tt
+  none-later (row.Arrive note badge maker) a b e f h = tt
+  none-later (row.Wake x note word until) a b e f h = tt
+  none-later (row.Hold note word) a b e f h = tt
+  none-later (row.Round x number response) a b e f h = tt
+  none-later (row.Order context) a b e f h = tt
+  none-later (row.Interrupt source at_note badge) a b e f h = tt
+
+  quiet-none : (what : What) (a : Account) → BeginsNone what a → BeginsNone what (quiet a)
+  quiet-none (row.Got x note word) a h = h
+  quiet-none (row.Release x) a h = tt
+  quiet-none (row.Run x) a h = tt
+  quiet-none (row.Stop x cause k until) a h = tt
+  quiet-none (row.Signal x note badge) a h = tt
+  quiet-none (row.Arrive note badge maker) a h = tt
+  quiet-none (row.Wake x note word until) a h = tt
+  quiet-none (row.Hold note word) a h = tt
+  quiet-none (row.Round x number response) a h = tt
+  quiet-none (row.Order context) a h = tt
+  quiet-none (row.Interrupt source at_note badge) a h = tt
+
+  pub quiet-seen : (set set' m : ℕ) (what : What) (a b : Account) → BeginsNone what a → IsLaterQuiet d a b →
+      IsLaterQuiet d (seen_own set m what a) (seen_own set' (m + d) (later_what shift what) b)
+  quiet-seen set set' m what a b none h =
+      sym (seen-quiet set' (m + d) (later_what shift what) b (none-later what a b (ap (λ (c : Account). c.waits) h) (ap (λ (c : Account). c.bits) h) none))
+      ∙ ap (λ (c : Account). quiet (seen_own set' (m + d) (later_what shift what) c)) h
+      ∙ quiet-later set set' m what (quiet a) (quiet-none what a none)
+      ∙ ap later (seen-quiet set m what a none)
+
+  -- if the script does not begin with a wait, it does not matter what was set
+  unset-told : (set set' m : ℕ) (what : What) (a : Account) → a.waits ≡ None → told set m what a ≡ told set' m what a
+  unset-told set set' m what a e =
+      ap (λ waits. record (told set m what a) { stood = stood_by waits a.begun set m a }) e
+      ∙ sym (ap (λ waits. record (told set m what a) { stood = stood_by waits a.begun set' m a }) e)
+
+  none-begins : (waits bits : Option ℕ) (note word : ℕ) → waits ≡ None → begins_round waits bits note word ≡ false
+  none-begins waits bits note word e = ap (λ waits. begins_round waits bits note word) e
+
+  pub unset-seen : (set set' m : ℕ) (what : What) (a : Account) → a.waits ≡ None → seen_own set m what a ≡ seen_own set' m what a
+  unset-seen set set' m (row.Got x note word) a e =
+      let none = none-begins a.waits a.bits note word e in
+      idle-given m set note word a none ∙ sym (idle-given m set' note word a none)
+  unset-seen set set' m (row.Round x number response) a e = refl
+  unset-seen set set' m (row.Stop x why.Done k until) a e = ap (turned m (row.Stop x why.Done k until)) (unset-told set set' m (row.Stop x why.Done k until) a e)
+  unset-seen set set' m (row.Stop x why.Preempt k until) a e = ap (turned m (row.Stop x why.Preempt k until)) (unset-told set set' m (row.Stop x why.Preempt k until) a e)
+  unset-seen set set' m (row.Stop x why.Spent k until) a e = unset-told set set' m (row.Stop x why.Spent k until) a e
+  unset-seen set set' m (row.Stop x why.Yield k until) a e = unset-told set set' m (row.Stop x why.Yield k until) a e
+  unset-seen set set' m (row.Stop x why.Wait k until) a e = unset-told set set' m (row.Stop x why.Wait k until) a e
+  unset-seen set set' m (row.Stop x why.Call k until) a e = unset-told set set' m (row.Stop x why.Call k until) a e
+  unset-seen set set' m (row.Stop x why.Order k until) a e = unset-told set set' m (row.Stop x why.Order k until) a e
+  unset-seen set set' m (row.Wake x note word until) a e = ap (turned m (row.Wake x note word until)) (unset-told set set' m (row.Wake x note word until) a e)
+  unset-seen set set' m (row.Release x) a e = unset-told set set' m (row.Release x) a e
+  unset-seen set set' m (row.Run x) a e = unset-told set set' m (row.Run x) a e
+  unset-seen set set' m (row.Signal x note badge) a e = unset-told set set' m (row.Signal x note badge) a e
+  unset-seen set set' m (row.Arrive note badge maker) a e = unset-told set set' m (row.Arrive note badge maker) a e
+  unset-seen set set' m (row.Hold note word) a e = unset-told set set' m (row.Hold note word) a e
+  unset-seen set set' m (row.Order context) a e = unset-told set set' m (row.Order context) a e
+  unset-seen set set' m (row.Interrupt source at_note badge) a e = unset-told set set' m (row.Interrupt source at_note badge) a e
+
+  -- what is later is so between rounds, too
+  quiet-bare : (a : Account) → quiet (bare a) ≡ quiet a
+  quiet-bare a = refl
+
+  quiet-account : (a : Account) → quiet (later a) ≡ later (quiet a)
+  quiet-account a = ap (λ stood. record (quiet (later a)) { stood = stood }) (if-if a.begun a.stood)
+
+  pub later-quiet : (a b : Account) → IsLaterAccount d a b → IsLaterQuiet d a b
+  later-quiet a b h = ap quiet h ∙ quiet-account (bare a)
+
   -- a round that ends: its activation
-  activated-later : (waits called active : Option ℕ) → activated_by waits (later_moment d called) (later_moment d active) ≡ later_moment d (activated_by waits called active)
-  activated-later (Some note) called active = refl
-  activated-later None called active = refl
+  by-later : (waits called active : Option ℕ) → activated_by waits (later_moment d called) (later_moment d active) ≡ later_moment d (activated_by waits called active)
+  by-later (Some note) called active = refl
+  by-later None called active = refl
+
+  if-activated : (begun activated : Option ℕ) → activated_if (later_moment d begun) (later_moment d activated) ≡ later_moment d (activated_if begun activated)
+  if-activated None activated = refl
+  if-activated (Some from) activated = refl
 
   now-later : (m : ℕ) (o : Option ℕ) → or_now (m + d) (later_moment d o) ≡ or_now m o + d
   now-later m None = refl
   now-later m (Some earlier) = refl
 
-  -- a round that ends, by its beginning, its activation and its ticks
-  ended-later : (m x number begun activated preemptions : ℕ) (stood : Stood) →
-      ended (m + d) x (more_rounds (shift.rounds x) number) (begun + d) (activated + d) preemptions stood ≡ later_job shift (ended m x number begun activated preemptions stood)
-  ended-later m x number begun activated preemptions stood =
-      ap (λ response. record job { response = response; queued = begun + d - (activated + d) }) (moved m activated)
-      ∙ ap (λ queued. record job { queued = queued }) (moved begun activated)
+  since-later : (m : ℕ) (a : Account) → activated_since (m + d) (later a) ≡ later_moment d (activated_since m a)
+  since-later m a =
+      ap (λ active. activated_if (later_moment d a.begun) (activated_by a.waits (later_moment d a.called) active)) (active-later a.begun m a.standing a)
+      ∙ ap (activated_if (later_moment d a.begun)) (by-later a.waits a.called (active_since a.begun m a.standing a))
+      ∙ if-activated a.begun (activated_by a.waits a.called (active_since a.begun m a.standing a))
+
+  parts-later : (activated m : ℕ) (a : Account) → parts_since (activated + d) (m + d) (later a) ≡ parts_since activated m a
+  parts-later activated m a =
+      ap (λ n. stood_since (Some n) (m + d) a.standing (later a)) (max-later activated a.free d)
+      ∙ stood-later (Some (max activated a.free)) m a.standing a
+
+  -- by its beginning, its activation and its ticks
+  ended-later : (m x number free begun activated preemptions : ℕ) (stood : Stood) →
+      ended (m + d) x (more_rounds (shift.rounds x) number) (free + d) (begun + d) (activated + d) preemptions stood ≡ later_job shift (ended m x number free begun activated preemptions stood)
+  ended-later m x number free begun activated preemptions stood =
+      ap (λ response. record job { response = response; queued = queued_in (free + d) (activated + d) }) (moved m activated)
+      ∙ ap (λ queued. record job { queued = queued }) (moved free activated)
     where
       job : Job
-      job = later_job shift (ended m x number begun activated preemptions stood)
+      job = later_job shift (ended m x number free begun activated preemptions stood)
 
       moved : (a b : ℕ) → a + d - (b + d) ≡ a - b
       moved a b = omega arith
 
-  job-bare : (m x number : ℕ) (a : Account) → job_by m x number (bare a) ≡ job_by m x number a
-  job-bare m x number a =
-      ap (λ active. ended m x number (or_now m a.begun) (or_now m (activated_by a.waits a.called active)) a.preemptions (stood_since a.begun m a.standing (bare a))) (active-bare a.begun m a.standing a)
-      ∙ ap (ended m x number (or_now m a.begun) (or_now m (activated_since m a)) a.preemptions) (stood-bare a.begun m a.standing a)
-
   job-later : (m x number : ℕ) (a : Account) → job_by (m + d) x (more_rounds (shift.rounds x) number) (later a) ≡ later_job shift (job_by m x number a)
   job-later m x number a =
-      ap (λ begun. ended (m + d) x more begun (or_now (m + d) (activated_since (m + d) (later a))) a.preemptions (stood_since (later_moment d a.begun) (m + d) a.standing (later a))) (now-later m a.begun)
-      ∙ ap (λ activated. ended (m + d) x more (or_now m a.begun + d) activated a.preemptions (stood_since (later_moment d a.begun) (m + d) a.standing (later a))) activated
-      ∙ ap (ended (m + d) x more (or_now m a.begun + d) (or_now m (activated_since m a) + d) a.preemptions) (stood-later a.begun m a.standing a)
-      ∙ ended-later m x number (or_now m a.begun) (or_now m (activated_since m a)) a.preemptions (stood_since a.begun m a.standing a)
+      ap (λ begun. ended (m + d) x more (a.free + d) begun (or_now (m + d) (activated_since (m + d) (later a))) a.preemptions (parts_since (or_now (m + d) (activated_since (m + d) (later a))) (m + d) (later a))) (now-later m a.begun)
+      ∙ ap (λ activated. ended (m + d) x more (a.free + d) (or_now m a.begun + d) activated a.preemptions (parts_since activated (m + d) (later a))) activated
+      ∙ ap (ended (m + d) x more (a.free + d) (or_now m a.begun + d) (or_now m (activated_since m a) + d) a.preemptions) (parts-later (or_now m (activated_since m a)) m a)
+      ∙ ended-later m x number a.free (or_now m a.begun) (or_now m (activated_since m a)) a.preemptions (parts_since (or_now m (activated_since m a)) m a)
     where
       more : ℕ
       more = more_rounds (shift.rounds x) number
 
       activated : or_now (m + d) (activated_since (m + d) (later a)) ≡ or_now m (activated_since m a) + d
-      activated =
-          ap (λ active. or_now (m + d) (activated_by a.waits (later_moment d a.called) active)) (active-later a.begun m a.standing a)
-          ∙ ap (or_now (m + d)) (activated-later a.waits a.called (active_since a.begun m a.standing a))
-          ∙ now-later m (activated_since m a)
+      activated = ap (or_now (m + d)) (since-later m a) ∙ now-later m (activated_since m a)
 
-  pub account-jobs : (m x number : ℕ) (a b : Account) → IsLaterAccount d a b → job_by (m + d) x (more_rounds (shift.rounds x) number) b ≡ later_job shift (job_by m x number a)
-  account-jobs m x number a b h =
-      sym (job-bare (m + d) x (more_rounds (shift.rounds x) number) b)
+  -- its ticks do not depend on what is kept between rounds
+  job-quiet : (m x number : ℕ) (a : Account) → a.since ≤ m → job_by m x number (quiet a) ≡ job_by m x number a
+  job-quiet m x number a l =
+      ap (λ active. ended m x number a.free (or_now m a.begun) (or_now m (activated_if a.begun (activated_by a.waits a.called active))) a.preemptions
+      (parts_since (or_now m (activated_if a.begun (activated_by a.waits a.called active))) m (quiet a))) (active-quiet a.begun m a.standing a)
+      ∙ ap (ended m x number a.free (or_now m a.begun) (or_now m (activated_since m a)) a.preemptions) (by a.begun (activated_by a.waits a.called (active_since a.begun m a.standing a)))
+    where
+      none : nat_le a.since (max m a.free) ≡ true
+      none = under-max a.since m a.free l
+
+      by : (begun : Option ℕ) (activated : Option ℕ) →
+          parts_since (or_now m (activated_if begun activated)) m (record a { rounds = 0; total = no_ticks; stood = stood_if begun a.stood })
+          ≡ parts_since (or_now m (activated_if begun activated)) m a
+      by None activated =
+          ap (λ b. counted a.standing (m - max a.since (max m a.free)) (cond b no_ticks no_ticks)) none
+          ∙ sym (ap (λ b. counted a.standing (m - max a.since (max m a.free)) (cond b no_ticks a.stood)) none)
+      by (Some from) activated = refl
+
+  pub account-jobs : (m x number : ℕ) (a b : Account) → a.since ≤ m → b.since ≤ m + d → IsLaterQuiet d a b →
+      job_by (m + d) x (more_rounds (shift.rounds x) number) b ≡ later_job shift (job_by m x number a)
+  account-jobs m x number a b l l' h =
+      sym (job-quiet (m + d) x (more_rounds (shift.rounds x) number) b l')
       ∙ ap (job_by (m + d) x (more_rounds (shift.rounds x) number)) h
-      ∙ job-later m x number (bare a)
-      ∙ ap (later_job shift) (job-bare m x number a)
+      ∙ job-later m x number (quiet a)
+      ∙ ap (later_job shift) (job-quiet m x number a l)
 
   -- the later round missed its deadline exactly if the round did
   pub missed-later : (deadline : ℕ) (job : Job) → missed deadline (later_job shift job) ≡ option_map (later_finding shift) (missed deadline job)
@@ -304,45 +605,3 @@ module _ (shift : Shift) where
       by : (b : Bool) → cond b tells None ≡ option_map (later_finding shift) (cond b (Some (Miss job.thread job.number job.response deadline job.activated job.queued job.stood)) None)
       by true = refl
       by false = refl
-
-  -- an overdue round
-  overdue_at-later : (h x deadline begun : ℕ) (stood : Stood) (activated : Option ℕ) →
-      overdue_at (h + d) x deadline (begun + d) stood (later_moment d activated) ≡ option_map (later_finding shift) (overdue_at h x deadline begun stood activated)
-  overdue_at-later h x deadline begun stood None = refl
-  overdue_at-later h x deadline begun stood (Some activated) =
-      ap (λ n. cond (is_reached deadline n) (tells (begun + d - (activated + d))) None) (moved h activated)
-      ∙ ap (λ n. cond (is_reached deadline (h - activated)) (tells n) None) (moved begun activated)
-      ∙ by (is_reached deadline (h - activated))
-    where
-      tells : ℕ → Option Finding
-      tells queued = Some (Overdue x deadline (activated + d) queued stood)
-
-      moved : (a b : ℕ) → a + d - (b + d) ≡ a - b
-      moved a b = omega arith
-
-      by : (b : Bool) → cond b (tells (begun - activated)) None
-          ≡ option_map (later_finding shift) (cond b (Some (Overdue x deadline activated (begun - activated) stood)) None)
-      by true = refl
-      by false = refl
-
-  overdue-bare : (h x : ℕ) (held : Held) (begun : Option ℕ) (a : Account) → overdue_from h x held begun (bare a) ≡ overdue_from h x held begun a
-  overdue-bare h x held None a = refl
-  overdue-bare h x held (Some from) a = refl
-
-  overdue-later : (h x : ℕ) (held more : Held) (begun : Option ℕ) (a : Account) → yet_to_begin a.standing a.bits more ≡ later_moment d (yet_to_begin a.standing a.bits held) →
-      overdue_from (h + d) x more (later_moment d begun) (later a) ≡ option_map (later_finding shift) (overdue_from h x held begun a)
-  overdue-later h x held more None a e =
-      ap (overdue_at (h + d) x a.deadline (h + d) no_ticks) e ∙ overdue_at-later h x a.deadline h no_ticks (yet_to_begin a.standing a.bits held)
-  overdue-later h x held more (Some from) a e =
-      ap (λ stood. overdue_at (h + d) x a.deadline (from + d) stood (activated_by a.waits (later_moment d a.called) (active_since (later_moment d (Some from)) (h + d) a.standing (later a)))) (stood-later (Some from) h a.standing a)
-      ∙ ap (λ active. overdue_at (h + d) x a.deadline (from + d) (stood_since (Some from) h a.standing a) (activated_by a.waits (later_moment d a.called) active)) (active-later (Some from) h a.standing a)
-      ∙ ap (overdue_at (h + d) x a.deadline (from + d) (stood_since (Some from) h a.standing a)) (activated-later a.waits a.called (active_since (Some from) h a.standing a))
-      ∙ overdue_at-later h x a.deadline from (stood_since (Some from) h a.standing a) (activated_by a.waits a.called (active_since (Some from) h a.standing a))
-
-  pub account-overdue : (h x : ℕ) (held more : Held) (a b : Account) → ((s : Standing) → yet_to_begin s a.bits more ≡ later_moment d (yet_to_begin s a.bits held)) → IsLaterAccount d a b →
-      overdue_by (h + d) x more b ≡ option_map (later_finding shift) (overdue_by h x held a)
-  account-overdue h x held more a b e is =
-      sym (overdue-bare (h + d) x more b.begun b)
-      ∙ ap (λ (c : Account). overdue_from (h + d) x more c.begun c) is
-      ∙ overdue-later h x held more a.begun (bare a) (e a.standing)
-      ∙ ap (option_map (later_finding shift)) (overdue-bare h x held a.begun a)

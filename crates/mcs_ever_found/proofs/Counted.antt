@@ -78,7 +78,7 @@ module _ (system : System) (group : ℕ → Bool) where
   what-counts past m c (row.Run x) mine own = inl refl
   what-counts past m c (row.Signal x note badge) mine own = inl refl
   what-counts past m c (row.Arrive note badge maker) mine own = inl refl
-  what-counts past m c (row.Wake x note word) mine own = inl refl
+  what-counts past m c (row.Wake x note word until) mine own = inl refl
   what-counts past m c (row.Got x note word) mine own = inl refl
   what-counts past m c (row.Order context) mine own = inl refl
   what-counts past m c (row.Interrupt source at_note badge) mine own = inl refl

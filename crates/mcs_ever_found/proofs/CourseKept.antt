@@ -12,7 +12,7 @@ use Rattle.mcs_ticks.specs.declared.row.What.TheVariants as row
 use Rattle.mcs_ticks.specs.declared.row.Why.TheVariants as why
 use Rattle.mcs_system.specs.System.{System}
 use Rattle.mcs_verdict.specs.declared.finding.Finding.{Finding}
-use Rattle.mcs_verdict.specs.declared.finding.Finding.TheVariants.{Miss, Overdue, Lost, Never}
+use Rattle.mcs_verdict.specs.declared.finding.Finding.TheVariants.{Miss, Overdue, Untaken, Lost, Never}
 use Rattle.mcs_verdict.specs.declared.job.Job.{Job}
 use Rattle.mcs_verdict.specs.Account.{is_some_of}
 use Rattle.mcs_verdict.specs.Findings.{finding}
@@ -102,14 +102,16 @@ module _ (f : ℕ → Bool) (n : ℕ) where
 whose-miss : (x : ℕ) (found : Option Finding) → is_some_of (missed_by found) x ≡ is_miss x found
 whose-miss x None = refl
 whose-miss x (Some (Miss y number response deadline activated queued stood)) = refl
-whose-miss x (Some (Overdue y deadline activated queued stood)) = refl
+whose-miss x (Some (Overdue y number age deadline activated queued stood)) = refl
+whose-miss x (Some (Untaken note word age deadline set)) = refl
 whose-miss x (Some (Lost note word)) = refl
 whose-miss x (Some (Never y deadline)) = refl
 
 whose-loss : (x : ℕ) (found : Option Finding) → is_some_of (lost_at found) x ≡ is_loss x found
 whose-loss x None = refl
 whose-loss x (Some (Miss y number response deadline activated queued stood)) = refl
-whose-loss x (Some (Overdue y deadline activated queued stood)) = refl
+whose-loss x (Some (Overdue y number age deadline activated queued stood)) = refl
+whose-loss x (Some (Untaken note word age deadline set)) = refl
 whose-loss x (Some (Lost note word)) = refl
 whose-loss x (Some (Never y deadline)) = refl
 
@@ -126,7 +128,7 @@ whose-spent x (row.Release y) = refl
 whose-spent x (row.Run y) = refl
 whose-spent x (row.Signal y note badge) = refl
 whose-spent x (row.Arrive note badge maker) = refl
-whose-spent x (row.Wake y note word) = refl
+whose-spent x (row.Wake y note word until) = refl
 whose-spent x (row.Hold note word) = refl
 whose-spent x (row.Got y note word) = refl
 whose-spent x (row.Order context) = refl

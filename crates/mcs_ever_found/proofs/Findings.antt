@@ -1,39 +1,22 @@
 -- Findings recur, and without a finding in the first period there is none for ever.
-use Rattle.std.proofs.Common.{◌≡◌, ℕ, zero, suc, ◌+◌, ◌-◌, ◌<◌, ◌≤◌, ◌⊎◌, inl, inr, Bool, true, false, cond, List, [], ◌∷◌, ◌++◌, length, map, refl, sym, ap, subst, ◌∙◌, Option, Some, None, option_map, arith}
-use Rattle.std.specs.Prelude.{filter, nat_lt, All}
-use Rattle.std.specs.List.{AllByRecursion, slice_get}
+use Rattle.std.proofs.Common.{◌≡◌, ℕ, zero, suc, ◌+◌, ◌-◌, ◌<◌, ◌≤◌, Bool, true, false, List, [], ◌∷◌, ◌++◌, map, refl, sym, ap, subst, ◌∙◌, arith}
+use Rattle.std.specs.Prelude.{filter, nat_lt}
+use Rattle.std.specs.List.{AllByRecursion}
 use Rattle.std.proofs.lemmas.Bool.Decides.{nat_tests}
-use Rattle.std.proofs.lemmas.List.Elements.{filter-append, All-head}
-use Rattle.mcs_script.specs.declared.item.Item.{Item}
-use Rattle.mcs_script.specs.declared.item.Item.TheVariants.{Compute, Signal, Wait, Yield, On, Spin, Enter, Leave}
-use Rattle.mcs_system.specs.System.{System, no_thread, thread_part, note_part, core_of}
-use Rattle.mcs_system.specs.WellFormed.{IsWellFormed, IsItem}
+use Rattle.std.proofs.lemmas.List.Elements.{filter-append}
+use Rattle.mcs_system.specs.System.{System}
+use Rattle.mcs_system.specs.WellFormed.{IsWellFormed}
 use Rattle.mcs_core.specs.Clock.{clock}
 use Rattle.mcs_core.proofs.Clock.{rows-clock}
 use Rattle.mcs_laws.proofs.Histories.{takes-time}
 use Rattle.mcs_verdict.specs.declared.finding.Found.{Found}
-use Rattle.mcs_verdict.specs.declared.held.Held.{Held}
-use Rattle.mcs_verdict.specs.declared.standing.Standing.{Standing}
-use Rattle.mcs_verdict.specs.declared.standing.Standing.TheVariants.{Pending, Ready, Running, Throttled, Blocked, Woken, Done}
-use Rattle.mcs_verdict.specs.Calls.{is_set, bits_of}
-use Rattle.mcs_verdict.specs.Words.{no_word, firsts_of}
-use Rattle.mcs_verdict.specs.Misses.{yet_to_begin, set_at, word_for, first_word}
-use Rattle.mcs_verdict.specs.Rounds.{waited_on, first_wait}
 use Rattle.mcs_verdict.specs.declared.job.Job.{Job}
 use Rattle.mcs_verdict.specs.Jobs.{jobs_in}
 use Rattle.mcs_verdict.specs.Findings.{found_in}
-use Rattle.mcs_verdict.specs.Later.{later_moment}
-use Rattle.mcs_verdict.proofs.Kept.{account_at, overdue-kept}
-use Rattle.mcs_verdict_laws.proofs.Fits.{held_in}
-use Rattle.mcs_verdict_laws.proofs.Order.{in_order}
-use Rattle.mcs_ever.specs.Recurs.{Shifts, shift_of}
-use Rattle.mcs_ever_found.specs.Later.{later_finding, later_found}
-use Rattle.mcs_ever_found.specs.Recurs.{past_before, WordIsLater, WordIsNotSet, FindingsRecur}
-use Rattle.mcs_ever_found.specs.laws.Repeats.{rows_at, found_at_moment, is_of_group, jobs_at_moment, later_job_of, FindingsRepeat, NothingIsFound, OverdueRepeats, JobsRepeat, JobTestsAreForever}
-use Rattle.mcs_ever_found.proofs.Accounts.{account-overdue}
-use Rattle.mcs_ever_found.proofs.Alike.{Alike, held-known}
-use Rattle.mcs_ever_found.proofs.Carried.{not-set}
-use Rattle.mcs_ever_found.proofs.Moments.{word-kept, Later, Set, found_in-append, alike, later-thread, later-word, found-later, jobs_in-append, jobs-later}
+use Rattle.mcs_ever_found.specs.Later.{later_found}
+use Rattle.mcs_ever_found.specs.Recurs.{past_before}
+use Rattle.mcs_ever_found.specs.laws.Repeats.{rows_at, found_at_moment, is_of_group, jobs_at_moment, later_job_of, FindingsRepeat, NothingIsFound, JobsRepeat, JobTestsAreForever}
+use Rattle.mcs_ever_found.proofs.Moments.{found_in-append, found-later, jobs_in-append, jobs-later}
 
 pub findings-repeat : FindingsRepeat
 findings-repeat system group shifts from well recur t l = found-later system group shifts from well recur t l
@@ -181,119 +164,3 @@ nothing-is-found system group shifts from well recur first horizon = none-before
             subst P f
             (findings-repeat system group shifts from well recur (t - shifts.by) (omega (arith, m))
             ∙ ap (map (later_found shifts)) (i (omega (arith, l, m, some))))
-
--- a round that is yet to begin
-yet-later : (d : ℕ) (s : Standing) (bits : Option ℕ) (held more : Held) → more.word ≡ held.word → more.since ≡ held.since + d
-    → yet_to_begin s bits more ≡ later_moment d (yet_to_begin s bits held)
-yet-later d s bits held more e f = by s
-  where
-    set : set_at bits more ≡ later_moment d (set_at bits held)
-    set =
-        ap (λ word. cond (is_set bits word) (Some more.since) None) e ∙ ap (λ since. cond (is_set bits held.word) (Some since) None) f
-        ∙ tests (is_set bits held.word)
-      where
-        tests : (b : Bool) → cond b (Some (held.since + d)) None ≡ later_moment d (cond b (Some held.since) None)
-        tests true = refl
-        tests false = refl
-
-    by : (s : Standing) → yet_to_begin s bits more ≡ later_moment d (yet_to_begin s bits held)
-    by Done = refl
-    by Pending = set
-    by Ready = set
-    by Running = set
-    by Throttled = set
-    by Blocked = set
-    by Woken = set
-
--- at word 0 no round is
-pub yet-none : (s : Standing) (bits : Option ℕ) (held : Held) → held.word ≡ 0 → yet_to_begin s bits held ≡ None
-yet-none s bits held e = by s
-  where
-    set : set_at bits held ≡ None
-    set = ap (λ word. cond (is_set bits word) (Some held.since) None) e
-
-    by : (s : Standing) → yet_to_begin s bits held ≡ None
-    by Done = refl
-    by Pending = set
-    by Ready = set
-    by Running = set
-    by Throttled = set
-    by Blocked = set
-    by Woken = set
-
-none-later : (d : ℕ) (s : Standing) (bits : Option ℕ) → yet_to_begin s bits no_word ≡ later_moment d (yet_to_begin s bits no_word)
-none-later d Done bits = refl
-none-later d Pending bits = refl
-none-later d Ready bits = refl
-none-later d Running bits = refl
-none-later d Throttled bits = refl
-none-later d Blocked bits = refl
-none-later d Woken bits = refl
-
--- the notification for which a script waits first is one of the thread's core
-module _ (system : System) where
-  pub waits-first : (core : ℕ) (items : List Item) (note : ℕ) → All (IsItem system core) items → waited_on (slice_get items 0) ≡ Some note → (note < length system.notes) × ((note_part system note).core ≡ core)
-  waits-first core [] note h e = cc
-  waits-first core (Compute ticks ∷ items) note h e = cc
-  waits-first core (Signal other badge ∷ items) note h e = cc
-  waits-first core (Yield ∷ items) note h e = cc
-  waits-first core (On badges ∷ items) note h e = cc
-  waits-first core (Spin ∷ items) note h e = cc
-  waits-first core (Enter server priority ∷ items) note h e = cc
-  waits-first core (Leave server priority ∷ items) note h e = cc
-  waits-first core (Wait other ∷ items) note h e =
-      let same : other ≡ note = cc in
-      let P : ℕ → Type 0 = λ n. (n < length system.notes) × ((note_part system n).core ≡ core) in
-      let there = All-head (IsItem system core) (Wait other) items h in
-      subst P same (there.0, there.1)
-
--- a word that is not set stays so
-module _ (system : System) (group : ℕ → Bool) (shifts : Shifts) (from : ℕ) (well : IsWellFormed system) (recur : FindingsRecur system group shifts from) where
-  pub word-none : (n : ℕ) → n < length system.notes → group (note_part system n).core ≡ true → WordIsNotSet system shifts.by from n → (t : ℕ) → from ≤ t → (held_in system n (past_before system t)).word ≡ 0
-  word-none n known mine none t l =
-      not-set system group shifts from well recur n mine none.holds (sym (ap (λ (held : Held). held.word) (word-kept system well from n no_word known)) ∙ none.none no_word) t l
-
-pub overdue-repeats : OverdueRepeats
-overdue-repeats system group shifts from well recur thread known own later first horizon l =
-    sym (overdue-kept system thread (past_before system (suc (horizon + shifts.by))) (horizon + shifts.by) (in_order system well (horizon + shifts.by)).1)
-    ∙ account-overdue (shift_of shifts home) horizon thread (first_word system thread (past_before system (suc horizon))) (first_word system thread (past_before system (suc (horizon + shifts.by))))
-    (account_at system thread (past_before system (suc horizon))) (account_at system thread (past_before system (suc (horizon + shifts.by))))
-    (yet (first_wait (thread_part system thread)) refl)
-    (like.threads thread known own (later-thread system group shifts from well recur thread known later))
-    ∙ ap (option_map (later_finding (shift_of shifts home))) (overdue-kept system thread (past_before system (suc horizon)) horizon (in_order system well horizon).1)
-  where
-    home : ℕ
-    home = core_of system (thread_part system thread)
-
-    bits : Option ℕ
-    bits = bits_of (thread_part system thread)
-
-    Like : ℕ → Type 0
-    Like n = Alike system group shifts (Later system group shifts from well recur) (Set system group shifts from well recur) (suc horizon) (past_before system (suc horizon)) (past_before system n)
-
-    like : Like (suc (horizon + shifts.by))
-    like =
-        let e : suc horizon + shifts.by ≡ suc (horizon + shifts.by) = omega arith in
-        subst Like e (alike system group shifts from well recur (suc horizon) (omega (arith, l)))
-
-    yet : (waits : Option ℕ) → first_wait (thread_part system thread) ≡ waits → (s : Standing) →
-        yet_to_begin s bits (word_for (firsts_of system) waits (past_before system (suc (horizon + shifts.by))))
-        ≡ later_moment shifts.by (yet_to_begin s bits (word_for (firsts_of system) waits (past_before system (suc horizon))))
-    yet None e s = none-later shifts.by s bits
-    yet (Some note) e s =
-        let there = waits-first system home (thread_part system thread).script note (well.threads thread no_thread known).items e in
-        let mine : group (note_part system note).core ≡ true = ap group there.1 ∙ own in
-        rw (
-          held-known system note (past_before system (suc (horizon + shifts.by))) there.0,
-          held-known system note (past_before system (suc horizon)) there.0,
-        )
-        (by note there.0 mine (first note e))
-      where
-        by : (n : ℕ) → n < length system.notes → group (note_part system n).core ≡ true → WordIsLater system shifts.by from n ⊎ WordIsNotSet system shifts.by from n →
-            yet_to_begin s bits (held_in system n (past_before system (suc (horizon + shifts.by)))) ≡ later_moment shifts.by (yet_to_begin s bits (held_in system n (past_before system (suc horizon))))
-        by n known mine (inl set) =
-            yet-later shifts.by s bits (held_in system n (past_before system (suc horizon))) (held_in system n (past_before system (suc (horizon + shifts.by))))
-            (like.words n known mine) (like.sets n known mine (later-word system group shifts from well recur n known set))
-        by n known mine (inr none) =
-            yet-none s bits (held_in system n (past_before system (suc (horizon + shifts.by)))) (word-none system group shifts from well recur n known mine none (suc (horizon + shifts.by)) (omega (arith, l)))
-            ∙ ap (later_moment shifts.by) (sym (yet-none s bits (held_in system n (past_before system (suc horizon))) (word-none system group shifts from well recur n known mine none (suc horizon) (omega (arith, l)))))

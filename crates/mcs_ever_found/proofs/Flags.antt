@@ -9,11 +9,11 @@ use Rattle.std.proofs.lemmas.List.FromFn.{get_or-map-range_with_len, length-map-
 use Rattle.mcs_ticks.specs.declared.row.What.{What}
 use Rattle.mcs_ticks.specs.declared.row.What.TheVariants as row
 use Rattle.mcs_system.specs.System.{System}
-use Rattle.mcs_verdict.specs.Account.{subject, is_some_of, is_about}
+use Rattle.mcs_verdict.specs.Account.{is_some_of}
 use Rattle.mcs_ever.specs.laws.Repeats.{ends_round}
-use Rattle.mcs_ever_found.specs.Recurs.{takes_word, holds_word}
+use Rattle.mcs_ever_found.specs.Recurs.{takes_word}
 use Rattle.mcs_ever_found.specs.Doings.{flags_of, Doings, doings_of}
-use Rattle.mcs_ever_found.specs.stored.Flags.{ended_by, taken_by, held_by, marked, unmarked, nothing_done}
+use Rattle.mcs_ever_found.specs.stored.Flags.{ended_by, taken_by, marked, unmarked, nothing_done}
 
 or-false : (b : Bool) → (b || false) ≡ b
 or-false true = refl
@@ -92,7 +92,7 @@ whose-ended x (row.Release y) = refl
 whose-ended x (row.Run y) = refl
 whose-ended x (row.Signal y note badge) = refl
 whose-ended x (row.Arrive note badge maker) = refl
-whose-ended x (row.Wake y note word) = refl
+whose-ended x (row.Wake y note word until) = refl
 whose-ended x (row.Hold note word) = refl
 whose-ended x (row.Got y note word) = refl
 whose-ended x (row.Order context) = refl
@@ -105,50 +105,30 @@ whose-taken x (row.Release y) = refl
 whose-taken x (row.Run y) = refl
 whose-taken x (row.Signal y note badge) = refl
 whose-taken x (row.Arrive note badge maker) = refl
-whose-taken x (row.Wake y note word) = refl
+whose-taken x (row.Wake y note word until) = refl
 whose-taken x (row.Hold note word) = refl
 whose-taken x (row.Got y note word) = refl
 whose-taken x (row.Order context) = refl
 whose-taken x (row.Interrupt source at_note badge) = refl
 
-whose-held : (x : ℕ) (what : What) → holds_word x what ≡ is_some_of (held_by what) x
-whose-held x (row.Round y number response) = refl
-whose-held x (row.Stop y cause k until) = refl
-whose-held x (row.Release y) = refl
-whose-held x (row.Run y) = refl
-whose-held x (row.Signal y note badge) = refl
-whose-held x (row.Arrive note badge maker) = refl
-whose-held x (row.Wake y note word) = refl
-whose-held x (row.Hold note word) = refl
-whose-held x (row.Got y note word) = refl
-whose-held x (row.Order context) = refl
-whose-held x (row.Interrupt source at_note badge) = refl
-
 -- the flags, by these lists
-abbrev pub doings : List Bool → List Bool → List Bool → List Bool → Doings
-doings ended told taken held = record { ended = ended; told = told; taken = taken; held = held }
+abbrev pub doings : List Bool → List Bool → Doings
+doings ended taken = record { ended = ended; taken = taken }
 
-pub same_doings : (a a' b b' c c' e e' : List Bool) → a ≡ a' → b ≡ b' → c ≡ c' → e ≡ e' → doings a b c e ≡ doings a' b' c' e'
-same_doings a a' b b' c c' e e' p q r s = cc
+pub same_doings : (a a' b b' : List Bool) → a ≡ a' → b ≡ b' → doings a b ≡ doings a' b'
+same_doings a a' b b' p q = cc
 
 -- before the first row
-pub doings-first : (system : System) →
-    doings (replicate (length system.threads) false) (replicate (length system.threads) false) (replicate (length system.notes) false)
-    (replicate (length system.notes) false) ≡ doings_of system []
-doings-first system =
-    same_doings _ _ _ _ _ _ _ _ (sym (flags-first ends_round (length system.threads))) (sym (flags-first is_about (length system.threads)))
-    (sym (flags-first takes_word (length system.notes))) (sym (flags-first holds_word (length system.notes)))
+pub doings-first : (system : System) → doings (replicate (length system.threads) false) (replicate (length system.notes) false) ≡ doings_of system []
+doings-first system = same_doings _ _ _ _ (sym (flags-first ends_round (length system.threads))) (sym (flags-first takes_word (length system.notes)))
 
 -- a row more
-pub doings-more : (system : System) (rows : List What) (what : What) (a b c e : List Bool) → doings a b c e ≡ doings_of system rows →
-    doings (marked (ended_by what) a) (marked (subject what) b) (marked (taken_by what) c) (marked (held_by what) e)
-    ≡ doings_of system (rows ++ what ∷ [])
-doings-more system rows what a b c e is =
-    same_doings _ _ _ _ _ _ _ _
+pub doings-more : (system : System) (rows : List What) (what : What) (a b : List Bool) → doings a b ≡ doings_of system rows →
+    doings (marked (ended_by what) a) (marked (taken_by what) b) ≡ doings_of system (rows ++ what ∷ [])
+doings-more system rows what a b is =
+    same_doings _ _ _ _
     (ap (λ (doings : Doings). marked (ended_by what) doings.ended) is ∙ flags-more ends_round (length system.threads) ended_by whose-ended rows what)
-    (ap (λ (doings : Doings). marked (subject what) doings.told) is ∙ flags-more is_about (length system.threads) subject (λ x what. refl) rows what)
     (ap (λ (doings : Doings). marked (taken_by what) doings.taken) is ∙ flags-more takes_word (length system.notes) taken_by whose-taken rows what)
-    (ap (λ (doings : Doings). marked (held_by what) doings.held) is ∙ flags-more holds_word (length system.notes) held_by whose-held rows what)
 
 -- all flags are cleared
 flags-anew : (test : ℕ → What → Bool) (n : ℕ) (rows : List What) → unmarked (flags_of test n rows) ≡ flags_of test n []
@@ -159,5 +139,4 @@ flags-anew test n rows =
 pub doings-anew : (system : System) (rows : List What) (doings : Doings) → doings ≡ doings_of system rows → nothing_done doings ≡ doings_of system []
 doings-anew system rows doings is =
     ap nothing_done is
-    ∙ same_doings _ _ _ _ _ _ _ _ (flags-anew ends_round (length system.threads) rows) (flags-anew is_about (length system.threads) rows)
-    (flags-anew takes_word (length system.notes) rows) (flags-anew holds_word (length system.notes) rows)
+    ∙ same_doings _ _ _ _ (flags-anew ends_round (length system.threads) rows) (flags-anew takes_word (length system.notes) rows)

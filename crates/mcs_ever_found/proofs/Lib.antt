@@ -1,19 +1,25 @@
 pub mod CourseKept
 mod WorkedCourse
 pub mod Accounts
+pub mod Scripts
 pub mod Alike
 pub mod Moments
-pub mod Carried
 pub mod Findings
-pub mod Ends
-pub mod After
 pub mod Never
-pub mod WorkedFindings
-pub mod Flags
+pub mod Carried
+pub mod Twice
+pub mod Open
 pub mod Quiet
+pub mod Ticks
+pub mod Periods
+pub mod Late
+pub mod Lows
+pub mod Given
+pub mod Threads
+pub mod Words
+pub mod Flags
 pub mod Watches
-pub mod Ending
-mod WorkedFlags
+pub mod Endless
 pub mod Greatest
 pub mod Spent
 pub mod Counted

@@ -1,6 +1,6 @@
 -- The watch of a group that recurs: before each moment from then on the accounts of its threads and
 -- its words are those a period earlier, but later.
-use Rattle.std.proofs.Common.{◌≡◌, ℕ, zero, suc, ◌+◌, ◌-◌, ◌<◌, ◌≤◌, ◌⊎◌, inl, inr, Bool, true, false, ◌&&◌, List, [], ◌∷◌, ◌++◌, length, get_or, map, refl, sym, ap, subst, ◌∙◌, append_assoc, slice_get, Option, Some, None, arith}
+use Rattle.std.proofs.Common.{◌≡◌, ℕ, zero, suc, ◌+◌, ◌-◌, ◌<◌, ◌≤◌, ◌⊎◌, inl, inr, Bool, true, false, ◌&&◌, List, [], ◌∷◌, ◌++◌, length, get_or, map, refl, sym, ap, subst, ◌∙◌, append_assoc, Option, Some, None, arith}
 use Rattle.std.specs.Prelude.{filter, flat_map, ◌==◌, nat_le, option_to_list}
 use Rattle.std.specs.List.{range_with_len, AllByRecursion}
 use Rattle.std.proofs.lemmas.Bool.Decides.{nat_tests}
@@ -9,10 +9,10 @@ use Rattle.std.proofs.lemmas.List.Elements.{filter-append}
 use Rattle.mcs_ticks.specs.declared.row.Row.{Row}
 use Rattle.mcs_ticks.specs.declared.row.What.{What}
 use Rattle.mcs_ticks.specs.declared.row.What.TheVariants as row
-use Rattle.mcs_system.specs.System.{System, thread_part, core_of, is_server}
+use Rattle.mcs_system.specs.System.{System, no_thread, thread_part, core_of, is_server}
 use Rattle.mcs_system.specs.WellFormed.{IsWellFormed}
-use Rattle.mcs_script.specs.declared.item.Item.TheVariants.{Wait}
-use Rattle.mcs_core.specs.Turn.{stamped}
+use Rattle.mcs_verdict.specs.Calls.{first_wait}
+use Rattle.mcs_verdict.specs.Takers.{waits_for}
 use Rattle.mcs_core.specs.Clock.{clock, turn_of, rows_of}
 use Rattle.mcs_core.proofs.Clock.{rows-clock}
 use Rattle.mcs_laws.proofs.Histories.{takes-time}
@@ -22,19 +22,13 @@ use Rattle.mcs_verdict.specs.declared.finding.Found.{Found}
 use Rattle.mcs_verdict.specs.Words.{no_word, firsts_of}
 use Rattle.mcs_verdict.specs.declared.job.Job.{Job}
 use Rattle.mcs_verdict.specs.Jobs.{job_of, jobs_in}
-use Rattle.mcs_verdict.specs.Rounds.{begun_of}
 use Rattle.mcs_verdict.specs.Findings.{UpTo, past_of, found_at, found_in, finding}
 use Rattle.mcs_verdict.specs.Watch.{accounts_of, words_of}
 use Rattle.mcs_verdict.specs.Later.{IsLaterAccount}
 use Rattle.mcs_verdict.proofs.Kept.{account_at}
 use Rattle.mcs_verdict.proofs.Watches.{account_kept}
 use Rattle.mcs_verdict.proofs.Words.{length-words, word_kept}
-use Rattle.mcs_verdict_laws.proofs.Entering.{self}
-use Rattle.mcs_verdict_laws.proofs.Finishing.{item_home}
-use Rattle.mcs_verdict_laws.proofs.Fits.{held_in, Fits, AreFit, fit-later}
-use Rattle.mcs_verdict_laws.proofs.Fitting.{fitting}
-use Rattle.mcs_verdict_laws.proofs.Steps.{contrary}
-use Rattle.mcs_verdict_laws.proofs.WordsTold.{waits-item}
+use Rattle.mcs_verdict_laws.proofs.Fits.{held_in}
 use Rattle.mcs_verdict_laws.proofs.Due.{length-firsts}
 use Rattle.mcs_verdict_laws.proofs.Order.{in_order}
 use Rattle.mcs_ever.specs.Later.{later_what}
@@ -45,12 +39,14 @@ use Rattle.mcs_ever.proofs.Home.{rows-of-own}
 use Rattle.mcs_ever.proofs.Worlds.{rows-again}
 use Rattle.mcs_ever.proofs.Schedules.{each-turn}
 use Rattle.mcs_ever.proofs.Repeats.{forever}
-use Rattle.mcs_verdict_laws.proofs.Order.{up_to-later}
+use Rattle.mcs_verdict.proofs.Orders.{up_to-later}
 use Rattle.mcs_verdict_laws.proofs.Standings.{past-append}
 use Rattle.mcs_ever_found.specs.Later.{later_found}
 use Rattle.mcs_ever_found.specs.Recurs.{takes_word, TakesNoWord, past_before, ThreadIsLater, WordIsSame, WordIsLater, FindingsRecur}
 use Rattle.mcs_ever_found.specs.laws.Repeats.{rows_at, later_job_of}
-use Rattle.mcs_ever_found.proofs.Alike.{Alike, at, Counts, AreCounted, alike-turn, found-turn, jobs-turn}
+use Rattle.mcs_ever_found.proofs.Accounts.{later-quiet}
+use Rattle.mcs_ever_found.proofs.Scripts.{waits-first}
+use Rattle.mcs_ever_found.proofs.Alike.{Alike, Counts, AreCounted, alike-turn, found-turn, jobs-turn}
 
 -- some rows and then others
 pub found_in-append : (system : System) (past xs ys : List Row) → found_in system past (xs ++ ys) ≡ found_in system past xs ++ found_in system (past_of past xs) ys
@@ -64,11 +60,6 @@ jobs_in-append system past [] ys = refl
 jobs_in-append system past (x ∷ xs) ys =
     ap (λ jobs. option_to_list (job_of system past x.moment x.what) ++ jobs) (jobs_in-append system (x ∷ past) xs ys)
     ∙ sym (append_assoc (option_to_list (job_of system past x.moment x.what)) (jobs_in system (x ∷ past) xs) (jobs_in system (past_of (x ∷ past) xs) ys))
-
--- the first ones of them
-fit-first : (system : System) (x : ℕ) (past rows more : List Row) → AreFit system x past (rows ++ more) → AreFit system x past rows
-fit-first system x past [] more all = tt
-fit-first system x past (r ∷ rows) more all = (all.0, fit-first system x (r ∷ past) rows more all.1)
 
 module _ (system : System) (well : IsWellFormed system) where
   -- the rows before a moment
@@ -121,7 +112,7 @@ module _ (system : System) (group : ℕ → Bool) (shifts : Shifts) (from : ℕ)
   Count (row.Stop x cause k until) = Unit {0}
   Count (row.Signal x note badge) = Unit {0}
   Count (row.Arrive note badge maker) = Unit {0}
-  Count (row.Wake x note word) = Unit {0}
+  Count (row.Wake x note word until) = Unit {0}
   Count (row.Hold note word) = Unit {0}
   Count (row.Order context) = Unit {0}
   Count (row.Interrupt source at_note badge) = Unit {0}
@@ -171,7 +162,7 @@ module _ (system : System) (group : ℕ → Bool) (shifts : Shifts) (from : ℕ)
   count-row c t (row.Stop x cause k until) own l o ends takes = tt
   count-row c t (row.Signal x note badge) own l o ends takes = tt
   count-row c t (row.Arrive note badge maker) own l o ends takes = tt
-  count-row c t (row.Wake x note word) own l o ends takes = tt
+  count-row c t (row.Wake x note word until) own l o ends takes = tt
   count-row c t (row.Hold note word) own l o ends takes = tt
   count-row c t (row.Order context) own l o ends takes = tt
   count-row c t (row.Interrupt source at_note badge) own l o ends takes = tt
@@ -199,7 +190,7 @@ module _ (system : System) (group : ℕ → Bool) (shifts : Shifts) (from : ℕ)
   count-later c (row.Stop x cause j until) k = k
   count-later c (row.Signal x note badge) k = k
   count-later c (row.Arrive note badge maker) k = k
-  count-later c (row.Wake x note word) k = k
+  count-later c (row.Wake x note word until) k = k
   count-later c (row.Hold note word) k = k
   count-later c (row.Order context) k = k
   count-later c (row.Interrupt source at_note badge) k = k
@@ -207,75 +198,72 @@ module _ (system : System) (group : ℕ → Bool) (shifts : Shifts) (from : ℕ)
   count-all : (t c : ℕ) → from ≤ t → c < system.cores → group c ≡ true → AllByRecursion Count (whats t c)
   count-all t c l known own = forever system group shifts from well recur.recurs (λ c what. Count what) count-later from (omega arith) count-first t c l known own
 
-  -- a server is entered in a round: a thread whose round is yet to begin takes no word but the one
-  -- for which its script waits first
-  under-way : (x n word t : ℕ) (rows : List Row) → is_server system n ≡ true → Fits system x rows t (row.Got x n word) → (begun : ℕ) × ((account_at system x rows).begun ≡ Some begun)
-  under-way x n word t rows served fits = by (begun_of system x rows) refl
+  no-server : false ≡ true → ⊥
+  no-server e = cc
+
+  -- a script waits first for no server
+  counted-row : (c : ℕ) (what : What) → IsOfOwn system c what → Count what → Counts system group shifts well Later Set what
+  counted-row c (row.Got x n word) o (inl set) = inl set
+  counted-row c (row.Got x n word) o (inr served) = inr (by (first_wait (thread_part system x)) refl)
     where
-      by : (begun : Option ℕ) → begun_of system x rows ≡ begun → (b : ℕ) × ((account_at system x rows).begun ≡ Some b)
-      by (Some b) e = (b, e)
-      by None e =
-          let waits = (fits (self x) e).0 in
-          let is = item_home system well x 0 (Wait n) (waits-item (slice_get (thread_part system x).script 0) n waits) in
-          absurd (contrary (is_server system n) is.2 served)
+      by : (waits : Option ℕ) → first_wait (thread_part system x) ≡ waits → waits_for n waits ≡ false
+      by None e = refl
+      by (Some first) e = at (first == n) refl
+        where
+          there : is_server system first ≡ false
+          there = (waits-first system (home x) (thread_part system x).script first (well.threads x no_thread o.0.known).items e).2
 
-  counted-row : (t : ℕ) (what : What) (rows : List Row) → ((x : ℕ) → Fits system x rows t what) → Count what → Counts system group shifts Later Set rows what
-  counted-row t (row.Round x number response) rows fits k = k
-  counted-row t (row.Got x n word) rows fits (inl set) = inl set
-  counted-row t (row.Got x n word) rows fits (inr served) = inr (under-way x n word t rows served (fits x))
-  counted-row t (row.Release x) rows fits k = tt
-  counted-row t (row.Run x) rows fits k = tt
-  counted-row t (row.Stop x cause j until) rows fits k = tt
-  counted-row t (row.Signal x note badge) rows fits k = tt
-  counted-row t (row.Arrive note badge maker) rows fits k = tt
-  counted-row t (row.Wake x note word) rows fits k = tt
-  counted-row t (row.Hold note word) rows fits k = tt
-  counted-row t (row.Order context) rows fits k = tt
-  counted-row t (row.Interrupt source at_note badge) rows fits k = tt
+          at : (b : Bool) → (first == n) ≡ b → b ≡ false
+          at false f = refl
+          at true f = let same : first ≡ n = grind (arith, nat_tests) in absurd (no-server (sym there ∙ ap (is_server system) same ∙ served))
+  counted-row c (row.Round x number response) o k = k
+  counted-row c (row.Release x) o k = tt
+  counted-row c (row.Run x) o k = tt
+  counted-row c (row.Stop x cause j until) o k = tt
+  counted-row c (row.Signal x note badge) o k = tt
+  counted-row c (row.Arrive note badge maker) o k = tt
+  counted-row c (row.Wake x note word until) o k = tt
+  counted-row c (row.Hold note word) o k = tt
+  counted-row c (row.Order context) o k = tt
+  counted-row c (row.Interrupt source at_note badge) o k = tt
 
-  counted : (c t : ℕ) (whats : List What) (rows : List Row) → ((x : ℕ) → AreFit system x rows (stamped c t whats)) → AllByRecursion Count whats → AreCounted system group shifts Later Set c t rows whats
-  counted c t [] rows fits k = tt
-  counted c t (what ∷ whats) rows fits k = (counted-row t what rows (λ x. (fits x).0) k.0, counted c t whats (at t c what ∷ rows) (λ x. (fits x).1) k.1)
+  counted : (c : ℕ) (whats : List What) → AllByRecursion (IsOfOwn system c) whats → AllByRecursion Count whats → AreCounted system group shifts well Later Set whats
+  counted c [] o k = tt
+  counted c (what ∷ whats) o k = (counted-row c what o.0 k.0, counted c whats o.1 k.1)
 
-  -- the rows of a moment, by those before it
-  fit-moment : (t x : ℕ) → AreFit system x (past_before system t) (rows_at system t)
-  fit-moment t x =
-      let P : List Row → Type 0 = λ rows. AreFit system x [] rows in
-      fit-later system x [] (clock system t).rows (rows_at system t) (subst P (rows-clock system (takes-time system well) t) (fitting system well x t))
+  counted-turn : (t c : ℕ) → from ≤ t → c < system.cores → group c ≡ true → AreCounted system group shifts well Later Set (whats t c)
+  counted-turn t c l known own = counted c (whats t c) (rows-of-own system well c t known) (count-all t c l known own)
 
   -- the turn of core c
-  alike-core : (c t : ℕ) (rows rows' : List Row) → from ≤ t → c < system.cores → ((x : ℕ) → AreFit system x rows (rows_of system c t)) → Like t rows rows' → Like t (past_of rows (rows_of system c t)) (past_of rows' (rows_of system c (t + d)))
-  alike-core c t rows rows' l known fits h =
-      alike-turn system group shifts Later Set c t (whats t c) (whats (t + d) c) rows rows' (rows-of-own system well c t known) (rows-of-own system well c (t + d) known)
-      (λ own. counted c t (whats t c) rows fits (count-all t c l known own)) (λ own. rows-again system group shifts from well recur.recurs t c l known own) h
+  alike-core : (c t : ℕ) (rows rows' : List Row) → from ≤ t → c < system.cores → Like t rows rows' → Like t (past_of rows (rows_of system c t)) (past_of rows' (rows_of system c (t + d)))
+  alike-core c t rows rows' l known h =
+      alike-turn system group shifts well Later Set c t (whats t c) (whats (t + d) c) rows rows' (rows-of-own system well c t known) (rows-of-own system well c (t + d) known)
+      (λ own. counted-turn t c l known own) (λ own. rows-again system group shifts from well recur.recurs t c l known own) h
 
   -- all turns of a moment, from core a on
-  alike-cores : (n a t : ℕ) (rows rows' : List Row) → from ≤ t → a + n ≤ system.cores →
-      ((x : ℕ) → AreFit system x rows (flat_map (λ c. rows_of system c t) (range_with_len a n))) → Like t rows rows' →
+  alike-cores : (n a t : ℕ) (rows rows' : List Row) → from ≤ t → a + n ≤ system.cores → Like t rows rows' →
       Like t (past_of rows (flat_map (λ c. rows_of system c t) (range_with_len a n))) (past_of rows' (flat_map (λ c. rows_of system c (t + d)) (range_with_len a n)))
-  alike-cores zero a t rows rows' l few fits h = h
-  alike-cores (suc n) a t rows rows' l few fits h =
+  alike-cores zero a t rows rows' l few h = h
+  alike-cores (suc n) a t rows rows' l few h =
       rw (
         past-append rows (rows_of system a t) (flat_map (λ c. rows_of system c t) (range_with_len (a + 1) n)),
         past-append rows' (rows_of system a (t + d)) (flat_map (λ c. rows_of system c (t + d)) (range_with_len (a + 1) n)),
       )
       (alike-cores n (a + 1) t (past_of rows (rows_of system a t)) (past_of rows' (rows_of system a (t + d))) l (omega (arith, few))
-      (λ x. fit-later system x rows (rows_of system a t) (flat_map (λ c. rows_of system c t) (range_with_len (a + 1) n)) (fits x))
-      (alike-core a t rows rows' l (omega (arith, few)) (λ x. fit-first system x rows (rows_of system a t) (flat_map (λ c. rows_of system c t) (range_with_len (a + 1) n)) (fits x)) h))
+      (alike-core a t rows rows' l (omega (arith, few)) h))
 
   -- the findings of rows, by those before them
   module _ {A : Type 0} (tells : List Row → List Row → List A) (later : A → A) (nothing : (rows : List Row) → tells rows [] ≡ [])
       (append : (rows xs ys : List Row) → tells rows (xs ++ ys) ≡ tells rows xs ++ tells (past_of rows xs) ys)
-      (turn : (c t : ℕ) (rows rows' : List Row) → from ≤ t → c < system.cores → ((x : ℕ) → AreFit system x rows (rows_of system c t)) → Like t rows rows' → tells rows' (rows_of system c (t + shifts.by)) ≡ map later (tells rows (rows_of system c t))) where
-    told-cores : (n a t : ℕ) (rows rows' : List Row) → from ≤ t → a + n ≤ system.cores →
-        ((x : ℕ) → AreFit system x rows (flat_map (λ c. rows_of system c t) (range_with_len a n))) → Like t rows rows' →
+      (turn : (c t : ℕ) (rows rows' : List Row) → from ≤ t → c < system.cores → Like t rows rows' → tells rows' (rows_of system c (t + shifts.by)) ≡ map later (tells rows (rows_of system c t))) where
+    told-cores : (n a t : ℕ) (rows rows' : List Row) → from ≤ t → a + n ≤ system.cores → Like t rows rows' →
         tells rows' (flat_map (λ c. rows_of system c (t + d)) (range_with_len a n)) ≡ map later (tells rows (flat_map (λ c. rows_of system c t) (range_with_len a n)))
-    told-cores zero a t rows rows' l few fits h = nothing rows' ∙ ap (map later) (sym (nothing rows))
-    told-cores (suc n) a t rows rows' l few fits h =
+    told-cores zero a t rows rows' l few h = nothing rows' ∙ ap (map later) (sym (nothing rows))
+    told-cores (suc n) a t rows rows' l few h =
         let known : a < system.cores = omega (arith, few) in
         append rows' now' others'
-        ∙ both _ _ _ _ (turn a t rows rows' l known fit-now h)
-        (told-cores n (a + 1) t (past_of rows now) (past_of rows' now') l (omega (arith, few)) (λ x. fit-later system x rows now others (fits x)) (alike-core a t rows rows' l known fit-now h))
+        ∙ both _ _ _ _ (turn a t rows rows' l known h)
+        (told-cores n (a + 1) t (past_of rows now) (past_of rows' now') l (omega (arith, few)) (alike-core a t rows rows' l known h))
         ∙ sym (map-append later (tells rows now) (tells (past_of rows now) others))
         ∙ ap (map later) (sym (append rows now others))
       where
@@ -291,9 +279,6 @@ module _ (system : System) (group : ℕ → Bool) (shifts : Shifts) (from : ℕ)
         others' : List Row
         others' = flat_map (λ c. rows_of system c (t + d)) (range_with_len (a + 1) n)
 
-        fit-now : (x : ℕ) → AreFit system x rows now
-        fit-now x = fit-first system x rows now others (fits x)
-
         both : (xs ys us vs : List A) → xs ≡ ys → us ≡ vs → xs ++ us ≡ ys ++ vs
         both xs ys us vs e f = cc
 
@@ -303,7 +288,8 @@ module _ (system : System) (group : ℕ → Bool) (shifts : Shifts) (from : ℕ)
   base : LikeAt from
   base =
       record {
-        threads = λ x known h later. later;
+        threads = λ x known h later. later-quiet (shift_of shifts (home x)) (account_at system x (past from)) (account_at system x (past (from + d))) later;
+        wholes = λ x known h later first. later;
         words = λ n known h. same-word n known (recur.words n known h);
         sets = λ n known h set. set;
         before = up_to system well from;
@@ -312,10 +298,11 @@ module _ (system : System) (group : ℕ → Bool) (shifts : Shifts) (from : ℕ)
 
   next : (t : ℕ) → from ≤ t → LikeAt t → LikeAt (suc t)
   next t l h =
-      let now = alike-cores system.cores 0 t (past t) (past (t + d)) l (omega arith) (fit-moment t) h in
+      let now = alike-cores system.cores 0 t (past t) (past (t + d)) l (omega arith) h in
       let later : Like (suc t) (past_of (past t) (rows_at system t)) (past_of (past (t + d)) (rows_at system (t + d))) =
       record {
         threads = now.threads;
+        wholes = now.wholes;
         words = now.words;
         sets = now.sets;
         before = up_to-later t (suc t) (past_of (past t) (rows_at system t)) (omega arith) now.before;
@@ -342,17 +329,17 @@ module _ (system : System) (group : ℕ → Bool) (shifts : Shifts) (from : ℕ)
   abbrev is_own_job : Job → Bool
   is_own_job job = group (home job.thread)
 
-  found-core : (c t : ℕ) (rows rows' : List Row) → from ≤ t → c < system.cores → ((x : ℕ) → AreFit system x rows (rows_of system c t)) → Like t rows rows' →
+  found-core : (c t : ℕ) (rows rows' : List Row) → from ≤ t → c < system.cores → Like t rows rows' →
       filter of_group (found_in system rows' (rows_of system c (t + d))) ≡ map (later_found shifts) (filter of_group (found_in system rows (rows_of system c t)))
-  found-core c t rows rows' l known fits h =
-      found-turn system group shifts Later Set c t (whats t c) (whats (t + d) c) rows rows' (rows-of-own system well c t known) (rows-of-own system well c (t + d) known)
-      (λ own. counted c t (whats t c) rows fits (count-all t c l known own)) (λ own. rows-again system group shifts from well recur.recurs t c l known own) h
+  found-core c t rows rows' l known h =
+      found-turn system group shifts well Later Set c t (whats t c) (whats (t + d) c) rows rows' (rows-of-own system well c t known) (rows-of-own system well c (t + d) known)
+      (λ own. counted-turn t c l known own) (λ own. rows-again system group shifts from well recur.recurs t c l known own) h
 
-  jobs-core : (c t : ℕ) (rows rows' : List Row) → from ≤ t → c < system.cores → ((x : ℕ) → AreFit system x rows (rows_of system c t)) → Like t rows rows' →
+  jobs-core : (c t : ℕ) (rows rows' : List Row) → from ≤ t → c < system.cores → Like t rows rows' →
       filter is_own_job (jobs_in system rows' (rows_of system c (t + d))) ≡ map (later_job_of system shifts) (filter is_own_job (jobs_in system rows (rows_of system c t)))
-  jobs-core c t rows rows' l known fits h =
-      jobs-turn system group shifts Later Set c t (whats t c) (whats (t + d) c) rows rows' (rows-of-own system well c t known) (rows-of-own system well c (t + d) known)
-      (λ own. counted c t (whats t c) rows fits (count-all t c l known own)) (λ own. rows-again system group shifts from well recur.recurs t c l known own) h
+  jobs-core c t rows rows' l known h =
+      jobs-turn system group shifts well Later Set c t (whats t c) (whats (t + d) c) rows rows' (rows-of-own system well c t known) (rows-of-own system well c (t + d) known)
+      (λ own. counted-turn t c l known own) (λ own. rows-again system group shifts from well recur.recurs t c l known own) h
 
   pub found-later : (t : ℕ) → from ≤ t →
       filter of_group (found_in system (past_before system (t + shifts.by)) (rows_at system (t + shifts.by)))
@@ -360,7 +347,7 @@ module _ (system : System) (group : ℕ → Bool) (shifts : Shifts) (from : ℕ)
   found-later t l =
       told-cores (λ past rows. filter of_group (found_in system past rows)) (later_found shifts) (λ past. refl)
       (λ past xs ys. ap (filter of_group) (found_in-append system past xs ys) ∙ filter-append of_group (found_in system past xs) (found_in system (past_of past xs) ys))
-      found-core system.cores 0 t (past t) (past (t + d)) l (omega arith) (fit-moment t) (alike t l)
+      found-core system.cores 0 t (past t) (past (t + d)) l (omega arith) (alike t l)
 
   pub jobs-later : (t : ℕ) → from ≤ t →
       filter is_own_job (jobs_in system (past_before system (t + shifts.by)) (rows_at system (t + shifts.by)))
@@ -368,4 +355,4 @@ module _ (system : System) (group : ℕ → Bool) (shifts : Shifts) (from : ℕ)
   jobs-later t l =
       told-cores (λ past rows. filter is_own_job (jobs_in system past rows)) (later_job_of system shifts) (λ past. refl)
       (λ past xs ys. ap (filter is_own_job) (jobs_in-append system past xs ys) ∙ filter-append is_own_job (jobs_in system past xs) (jobs_in system (past_of past xs) ys))
-      jobs-core system.cores 0 t (past t) (past (t + d)) l (omega arith) (fit-moment t) (alike t l)
+      jobs-core system.cores 0 t (past t) (past (t + d)) l (omega arith) (alike t l)

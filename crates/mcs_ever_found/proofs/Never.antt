@@ -1,6 +1,7 @@
--- A thread or a notification without a finding by the end of the first period never has one.
+-- A thread that misses no deadline by the end of the first period never misses one, and a
+-- notification that loses no signal by then never loses one.
 use Rattle.std.proofs.Common.{◌≡◌, ℕ, zero, suc, ◌+◌, ◌-◌, ◌<◌, ◌≤◌, Bool, true, false, cond, ◌||◌, List, [], ◌∷◌, map, refl, sym, ap, subst, ◌∙◌, Option, Some, None, arith}
-use Rattle.std.specs.Prelude.{filter, nat_lt, nat_le}
+use Rattle.std.specs.Prelude.{filter, ◌==◌, nat_lt, nat_le}
 use Rattle.std.specs.List.{AllByRecursion, list_any}
 use Rattle.std.proofs.lemmas.Bool.Decides.{nat_tests}
 use Rattle.std.proofs.lemmas.List.Folds.{list_any-append}
@@ -12,26 +13,25 @@ use Rattle.mcs_system.specs.System.{System, thread_part, note_part, core_of}
 use Rattle.mcs_system.specs.WellFormed.{IsWellFormed}
 use Rattle.mcs_core.specs.Clock.{clock, schedule, turn_of}
 use Rattle.mcs_verdict.specs.declared.finding.Finding.{Finding}
-use Rattle.mcs_verdict.specs.declared.finding.Finding.TheVariants.{Miss, Overdue, Lost, Never}
+use Rattle.mcs_verdict.specs.declared.finding.Finding.TheVariants.{Miss, Overdue, Untaken, Lost, Never}
 use Rattle.mcs_verdict.specs.declared.finding.Found.{Found}
 use Rattle.mcs_verdict.specs.Jobs.{job}
 use Rattle.mcs_verdict.specs.Words.{held_of, firsts_of, leaves}
-use Rattle.mcs_verdict.specs.Misses.{is_above, unended}
-use Rattle.mcs_verdict.specs.Findings.{finding, past_of, found_at, found_in}
+use Rattle.mcs_verdict.specs.Misses.{is_above}
+use Rattle.mcs_verdict.specs.Findings.{finding, found_at, found_in}
 use Rattle.mcs_verdict_laws.specs.laws.Horizons.{is_miss_of}
 use Rattle.mcs_verdict_laws.proofs.Steps.{contrary, ends_round}
 use Rattle.mcs_verdict_laws.proofs.Homes.{rounds-home}
-use Rattle.mcs_verdict_laws.proofs.Between.{miss-home, thread-between}
+use Rattle.mcs_verdict_laws.proofs.Between.{miss-home}
 use Rattle.mcs_ever.specs.Recurs.{Shifts, shift_of}
 use Rattle.mcs_ever.specs.laws.Home.{IsOfOwn}
 use Rattle.mcs_ever.proofs.Home.{rows-of-own}
 use Rattle.mcs_ever.proofs.Schedules.{all-turns}
 use Rattle.mcs_ever_found.specs.Later.{later_finding, later_found}
-use Rattle.mcs_ever_found.specs.Recurs.{holds_word, FindingsRecur}
+use Rattle.mcs_ever_found.specs.Recurs.{FindingsRecur}
 use Rattle.mcs_ever_found.specs.laws.Repeats.{found_at_moment}
-use Rattle.mcs_ever_found.specs.laws.Never.{is_lost_of, NoDeadlineIsMissed, NoSignalIsLost, ThreadIsNeverFound}
+use Rattle.mcs_ever_found.specs.laws.Never.{is_lost_of, NoDeadlineIsMissed, NoSignalIsLost}
 use Rattle.mcs_ever_found.proofs.Findings.{found_before, found-next, findings-repeat}
-use Rattle.mcs_ever_found.proofs.Ends.{end-again}
 
 or-first : (a b : Bool) → (a || b) ≡ false → a ≡ false
 or-first false b e = refl
@@ -157,7 +157,8 @@ module _ (system : System) (group : ℕ → Bool) (shifts : Shifts) (from : ℕ)
 -- a missed deadline
 miss-timeless : (shifts : Shifts) (x core : ℕ) (f : Finding) → is_miss_of x (later_finding (shift_of shifts core) f) ≡ is_miss_of x f
 miss-timeless shifts x core (Miss y number response deadline activated queued stood) = refl
-miss-timeless shifts x core (Overdue y deadline activated queued stood) = refl
+miss-timeless shifts x core (Overdue y number age deadline activated queued stood) = refl
+miss-timeless shifts x core (Untaken note word age deadline set) = refl
 miss-timeless shifts x core (Lost note word) = refl
 miss-timeless shifts x core (Never y deadline) = refl
 
@@ -177,9 +178,15 @@ no-deadline-is-missed system group shifts from well recur x own last end first h
 -- a lost signal
 lost-timeless : (shifts : Shifts) (n core : ℕ) (f : Finding) → is_lost_of n (later_finding (shift_of shifts core) f) ≡ is_lost_of n f
 lost-timeless shifts n core (Miss y number response deadline activated queued stood) = refl
-lost-timeless shifts n core (Overdue y deadline activated queued stood) = refl
+lost-timeless shifts n core (Overdue y number age deadline activated queued stood) = refl
+lost-timeless shifts n core (Untaken note word age deadline set) = refl
 lost-timeless shifts n core (Lost note word) = refl
 lost-timeless shifts n core (Never y deadline) = refl
+
+-- whether a signal is held in the word of the notification
+abbrev holds_word : ℕ → What → Bool
+holds_word note (row.Hold x word) = x == note
+holds_word note _ = false
 
 -- a word is held on the core of its notification
 module _ (system : System) (n : ℕ) where
@@ -195,7 +202,7 @@ module _ (system : System) (n : ℕ) where
   held-row c (row.Stop x cause charged until) own e = absurd (contrary false refl e)
   held-row c (row.Signal x note badge) own e = absurd (contrary false refl e)
   held-row c (row.Arrive note badge maker) own e = absurd (contrary false refl e)
-  held-row c (row.Wake x note word) own e = absurd (contrary false refl e)
+  held-row c (row.Wake x note word until) own e = absurd (contrary false refl e)
   held-row c (row.Got x note word) own e = absurd (contrary false refl e)
   held-row c (row.Round x number response) own e = absurd (contrary false refl e)
   held-row c (row.Order context) own e = absurd (contrary false refl e)
@@ -240,7 +247,7 @@ module _ (system : System) (n : ℕ) where
   lost-home m core past (row.Stop y cause charged until) own f e lost = absurd (cc)
   lost-home m core past (row.Signal y note badge) own f e lost = absurd (cc)
   lost-home m core past (row.Arrive note badge maker) own f e lost = absurd (cc)
-  lost-home m core past (row.Wake y note word) own f e lost = absurd (cc)
+  lost-home m core past (row.Wake y note word until) own f e lost = absurd (cc)
   lost-home m core past (row.Got y note word) own f e lost = absurd (cc)
   lost-home m core past (row.Order context) own f e lost = absurd (cc)
   lost-home m core past (row.Interrupt source at_note badge) own f e lost = absurd (cc)
@@ -257,32 +264,3 @@ pub no-signal-is-lost : NoSignalIsLost
 no-signal-is-lost system group shifts from well recur n own last end first horizon =
     none-ever system group shifts from well recur (is_lost_of n) (lost-timeless shifts n)
     (λ t. lost-own system n group [] (clock system t).rows own (held-home system n well t)) last end first horizon
-
--- a thread
-pub thread-is-never-found : ThreadIsNeverFound
-thread-is-never-found system group shifts from well recur x known own ends earlier last begin end alone first found horizon l =
-    record {
-      missed = no-deadline-is-missed system group shifts from well recur x own last end found.missed horizon;
-      unended = at-end (suc horizon) horizon (omega arith) l;
-    }
-  where
-    some : 1 ≤ shifts.by
-    some = recur.recurs.some
-
-    Ended : ℕ → Type 0
-    Ended h = unended system (past_of [] (schedule system h)) h x ≡ None
-
-    at-end : (n h : ℕ) → h < n → earlier ≤ h → Ended h
-    at-end zero h k l = absurd (omega (arith, k))
-    at-end (suc n) h k l = by (at-end n (h - shifts.by)) (nat_le h last) refl
-      where
-        by : (h - shifts.by < n → earlier ≤ h - shifts.by → Ended (h - shifts.by)) → (b : Bool) → nat_le h last ≡ b → Ended h
-        by q true f =
-            let less : h ≤ last = grind (arith, nat_tests) in
-            thread-between system well earlier last h l less x alone found.missed first found.unended
-        by q false f =
-            let more : last < h = grind (arith, nat_tests) in
-            let g : h - shifts.by + shifts.by ≡ h = omega (arith, more, end) in
-            subst Ended g
-            (end-again system group shifts from well recur x known own ends (h - shifts.by) (omega (arith, more, end))
-            (q (omega (arith, k, more, end, some)) (omega (arith, more, end, begin))))

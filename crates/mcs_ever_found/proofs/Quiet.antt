@@ -19,7 +19,7 @@ use Rattle.mcs_ever.proofs.Repeats.{forever}
 use Rattle.mcs_ever.proofs.Schedules.{each-turn, all-turns}
 use Rattle.mcs_verdict.specs.Account.{is_about}
 use Rattle.mcs_ever_found.specs.Period.{whats}
-use Rattle.mcs_ever_found.specs.Recurs.{takes_word, holds_word, IsNotTold, TakesNoWord, HoldsNoSignal}
+use Rattle.mcs_ever_found.specs.Recurs.{takes_word, TakesNoWord}
 
 and-false : (b : Bool) → (b && false) ≡ false
 and-false true = refl
@@ -50,57 +50,31 @@ all-true P f [] = tt
 all-true P f (what ∷ rows) = (f what, all-true P f rows)
 
 -- later rows do the same
-later-ends : (shift : Shift) (x : ℕ) (what : What) → ends_round x (later_what shift what) ≡ ends_round x what
+pub later-ends : (shift : Shift) (x : ℕ) (what : What) → ends_round x (later_what shift what) ≡ ends_round x what
 later-ends shift x (row.Round y number response) = refl
 later-ends shift x (row.Stop y cause k until) = refl
 later-ends shift x (row.Release y) = refl
 later-ends shift x (row.Run y) = refl
 later-ends shift x (row.Signal y note badge) = refl
 later-ends shift x (row.Arrive note badge maker) = refl
-later-ends shift x (row.Wake y note word) = refl
+later-ends shift x (row.Wake y note word until) = refl
 later-ends shift x (row.Hold note word) = refl
 later-ends shift x (row.Got y note word) = refl
 later-ends shift x (row.Order context) = refl
 later-ends shift x (row.Interrupt source at_note badge) = refl
 
-later-about : (shift : Shift) (x : ℕ) (what : What) → is_about x (later_what shift what) ≡ is_about x what
-later-about shift x (row.Round y number response) = refl
-later-about shift x (row.Stop y cause k until) = refl
-later-about shift x (row.Release y) = refl
-later-about shift x (row.Run y) = refl
-later-about shift x (row.Signal y note badge) = refl
-later-about shift x (row.Arrive note badge maker) = refl
-later-about shift x (row.Wake y note word) = refl
-later-about shift x (row.Hold note word) = refl
-later-about shift x (row.Got y note word) = refl
-later-about shift x (row.Order context) = refl
-later-about shift x (row.Interrupt source at_note badge) = refl
-
-later-takes : (shift : Shift) (n : ℕ) (what : What) → takes_word n (later_what shift what) ≡ takes_word n what
+pub later-takes : (shift : Shift) (n : ℕ) (what : What) → takes_word n (later_what shift what) ≡ takes_word n what
 later-takes shift n (row.Round y number response) = refl
 later-takes shift n (row.Stop y cause k until) = refl
 later-takes shift n (row.Release y) = refl
 later-takes shift n (row.Run y) = refl
 later-takes shift n (row.Signal y note badge) = refl
 later-takes shift n (row.Arrive note badge maker) = refl
-later-takes shift n (row.Wake y note word) = refl
+later-takes shift n (row.Wake y note word until) = refl
 later-takes shift n (row.Hold note word) = refl
 later-takes shift n (row.Got y note word) = refl
 later-takes shift n (row.Order context) = refl
 later-takes shift n (row.Interrupt source at_note badge) = refl
-
-later-holds : (shift : Shift) (n : ℕ) (what : What) → holds_word n (later_what shift what) ≡ holds_word n what
-later-holds shift n (row.Round y number response) = refl
-later-holds shift n (row.Stop y cause k until) = refl
-later-holds shift n (row.Release y) = refl
-later-holds shift n (row.Run y) = refl
-later-holds shift n (row.Signal y note badge) = refl
-later-holds shift n (row.Arrive note badge maker) = refl
-later-holds shift n (row.Wake y note word) = refl
-later-holds shift n (row.Hold note word) = refl
-later-holds shift n (row.Got y note word) = refl
-later-holds shift n (row.Order context) = refl
-later-holds shift n (row.Interrupt source at_note badge) = refl
 
 module _ (system : System) (group : ℕ → Bool) where
   abbrev home : ℕ → ℕ
@@ -124,57 +98,44 @@ module _ (system : System) (group : ℕ → Bool) where
       by false e = refl
 
   -- rows of other cores
-  away-about : (x c : ℕ) (what : What) → group (home x) ≡ true → group c ≡ false → IsOfOwn system c what → is_about x what ≡ false
+  pub away-about : (x c : ℕ) (what : What) → group (home x) ≡ true → group c ≡ false → IsOfOwn system c what → is_about x what ≡ false
   away-about x c (row.Round y number response) own away is = apart home y x c own away is.home
   away-about x c (row.Stop y cause k until) own away is = apart home y x c own away is.home
   away-about x c (row.Release y) own away is = apart home y x c own away is.home
   away-about x c (row.Run y) own away is = apart home y x c own away is.home
   away-about x c (row.Signal y note badge) own away is = refl
   away-about x c (row.Arrive note badge maker) own away is = refl
-  away-about x c (row.Wake y note word) own away is = apart home y x c own away is.0.home
+  away-about x c (row.Wake y note word until) own away is = apart home y x c own away is.0.home
   away-about x c (row.Hold note word) own away is = refl
   away-about x c (row.Got y note word) own away is = apart home y x c own away is.0.home
   away-about x c (row.Order context) own away is = refl
   away-about x c (row.Interrupt source at_note badge) own away is = refl
 
-  away-ends : (x c : ℕ) (what : What) → group (home x) ≡ true → group c ≡ false → IsOfOwn system c what → ends_round x what ≡ false
+  pub away-ends : (x c : ℕ) (what : What) → group (home x) ≡ true → group c ≡ false → IsOfOwn system c what → ends_round x what ≡ false
   away-ends x c (row.Round y number response) own away is = apart home y x c own away is.home
   away-ends x c (row.Stop y cause k until) own away is = refl
   away-ends x c (row.Release y) own away is = refl
   away-ends x c (row.Run y) own away is = refl
   away-ends x c (row.Signal y note badge) own away is = refl
   away-ends x c (row.Arrive note badge maker) own away is = refl
-  away-ends x c (row.Wake y note word) own away is = refl
+  away-ends x c (row.Wake y note word until) own away is = refl
   away-ends x c (row.Hold note word) own away is = refl
   away-ends x c (row.Got y note word) own away is = refl
   away-ends x c (row.Order context) own away is = refl
   away-ends x c (row.Interrupt source at_note badge) own away is = refl
 
-  away-takes : (n c : ℕ) (what : What) → group (note_home n) ≡ true → group c ≡ false → IsOfOwn system c what → takes_word n what ≡ false
+  pub away-takes : (n c : ℕ) (what : What) → group (note_home n) ≡ true → group c ≡ false → IsOfOwn system c what → takes_word n what ≡ false
   away-takes n c (row.Round y number response) own away is = refl
   away-takes n c (row.Stop y cause k until) own away is = refl
   away-takes n c (row.Release y) own away is = refl
   away-takes n c (row.Run y) own away is = refl
   away-takes n c (row.Signal y note badge) own away is = refl
   away-takes n c (row.Arrive note badge maker) own away is = refl
-  away-takes n c (row.Wake y note word) own away is = refl
+  away-takes n c (row.Wake y note word until) own away is = refl
   away-takes n c (row.Hold note word) own away is = refl
   away-takes n c (row.Got y note word) own away is = apart note_home note n c own away is.1.home
   away-takes n c (row.Order context) own away is = refl
   away-takes n c (row.Interrupt source at_note badge) own away is = refl
-
-  away-holds : (n c : ℕ) (what : What) → group (note_home n) ≡ true → group c ≡ false → IsOfOwn system c what → holds_word n what ≡ false
-  away-holds n c (row.Round y number response) own away is = refl
-  away-holds n c (row.Stop y cause k until) own away is = refl
-  away-holds n c (row.Release y) own away is = refl
-  away-holds n c (row.Run y) own away is = refl
-  away-holds n c (row.Signal y note badge) own away is = refl
-  away-holds n c (row.Arrive note badge maker) own away is = refl
-  away-holds n c (row.Wake y note word) own away is = refl
-  away-holds n c (row.Hold note word) own away is = apart note_home note n c own away is.home
-  away-holds n c (row.Got y note word) own away is = refl
-  away-holds n c (row.Order context) own away is = refl
-  away-holds n c (row.Interrupt source at_note badge) own away is = refl
 
   module _ (shifts : Shifts) (from : ℕ) (well : IsWellFormed system) (recurs : Recurs system group shifts from) where
     -- the rows of the period
@@ -224,11 +185,5 @@ module _ (system : System) (group : ℕ → Bool) where
       pub ends-none : (x : ℕ) → group (home x) ≡ true → list_any (ends_round x) (whats between) ≡ false → EndsNoRound system x from (from + shifts.by)
       ends-none x own none = quiet (ends_round x) (λ c what. later-ends (shift_of shifts c) x what) (λ c what away is. away-ends x c what own away is) none
 
-      pub tells-none : (x : ℕ) → group (home x) ≡ true → list_any (is_about x) (whats between) ≡ false → IsNotTold system x from (from + shifts.by)
-      tells-none x own none = quiet (is_about x) (λ c what. later-about (shift_of shifts c) x what) (λ c what away is. away-about x c what own away is) none
-
       pub takes-none : (n : ℕ) → group (note_home n) ≡ true → list_any (takes_word n) (whats between) ≡ false → TakesNoWord system n from (from + shifts.by)
       takes-none n own none = quiet (takes_word n) (λ c what. later-takes (shift_of shifts c) n what) (λ c what away is. away-takes n c what own away is) none
-
-      pub holds-none : (n : ℕ) → group (note_home n) ≡ true → list_any (holds_word n) (whats between) ≡ false → HoldsNoSignal system n from (from + shifts.by)
-      holds-none n own none = quiet (holds_word n) (λ c what. later-holds (shift_of shifts c) n what) (λ c what away is. away-holds n c what own away is) none

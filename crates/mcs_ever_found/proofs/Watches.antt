@@ -1,18 +1,17 @@
 -- Facts of the run, by the watches of two moments.
-use Rattle.std.proofs.Common.{◌≡◌, ℕ, ◌+◌, ◌<◌, ◌⊎◌, inl, inr, Bool, true, false, List, length, get_or, sym, ap, subst, ◌∙◌}
+use Rattle.std.proofs.Common.{◌≡◌, ℕ, ◌+◌, ◌^◌, ◌<◌, ◌≤◌, ◌⊎◌, inl, inr, Bool, true, false, List, length, get_or, sym, ap, subst, ◌∙◌}
 use Rattle.std.specs.List.{list_any}
 use Rattle.mcs_ticks.specs.declared.row.What.{What}
 use Rattle.mcs_system.specs.System.{System, thread_part, note_part, core_of, is_server}
 use Rattle.mcs_system.specs.WellFormed.{IsWellFormed}
-use Rattle.mcs_verdict.specs.Account.{is_about}
 use Rattle.mcs_verdict.specs.Later.{later_account, without_total, IsLaterThread, IsSameWord, IsLaterWord}
 use Rattle.mcs_verdict.specs.Watch.{Watch}
 use Rattle.mcs_ever.specs.Recurs.{Shifts, Recurs}
 use Rattle.mcs_ever.specs.laws.Repeats.{ends_round, EndsNoRound}
-use Rattle.mcs_ever_found.specs.Recurs.{takes_word, holds_word, TakesNoWord, ThreadIsLater, WordIsSame, WordIsLater, FindingsRecur}
+use Rattle.mcs_ever_found.specs.Recurs.{takes_word, TakesNoWord, ThreadIsLater, WordIsSame, WordIsLater, FindingsRecur}
 use Rattle.mcs_ever_found.specs.Doings.{Doings}
 use Rattle.mcs_ever_found.specs.Period.{whats, AreKept}
-use Rattle.mcs_ever_found.specs.Tests.{ThreadRecurs, ThreadsRecur, WordsRecur}
+use Rattle.mcs_ever_found.specs.Tests.{ThreadsRecur, WordsRecur}
 use Rattle.mcs_ever_found.proofs.Flags.{flag-at}
 use Rattle.mcs_ever_found.proofs.Quiet.{ends-none, takes-none}
 
@@ -25,17 +24,9 @@ module _ (system : System) (by from : ℕ) (before after : Watch) (doings : Doin
   ended-none x known none =
       sym (ap (λ (doings : Doings). get_or doings.ended x false) kept.done ∙ flag-at ends_round (length system.threads) period x false known) ∙ none
 
-  pub told-none : (x : ℕ) → x < length system.threads → get_or doings.told x false ≡ false → list_any (is_about x) period ≡ false
-  told-none x known none =
-      sym (ap (λ (doings : Doings). get_or doings.told x false) kept.done ∙ flag-at is_about (length system.threads) period x false known) ∙ none
-
   pub taken-none : (n : ℕ) → n < length system.notes → get_or doings.taken n false ≡ false → list_any (takes_word n) period ≡ false
   taken-none n known none =
       sym (ap (λ (doings : Doings). get_or doings.taken n false) kept.done ∙ flag-at takes_word (length system.notes) period n false known) ∙ none
-
-  pub held-none : (n : ℕ) → n < length system.notes → get_or doings.held n false ≡ false → list_any (holds_word n) period ≡ false
-  held-none n known none =
-      sym (ap (λ (doings : Doings). get_or doings.held n false) kept.done ∙ flag-at holds_word (length system.notes) period n false known) ∙ none
 
   -- an account or a word that is later in the watches is later in the run
   pub thread-later : (x : ℕ) → IsLaterThread by before after x → ThreadIsLater system by from x
@@ -55,16 +46,19 @@ module _ (system : System) (by from : ℕ) (before after : Watch) (doings : Doin
 
 module _ (system : System) (group : ℕ → Bool) (shifts : Shifts) (from : ℕ) (well : IsWellFormed system) (recurs : Recurs system group shifts from)
     (before after : Watch) (doings : Doings) where
-  recur : AreKept system shifts.by from before after doings → ThreadsRecur system group shifts.by before after doings (length system.threads) →
-      WordsRecur system group shifts.by before after doings (length system.notes) → FindingsRecur system group shifts from
-  recur kept threads words = record {
+  recur : AreKept system shifts.by from before after doings → from + shifts.by ≤ 2 ^ 41 → ThreadsRecur system group shifts.by from before after doings (length system.threads) →
+      WordsRecur system group shifts.by from before after doings (length system.notes) → FindingsRecur system group shifts from
+  recur kept near threads words = record {
     recurs = recurs;
-    threads = λ x known own. thread x known own (threads x known own);
+    near = near;
+    started = λ x known own. (threads x known own).started;
+    threads = λ x known own. thread x known own (threads x known own).later;
     words = λ n known own. word-same system shifts.by from before after doings kept n (words n known own).same;
     taken = λ n known own. taken n known own (words n known own).taken;
   }
     where
-      thread : (x : ℕ) → x < length system.threads → group (core_of system (thread_part system x)) ≡ true → ThreadRecurs shifts.by before after doings x →
+      thread : (x : ℕ) → x < length system.threads → group (core_of system (thread_part system x)) ≡ true →
+          IsLaterThread shifts.by before after x ⊎ (get_or doings.ended x false ≡ false) →
           ThreadIsLater system shifts.by from x ⊎ EndsNoRound system x from (from + shifts.by)
       thread x known own (inl is) = inl (thread-later system shifts.by from before after doings kept x is)
       thread x known own (inr none) = inr (ends-none system group shifts from well recurs kept.between kept.on x own (ended-none system shifts.by from before after doings kept x known none))
@@ -75,11 +69,11 @@ module _ (system : System) (group : ℕ → Bool) (shifts : Shifts) (from : ℕ)
       taken n known own (inr (inr served)) = inr (inr served)
       taken n known own (inr (inl none)) = inr (inl (takes-none system group shifts from well recurs kept.between kept.on n own (taken-none system shifts.by from before after doings kept n known none)))
 
-  pub findings-recur : (by : ℕ) → shifts.by ≡ by → AreKept system by from before after doings → ThreadsRecur system group by before after doings (length system.threads) →
-      WordsRecur system group by before after doings (length system.notes) → FindingsRecur system group shifts from
+  pub findings-recur : (by : ℕ) → shifts.by ≡ by → AreKept system by from before after doings → from + by ≤ 2 ^ 41 → ThreadsRecur system group by from before after doings (length system.threads) →
+      WordsRecur system group by from before after doings (length system.notes) → FindingsRecur system group shifts from
   findings-recur by same =
-      let P : ℕ → Type 0 = λ by. AreKept system by from before after doings → ThreadsRecur system group by before after doings (length system.threads) →
-      WordsRecur system group by before after doings (length system.notes) → FindingsRecur system group shifts from in
+      let P : ℕ → Type 0 = λ by. AreKept system by from before after doings → from + by ≤ 2 ^ 41 → ThreadsRecur system group by from before after doings (length system.threads) →
+      WordsRecur system group by from before after doings (length system.notes) → FindingsRecur system group shifts from in
       subst P same recur
 
 -- a thread or a notification of another core

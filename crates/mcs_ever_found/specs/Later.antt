@@ -1,7 +1,7 @@
 -- Findings and rounds that ended, later: each time is later by as many ticks.
 use Rattle.std.specs.Prelude.{◌+◌}
 use Rattle.mcs_verdict.specs.declared.finding.Finding.{Finding}
-use Rattle.mcs_verdict.specs.declared.finding.Finding.TheVariants.{Miss, Overdue, Lost, Never}
+use Rattle.mcs_verdict.specs.declared.finding.Finding.TheVariants.{Miss, Overdue, Untaken, Lost, Never}
 use Rattle.mcs_verdict.specs.declared.finding.Found.{Found}
 use Rattle.mcs_verdict.specs.declared.job.Job.{Job}
 use Rattle.mcs_ever.specs.Later.{Shift, more_rounds}
@@ -17,11 +17,13 @@ later_job shift job =
       ended = job.ended + shift.by;
     }
 
--- a finding: the number of a round that missed its deadline is higher
+-- a finding: the number of its round is higher
 abbrev pub later_finding : Shift → Finding → Finding
 later_finding shift (Miss thread number response deadline activated queued stood) =
     Miss thread (more_rounds (shift.rounds thread) number) response deadline (activated + shift.by) queued stood
-later_finding shift (Overdue thread deadline activated queued stood) = Overdue thread deadline (activated + shift.by) queued stood
+later_finding shift (Overdue thread number age deadline activated queued stood) =
+    Overdue thread (more_rounds (shift.rounds thread) number) age deadline (activated + shift.by) queued stood
+later_finding shift (Untaken note word age deadline set) = Untaken note word age deadline (set + shift.by)
 later_finding shift (Lost note word) = Lost note word
 later_finding shift (Never thread deadline) = Never thread deadline
 

@@ -1,3 +1,4 @@
 pub mod Repeats
 pub mod Never
+pub mod GoOn
 pub mod Course

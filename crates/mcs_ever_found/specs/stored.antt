@@ -1,3 +1,3 @@
 pub mod Places
 pub mod Flags
-pub mod Waits
+pub mod Endless

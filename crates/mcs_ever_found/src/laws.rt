@@ -1,5 +1,6 @@
-ghost use Rattle.mcs_ever_found.specs.laws.Repeats.{FindingsRepeat, NothingIsFound, OverdueRepeats, NothingIsEverFound, NothingIsFoundAfter, JobsRepeat, JobTestsAreForever};
-ghost use Rattle.mcs_ever_found.specs.laws.Never.{NoDeadlineIsMissed, NoSignalIsLost, ThreadIsNeverFound};
+ghost use Rattle.mcs_ever_found.specs.laws.Repeats.{FindingsRepeat, NothingIsFound, JobsRepeat, JobTestsAreForever};
+ghost use Rattle.mcs_ever_found.specs.laws.Never.{NoDeadlineIsMissed, NoSignalIsLost};
+ghost use Rattle.mcs_ever_found.specs.laws.GoOn.{ThreadsGoOn, WordsGoOn};
 ghost use Rattle.mcs_ever_found.specs.laws.Course.{GreatestIsForever, NeverSpent, NoneIsCounted};
 
 /// A law of schedules, for a group of cores that recurs in its findings. Each deadline miss and
@@ -13,28 +14,6 @@ pub fn findings_repeat()
 /// up to any horizon.
 pub fn nothing_is_found()
     ensures { NothingIsFound }
-{}
-
-/// A law of schedules, for a group of cores that recurs in its findings, and a thread of it whose
-/// account and first word recur. At a horizon from the first period on the thread is overdue
-/// exactly if it is overdue a period later.
-pub fn overdue_repeats()
-    ensures { OverdueRepeats }
-{}
-
-/// A law of schedules, for a group of cores that recurs in its findings, if the findings of all its
-/// threads at horizons recur, too. If the group has no finding at each horizon of the first period,
-/// it has none at any horizon from then on.
-pub fn nothing_is_ever_found()
-    ensures { NothingIsEverFound }
-{}
-
-/// A law of schedules, as `nothing_is_ever_found`, but with two horizons. One is at most the first
-/// of the first period, the other at least its last. Between them no other thread may take the word
-/// for which a thread of the group with a deadline waits first. If the group has no finding at
-/// both, it has none at any horizon from the earlier one on.
-pub fn nothing_is_found_after()
-    ensures { NothingIsFoundAfter }
 {}
 
 /// A law of schedules, for a group of cores that recurs in its findings. Each round that ends
@@ -62,15 +41,26 @@ pub fn no_signal_is_lost()
     ensures { NoSignalIsLost }
 {}
 
-/// A law of schedules, for a group of cores that recurs in its findings, and a thread of it whose
-/// finding at horizons recurs, too.
+/// A law of schedules, for a group of cores that recurs in its findings, and each thread of it.
 ///
-/// Take two horizons, one at most the first of the first period, the other at least its last. If
-/// the thread has no finding at both, it has none at any horizon from the earlier one on. If it has
-/// a deadline, no other thread may take the word for which it waits first between them. The
-/// findings of other threads do not matter.
-pub fn thread_is_never_found()
-    ensures { ThreadIsNeverFound }
+/// - A thread with no endless round (`endless_round`) that missed no deadline by the end of the
+///   first period misses none ever, and is overdue at no horizon.
+/// - An endless round is overdue at each horizon from the last moment of the first period on at
+///   which its deadline has passed.
+/// - From that moment on the thread is never activated exactly if it was not by then.
+pub fn threads_go_on()
+    ensures { ThreadsGoOn }
+{}
+
+/// A law of schedules, for a group of cores that recurs in its findings, and each notification of
+/// it.
+///
+/// - A word that is not abandoned (`abandoned_word`) is untaken at no horizon, if each thread that
+///   waits for it first misses no deadline ever and is overdue at no horizon.
+/// - An abandoned word is untaken at each horizon from the last moment of the first period on at
+///   which the deadline of its notification has passed; it is set as it was then.
+pub fn words_go_on()
+    ensures { WordsGoOn }
 {}
 
 /// A law of schedules, for a group of cores that recurs in its findings: the maximum response of

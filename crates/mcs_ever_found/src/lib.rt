@@ -10,7 +10,7 @@ mod recurs;
 pub use course::Course;
 pub use laws::{
     findings_repeat, greatest_is_forever, job_tests_are_forever, jobs_repeat, never_spent,
-    no_deadline_is_missed, no_signal_is_lost, none_is_counted, nothing_is_ever_found,
-    nothing_is_found, nothing_is_found_after, overdue_repeats, thread_is_never_found,
+    no_deadline_is_missed, no_signal_is_lost, none_is_counted, nothing_is_found, threads_go_on,
+    words_go_on,
 };
-pub use recurs::{Doings, end_recurs, findings_recur, waits_alone};
+pub use recurs::{Doings, abandoned_word, endless_round, findings_recur};

@@ -1,12 +1,11 @@
-//! Tests whether the findings in the rows of a group of cores recur between two moments.
+//! Tests whether the findings in the rows of a group of cores recur between two moments, and what
+//! goes on for ever if they do.
 
-mod alone;
 mod doings;
-mod ends;
+mod endless;
 mod findings;
 mod group;
 
-pub use alone::waits_alone;
 pub use doings::Doings;
-pub use ends::end_recurs;
+pub use endless::{abandoned_word, endless_round};
 pub use findings::findings_recur;

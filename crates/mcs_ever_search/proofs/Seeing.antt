@@ -53,7 +53,7 @@ module _ (system : System) (before : List Row) (since : List What) (t : ℕ) whe
       let here : r.moment ≤ t = omega (arith, at) in
       record {
         so_far = subst Q (told-more rows r) (subst P (append_assoc before rows (r ∷ [])) after);
-        up_to = subst U (append_assoc before rows (r ∷ [])) (subst W (sym (past_of-more [] (before ++ rows) r)) (here, so.up_to));
+        up_to = subst U (append_assoc before rows (r ∷ [])) (subst W (sym (past_of-more [] (before ++ rows) r)) (here, subst V (sym at) so.up_to));
       }
     where
       told-more : (rows : List Row) (r : Row) → (since ++ whats rows) ++ r.what ∷ [] ≡ since ++ whats (rows ++ r ∷ [])

@@ -8,7 +8,7 @@ use Rattle.mcs_ticks.specs.declared.row.Row.{Row}
 use Rattle.mcs_system.specs.System.{System}
 use Rattle.mcs_core.specs.Clock.{schedule}
 use Rattle.mcs_verdict.specs.declared.finding.Finding.{Finding}
-use Rattle.mcs_verdict.specs.declared.finding.Finding.TheVariants.{Miss, Overdue, Lost, Never}
+use Rattle.mcs_verdict.specs.declared.finding.Finding.TheVariants.{Miss, Overdue, Untaken, Lost, Never}
 use Rattle.mcs_verdict.specs.declared.finding.Found.{Found}
 use Rattle.mcs_verdict.specs.Findings.{finding, past_of, found_at, found_in}
 use Rattle.mcs_verdict_laws.specs.laws.Horizons.{is_miss_of, has_miss_of}
@@ -51,13 +51,15 @@ module _ (system : System) (test : Option Finding → Bool) where
 
 same-miss : (thread : ℕ) (f : Finding) → is_miss thread (Some f) ≡ is_miss_of thread f
 same-miss thread (Miss x number response deadline activated queued stood) = refl
-same-miss thread (Overdue x deadline activated queued stood) = refl
+same-miss thread (Overdue x number age deadline activated queued stood) = refl
+same-miss thread (Untaken note word age deadline set) = refl
 same-miss thread (Lost note word) = refl
 same-miss thread (Never x deadline) = refl
 
 same-loss : (note : ℕ) (f : Finding) → is_loss note (Some f) ≡ is_lost_of note f
 same-loss note (Miss x number response deadline activated queued stood) = refl
-same-loss note (Overdue x deadline activated queued stood) = refl
+same-loss note (Overdue x number age deadline activated queued stood) = refl
+same-loss note (Untaken x word age deadline set) = refl
 same-loss note (Lost x word) = refl
 same-loss note (Never x deadline) = refl
 

@@ -11,7 +11,7 @@ use Rattle.mcs_system.specs.System.{System, thread_part, note_part, core_of}
 use Rattle.mcs_system.specs.WellFormed.{IsWellFormed}
 use Rattle.mcs_core.specs.Clock.{clock}
 use Rattle.mcs_verdict.specs.declared.finding.Finding.{Finding}
-use Rattle.mcs_verdict.specs.declared.finding.Finding.TheVariants.{Miss, Overdue, Lost, Never}
+use Rattle.mcs_verdict.specs.declared.finding.Finding.TheVariants.{Miss, Overdue, Untaken, Lost, Never}
 use Rattle.mcs_verdict.specs.declared.finding.Found.{Found}
 use Rattle.mcs_verdict.specs.Findings.{finding, past_of, found_at, found_in}
 use Rattle.mcs_verdict.specs.Jobs.{job}
@@ -126,13 +126,15 @@ module _ (system : System) (group : ℕ → Bool) (test : Option Finding → Boo
 -- missed deadlines of a thread
 pub miss-later : (thread : ℕ) (shift : Shift) (f : Finding) → is_miss thread (Some (later_finding shift f)) ≡ is_miss thread (Some f)
 miss-later thread shift (Miss x number response deadline activated queued stood) = refl
-miss-later thread shift (Overdue x deadline activated queued stood) = refl
+miss-later thread shift (Overdue x number age deadline activated queued stood) = refl
+miss-later thread shift (Untaken note word age deadline set) = refl
 miss-later thread shift (Lost note word) = refl
 miss-later thread shift (Never x deadline) = refl
 
 pub loss-later : (note : ℕ) (shift : Shift) (f : Finding) → is_loss note (Some (later_finding shift f)) ≡ is_loss note (Some f)
 loss-later note shift (Miss x number response deadline activated queued stood) = refl
-loss-later note shift (Overdue x deadline activated queued stood) = refl
+loss-later note shift (Overdue x number age deadline activated queued stood) = refl
+loss-later note shift (Untaken x word age deadline set) = refl
 loss-later note shift (Lost x word) = refl
 loss-later note shift (Never x deadline) = refl
 
@@ -158,7 +160,7 @@ module _ (system : System) (group : ℕ → Bool) where
   miss-row thread m c past (row.Run x) mine own e = cc
   miss-row thread m c past (row.Signal x note badge) mine own e = cc
   miss-row thread m c past (row.Arrive note badge maker) mine own e = cc
-  miss-row thread m c past (row.Wake x note word) mine own e = cc
+  miss-row thread m c past (row.Wake x note word until) mine own e = cc
   miss-row thread m c past (row.Got x note word) mine own e = cc
   miss-row thread m c past (row.Order context) mine own e = cc
   miss-row thread m c past (row.Interrupt source at_note badge) mine own e = cc
@@ -181,7 +183,7 @@ module _ (system : System) (group : ℕ → Bool) where
   loss-row note m c past (row.Run x) mine own e = cc
   loss-row note m c past (row.Signal x n badge) mine own e = cc
   loss-row note m c past (row.Arrive n badge maker) mine own e = cc
-  loss-row note m c past (row.Wake x n word) mine own e = cc
+  loss-row note m c past (row.Wake x n word until) mine own e = cc
   loss-row note m c past (row.Got x n word) mine own e = cc
   loss-row note m c past (row.Order context) mine own e = cc
   loss-row note m c past (row.Interrupt source n badge) mine own e = cc

@@ -11,21 +11,27 @@ use Rattle.mcs_system.specs.System.{System, thread_part, note_part, core_of}
 use Rattle.mcs_system.specs.WellFormed.{IsWellFormed}
 use Rattle.mcs_core.specs.Clock.{clock, turn_of, schedule}
 use Rattle.mcs_verdict.specs.declared.finding.Finding.{Finding}
-use Rattle.mcs_verdict.specs.declared.finding.Finding.TheVariants.{Miss, Overdue, Lost, Never}
+use Rattle.mcs_verdict.specs.declared.finding.Finding.TheVariants.{Miss, Overdue, Untaken, Lost, Never}
+use Rattle.mcs_verdict.specs.declared.held.Held.{Held}
 use Rattle.mcs_verdict.specs.declared.job.Job.{Job}
+use Rattle.mcs_verdict.specs.declared.standing.Stood.{Stood}
+use Rattle.mcs_verdict.specs.Misses.{never}
+use Rattle.mcs_verdict.specs.Takers.{due_of}
 use Rattle.mcs_verdict.specs.Findings.{past_of}
 use Rattle.mcs_verdict.specs.Jobs.{jobs_in}
 use Rattle.mcs_ever.specs.Closed.{has}
 use Rattle.mcs_ever.specs.Later.{later_what}
 use Rattle.mcs_ever.specs.Recurs.{Shifts, shift_of}
 use Rattle.mcs_ever.specs.laws.Repeats.{TurnsRepeat, ends_round, NoRoundEndsAgain}
+use Rattle.mcs_verdict_laws.proofs.Due.{due-there, known-held}
 use Rattle.mcs_verdict_laws.proofs.Standings.{past-append}
 use Rattle.mcs_ever_again.specs.Period.{told_between}
 use Rattle.mcs_ever_again.specs.Schedule.{RowsTellTurns}
 use Rattle.mcs_ever_found.specs.Recurs.{past_before, FindingsRecur}
 use Rattle.mcs_ever_found.specs.Course.{misses, losses, greatest, was_spent, Course}
-use Rattle.mcs_ever_found.specs.Period.{whats}
+use Rattle.mcs_ever_found.specs.Period.{whats, far, ends_in_period, is_taken_in_period}
 use Rattle.mcs_ever_found.specs.laws.Course.{is_at_most, is_within, GreatestIsForever, NeverSpent}
+use Rattle.mcs_ever_found.specs.laws.GoOn.{untaken_up_to, IsOverdueRound, ThreadGoesOn, WordGoesOn, ThreadsGoOn, WordsGoOn}
 use Rattle.mcs_ever_found.specs.laws.Repeats.{is_of_group, FindingsRepeat}
 use Rattle.mcs_ever_found.proofs.Flags.{flag-at}
 use Rattle.mcs_ever_found.proofs.Quiet.{ends-none}
@@ -33,12 +39,13 @@ use Rattle.mcs_ever_told.specs.declared.line.Line.{Line}
 use Rattle.mcs_ever_told.specs.declared.line.Line.TheVariants as line
 use Rattle.mcs_ever_told.specs.declared.outlook.told.Period.{Period}
 use Rattle.mcs_ever_told.specs.stored.Told.{if_some}
-use Rattle.mcs_ever_told.specs.Lines.{is_some, silent_from, end_told, end_line, misses_of, losses_of, miss_line, lost_line, thread_line, unsettled_line, clean_lines, is_own_thread, is_own_note, of_threads, of_notes, count_lines, end_lines, thread_lines, unsettled_lines}
-use Rattle.mcs_ever_told.specs.ForEver.{RowsRepeat, IsNeverLonger, IsNeverThrottled, IsSilentFrom, Happens}
-use Rattle.mcs_ever_told.specs.Outlook.{course_before, course_up_to, ended_between, unended_at, last_of, AreSettled, found_in_period, NothingIsEverFound, HoldsForEver, period_lines}
+use Rattle.mcs_ever_told.specs.Lines.{is_some, silent_from, inactive_told, ever_told, ever_line, abandoned_told, abandoned_line, misses_of, losses_of, miss_line, lost_line, thread_line, clean_lines, is_own_thread, is_own_note, of_threads, of_notes, count_lines, ever_lines, thread_lines}
+use Rattle.mcs_ever_told.specs.ForEver.{RowsRepeat, IsNeverLonger, IsNeverThrottled, IsSilentFrom, Happens, IsInactive, IsAbandoned}
+use Rattle.mcs_ever_told.specs.Outlook.{course_before, course_up_to, ended_between, unended_at, last_of, endless, abandoned, AreSettled, found_in_period, NothingIsEverFound, HoldsForEver, period_lines}
 use Rattle.mcs_ever_told.proofs.Numbers.{told-more}
 use Rattle.mcs_ever_told.proofs.Since.{rows-on}
 use Rattle.mcs_ever_told.proofs.Settling.{clean}
+use Rattle.mcs_ever_told.proofs.Unended.{overdue-of, never-is, word-of}
 use Rattle.mcs_ever_told.proofs.Growing.{exact-first, exact-more}
 use Rattle.mcs_ever_told.proofs.Reaching.{AtMost, same-maximum, grows, stays}
 use Rattle.mcs_ever_told.proofs.Counting.{no-fewer-misses, each-miss, no-fewer-losses, each-loss}
@@ -162,17 +169,71 @@ module _ (system : System) (well : IsWellFormed system) (allowed set own : List 
         (no-fewer-losses system (has set) shifts p.from well recurs law note mine)
         (each-loss system (has set) shifts p.from well recurs law note mine))
 
-  -- the finding at the end of the first period
-  end-so : (m thread : ℕ) (o : Option Finding) → unended_at system m thread ≡ o → IfSome (end_told m thread o) Holds
-  end-so m thread None e = tt
-  end-so m thread (Some (Miss x number response deadline activated queued stood)) e = tt
-  end-so m thread (Some (Overdue x deadline activated queued stood)) e = ap (end_told m thread) e
-  end-so m thread (Some (Lost note word)) e = tt
-  end-so m thread (Some (Never x deadline)) e = ap (end_told m thread) e
+  -- the rounds that never end, and the threads that are never activated
+  module _ (law : ThreadsGoOn) (thread : ℕ) (known : thread < length system.threads) (mine : has set (core_of system (thread_part system thread)) ≡ true) where
+    goes : ThreadGoesOn system p.ticks p.from thread
+    goes =
+        let P : ℕ → Type 0 = λ by. ThreadGoesOn system by p.from thread in
+        subst P by (law system (has set) shifts p.from well recurs thread known mine)
 
-  end-line-so : (m thread : ℕ) (b : Bool) → IfSome (cond b (end_told m thread (unended_at system m thread)) None) Holds
-  end-line-so m thread true = end-so m thread (unended_at system m thread) refl
-  end-line-so m thread false = tt
+    inactive-so : (o : Option Finding) → unended_at system (last_of p) thread ≡ o → IfSome (inactive_told thread o) Holds
+    inactive-so None e = tt
+    inactive-so (Some (Miss x number response deadline activated queued stood)) e = tt
+    inactive-so (Some (Overdue x number age deadline activated queued stood)) e = tt
+    inactive-so (Some (Untaken note word age deadline set)) e = tt
+    inactive-so (Some (Lost note word)) e = tt
+    inactive-so (Some (Never x deadline)) e = λ h l.
+        goes.never h (omega (arith, l)) ∙ never-is system (past_of [] (schedule system (last_of p))) (last_of p) thread x deadline e
+
+    endless-so : (o : Option Finding) → endless system own p thread ≡ o → IfSome (ever_told thread o (unended_at system (last_of p) thread)) Holds
+    endless-so None e = inactive-so (unended_at system (last_of p) thread) refl
+    endless-so (Some (Miss x number response deadline activated queued stood)) e = inactive-so (unended_at system (last_of p) thread) refl
+    endless-so (Some (Untaken note word age deadline set)) e = inactive-so (unended_at system (last_of p) thread) refl
+    endless-so (Some (Lost note word)) e = inactive-so (unended_at system (last_of p) thread) refl
+    endless-so (Some (Never x deadline)) e = inactive-so (unended_at system (last_of p) thread) refl
+    endless-so (Some (Overdue x number age deadline activated queued stood)) e = λ h l m.
+        let is = overdue-of system (past_before system (p.from + p.ticks)) far thread (ends_in_period system p.ticks p.from thread) x number age deadline activated queued stood e in
+        let own_due : Some (Overdue x number age deadline activated queued stood) ≡ Some (Overdue thread number age (thread_part system thread).deadline activated queued stood) =
+        ap (λ (y : ℕ). Some (Overdue y number age deadline activated queued stood)) is.0 ∙ ap (λ (d : ℕ). Some (Overdue thread number age d activated queued stood)) is.1 in
+        goes.endless number age (thread_part system thread).deadline activated queued stood (e ∙ own_due) h (omega (arith, l)) m
+
+  ever-so : ThreadsGoOn → (thread : ℕ) → thread < length system.threads → IfSome (ever_line system own (endless system own p) (unended_at system (last_of p)) thread) Holds
+  ever-so law thread l = by_own (is_own_thread system own thread) refl
+    where
+      by_own : (b : Bool) → is_own_thread system own thread ≡ b → IfSome (cond b (ever_told thread (endless system own p thread) (unended_at system (last_of p) thread)) None) Holds
+      by_own true mine = endless-so law thread l (within_set (core_of system (thread_part system thread)) mine) (endless system own p thread) refl
+      by_own false mine = tt
+
+  -- the words that nobody ever takes
+  module _ (law : WordsGoOn) (note : ℕ) (known : note < length system.notes) (mine : has set (note_part system note).core ≡ true) where
+    word-goes : WordGoesOn system p.ticks p.from note
+    word-goes =
+        let P : ℕ → Type 0 = λ by. WordGoesOn system by p.from note in
+        subst P by (law system (has set) shifts p.from well recurs note known mine)
+
+    word-so : (o : Option Finding) → abandoned system own p note ≡ o → IfSome (abandoned_told note o) Holds
+    word-so None e = tt
+    word-so (Some (Miss x number response deadline activated queued stood)) e = tt
+    word-so (Some (Overdue x number age deadline activated queued stood)) e = tt
+    word-so (Some (Lost x word)) e = tt
+    word-so (Some (Never x deadline)) e = tt
+    word-so (Some (Untaken x word age deadline set)) e =
+        let is = word-of far note system (past_before system (p.from + p.ticks)) (is_taken_in_period system p.ticks p.from note) x word age deadline set e in
+        let own_word : Some (Untaken x word age deadline set) ≡ Some (Untaken note word age deadline set) = ap (λ (n : ℕ). Some (Untaken n word age deadline set)) is.0 in
+        record {
+          deadline = deadline;
+          due =
+              sym (due-there system note (past_before system (p.from + p.ticks)) known)
+              ∙ sym (ap (λ (held : Held). held.due) (known-held system note (past_before system (p.from + p.ticks)) known)) ∙ is.1;
+          untaken = λ h l m. word-goes.abandoned word age deadline set (e ∙ own_word) h (omega (arith, l)) m;
+        }
+
+  abandoned-so : WordsGoOn → (note : ℕ) → note < length system.notes → IfSome (abandoned_line system own (abandoned system own p) note) Holds
+  abandoned-so law note l = by_own (is_own_note system own note) refl
+    where
+      by_own : (b : Bool) → is_own_note system own note ≡ b → IfSome (cond b (abandoned_told note (abandoned system own p note)) None) Holds
+      by_own true mine = word-so law note l (within_set (note_part system note).core mine) (abandoned system own p note) refl
+      by_own false mine = tt
 
   -- the line of a thread
   module _ (thread : ℕ) (known : thread < length system.threads) (mine : has set (core_of system (thread_part system thread)) ≡ true) where
@@ -243,18 +304,9 @@ module _ (system : System) (well : IsWellFormed system) (allowed set own : List 
         silent = silent-so thread l mine silent_law tell (get_or (ended_between system p.from (p.from + p.ticks)) thread false) refl;
       })
 
-  unsettled-so : (unsettled : List Bool) → AreSettled system allowed own p unsettled → (thread : ℕ) → thread < length system.threads →
-      IfSome (unsettled_line system own unsettled thread) Holds
-  unsettled-so unsettled settled thread l =
-      if-so Holds (is_own_thread system own thread && has unsettled thread) (line.Unsettled thread)
-      (λ yes.
-      settled.misses thread l (first-of (is_own_thread system own thread) (has unsettled thread) yes)
-      (settled.threads.others thread l (second-of (is_own_thread system own thread) (has unsettled thread) yes)).no_miss)
-
-  clean-so : (found others : List Line) → (found ≡ [] → others ≡ [] → NothingIsEverFound system allowed own p.from) → AllByRecursion Holds (clean_lines set (found ++ others))
-  clean-so [] [] clean = (clean refl refl, tt)
-  clean-so [] (l ∷ others) clean = tt
-  clean-so (l ∷ found) others clean = tt
+  clean-so : (found : List Line) → (found ≡ [] → NothingIsEverFound system allowed own p) → AllByRecursion Holds (clean_lines set found)
+  clean-so [] nothing = (nothing refl, tt)
+  clean-so (l ∷ found) nothing = tt
 
   repeats-so : TurnsRepeat → RowsRepeat system set p.from p.ticks
   repeats-so law =
@@ -263,25 +315,24 @@ module _ (system : System) (well : IsWellFormed system) (allowed set own : List 
       record { shifts = shifts; by = by; each = subst P by (λ t c since known mine. law system (has set) shifts p.from well recurs.recurs t c since known mine) }
 
   -- all lines of the set
-  pub lines-hold : TurnsRepeat → FindingsRepeat → GreatestIsForever → NeverSpent → NoRoundEndsAgain → RowsTellTurns system → (horizon : ℕ) (unsettled : List Bool) →
-      AreSettled system allowed own p unsettled → AllByRecursion (HoldsForEver system allowed own p) (period_lines system allowed horizon set own unsettled p)
-  lines-hold turns_law law greatest_law spent_law silent_law tell horizon unsettled settled =
-      let n = length system.threads in
+  pub lines-hold : TurnsRepeat → FindingsRepeat → GreatestIsForever → NeverSpent → NoRoundEndsAgain → ThreadsGoOn → WordsGoOn → RowsTellTurns system →
+      AreSettled system allowed own p → (horizon : ℕ) → AllByRecursion (HoldsForEver system allowed own p) (period_lines system allowed horizon set own p)
+  lines-hold turns_law law greatest_law spent_law silent_law threads_law words_law tell settled horizon =
       let miss = all-told Holds (miss_line system own true before after) (length system.threads) (λ k l. miss-so law k l) in
       let loss = all-told Holds (lost_line system own true before after allowed) (length system.notes) (λ k l. loss-so law k l) in
-      let ends = all-told Holds (end_line system own (last_of p) (unended_at system (last_of p))) (length system.threads)
-      (λ k l. end-line-so (last_of p) k (is_own_thread system own k)) in
+      let rounds = all-told Holds (ever_line system own (endless system own p) (unended_at system (last_of p))) (length system.threads) (λ k l. ever-so threads_law k l) in
+      let words = all-told Holds (abandoned_line system own (abandoned system own p)) (length system.notes) (λ k l. abandoned-so words_law k l) in
       let threads = all-told Holds (thread_line system own after p.from (ended_between system p.from (p.from + p.ticks))) (length system.threads)
       (λ k l. thread-so greatest_law spent_law silent_law tell k l) in
-      let others = all-told Holds (unsettled_line system own unsettled) (length system.threads) (λ k l. unsettled-so unsettled settled k l) in
-      let last = clean-so (found_in_period system allowed own p) (unsettled_lines system own unsettled) (clean system allowed own p unsettled settled) in
+      let last = clean-so (found_in_period system allowed own p) (clean system well allowed own p settled) in
       let counts = all-both Holds (of_threads system (miss_line system own true before after)) (of_notes system (lost_line system own true before after allowed)) miss loss in
-      let found = all-both Holds (count_lines system own true before after allowed) (end_lines system own (last_of p) (unended_at system (last_of p))) counts ends in
-      let rest = all-both Holds (unsettled_lines system own unsettled) (clean_lines set (found_in_period system allowed own p ++ unsettled_lines system own unsettled)) others last in
+      let ever = all-both Holds (of_threads system (ever_line system own (endless system own p) (unended_at system (last_of p))))
+      (of_notes system (abandoned_line system own (abandoned system own p))) rounds words in
+      let found = all-both Holds (count_lines system own true before after allowed)
+      (ever_lines system own (endless system own p) (unended_at system (last_of p)) (abandoned system own p)) counts ever in
       let more = all-both Holds (thread_lines system own after p.from (ended_between system p.from (p.from + p.ticks)))
-      (unsettled_lines system own unsettled ++ clean_lines set (found_in_period system allowed own p ++ unsettled_lines system own unsettled)) threads rest in (
+      (clean_lines set (found_in_period system allowed own p)) threads last in (
         repeats-so turns_law,
         all-both Holds (found_in_period system allowed own p)
-            (thread_lines system own after p.from (ended_between system p.from (p.from + p.ticks))
-            ++ (unsettled_lines system own unsettled ++ clean_lines set (found_in_period system allowed own p ++ unsettled_lines system own unsettled))) found more,
+            (thread_lines system own after p.from (ended_between system p.from (p.from + p.ticks)) ++ clean_lines set (found_in_period system allowed own p)) found more,
       )

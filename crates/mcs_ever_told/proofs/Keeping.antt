@@ -1,6 +1,6 @@
 -- An outlook's invariant, from one call to the next.
 use Rattle.std.proofs.Common.{◌≡◌, ℕ, zero, suc, ◌+◌, ◌<◌, ◌≤◌, ◌⊎◌, inl, inr, Bool, true, false, List, [], ◌∷◌, length, get_or, cond, replicate, Option, Some, None, Result, Ok, Err, ◌&&◌, ◌||◌, refl, sym, ap, subst, ◌∙◌, arith}
-use Rattle.std.specs.Prelude.{IfOk, nat_le}
+use Rattle.std.specs.Prelude.{IfSome, IfOk, nat_le}
 use Rattle.std.proofs.lemmas.Bool.Decides.{nat_tests}
 use Rattle.std.specs.List.{filter, range_with_len}
 use Rattle.std.proofs.lemmas.Bool.{cases_lt}
@@ -9,13 +9,12 @@ use Rattle.std.proofs.lemmas.List.FromFn.{get_or-map-range_with_len, length-map-
 use Rattle.mcs_system.specs.System.{System}
 use Rattle.mcs_ever.specs.Closed.{has, AreLeastClosed}
 use Rattle.mcs_ever_told.specs.declared.outlook.sets.Group.{Group}
-use Rattle.mcs_ever_told.specs.declared.outlook.told.Known.{Known}
 use Rattle.mcs_ever_told.specs.declared.outlook.told.Told.{Told}
 use Rattle.mcs_ever_told.specs.Sets.{set_has, have_one_set, own_of, firsts, is_first}
 use Rattle.mcs_ever_told.specs.Outlook.{IsTold, AreTold}
 use Rattle.mcs_ever_told.specs.stored.Groups.{group_of, groups_of}
-use Rattle.mcs_ever_told.specs.stored.Looks.{IsClosedGroup, AreClosed, AreTrueOf, AreToldSoFar, AreToldBelow}
-use Rattle.mcs_ever_told.specs.stored.Left.{unknown, is_missing, is_any_left}
+use Rattle.mcs_ever_told.specs.stored.Looks.{IsClosedGroup, AreClosed, AreToldSoFar, AreToldBelow}
+use Rattle.mcs_ever_told.specs.stored.Left.{is_any_left}
 
 -- a number that passes a test is among those that were tried
 module _ (p : ℕ → Bool) where
@@ -87,33 +86,27 @@ module _ (sets : List (List Bool)) (groups : List Group) (is : groups ≡ groups
             subst P (group-at i (group_of sets 0) within) (told.each (group_of sets 0) d i within);
       }
 
--- before the first step nothing is known of a set
-pub none-told-yet : (system : System) (allowed : List Bool) (horizon : ℕ) (groups : List Group) (known : List Known) →
-    known ≡ replicate (length groups) unknown → AreToldSoFar system allowed horizon groups known
-none-told-yet system allowed horizon groups known is i d l =
-    let e : get_or known i unknown ≡ unknown =
-    ap (λ (known : List Known). get_or known i unknown) is ∙ get_or-replicate (length groups) i unknown unknown l in
-    let P : Known → Type 0 = λ one. AreTrueOf system allowed horizon (get_or groups i d) one in
-    subst P (sym e) (record { told = tt; unsettled = tt })
+-- before the first step no set has a result
+pub none-told-yet : (system : System) (allowed : List Bool) (horizon : ℕ) (groups : List Group) (told : List (Option Told)) →
+    told ≡ replicate (length groups) None → AreToldSoFar system allowed horizon groups told
+none-told-yet system allowed horizon groups told is i d l =
+    let e : get_or told i None ≡ None = ap (λ (told : List (Option Told)). get_or told i None) is ∙ get_or-replicate (length groups) i None None l in
+    let P : Option Told → Type 0 = λ one. IfSome one (IsTold system allowed horizon (get_or groups i d).set (get_or groups i d).own) in
+    subst P (sym e) tt
 
 -- if no set is left, each has a result
-none-missing : (o : Option Told) (b : Bool) → (is_missing o || b) ≡ false → o ≡ None → ⊥
-none-missing None b none e = cc
-none-missing (Some one) b none e = cc
+left-at : (told : List (Option Told)) (i : ℕ) → is_any_left told ≡ false → i < length told → get_or told i None ≡ None → ⊥
+left-at [] i none l e = omega (arith, l)
+left-at (None ∷ told) i none l e = cc
+left-at (Some one ∷ told) zero none l e = cc
+left-at (Some one ∷ told) (suc i) none l e = left-at told i none (omega (arith, l)) e
 
-rest-left : (o : Option Told) (b : Bool) → (is_missing o || b) ≡ false → b ≡ false
-rest-left None b none = cc
-rest-left (Some one) b none = none
-
-pub nothing-left : (known : List Known) → is_any_left known ≡ false → (i : ℕ) → i < length known → (get_or known i unknown).told ≡ None → ⊥
-nothing-left [] none i l e = omega (arith, l)
-nothing-left (one ∷ known) none zero l e = none-missing one.told (is_any_left known) none e
-nothing-left (one ∷ known) none (suc i) l e =
-    nothing-left known (rest-left one.told (is_any_left known) none) i (omega (arith, l)) e
+pub nothing-left : (told : List (Option Told)) → is_any_left told ≡ false → (i : ℕ) → i < length told → get_or told i None ≡ None → ⊥
+nothing-left told none i l e = left-at told i none l e
 
 -- if a set is left, the horizon is met
-pub at-end : (clock horizon : ℕ) (told : List Known) → (nat_le clock horizon && is_any_left told) ≡ false → clock ≤ horizon + 1 →
-    (i : ℕ) → i < length told → (get_or told i unknown).told ≡ None → clock ≡ horizon + 1
+pub at-end : (clock horizon : ℕ) (told : List (Option Told)) → (nat_le clock horizon && is_any_left told) ≡ false → clock ≤ horizon + 1 →
+    (i : ℕ) → i < length told → get_or told i None ≡ None → clock ≡ horizon + 1
 at-end clock horizon told e t i l none = by (nat_le clock horizon) refl
   where
     by : (b : Bool) → nat_le clock horizon ≡ b → clock ≡ horizon + 1
@@ -123,14 +116,14 @@ at-end clock horizon told e t i l none = by (nat_le clock horizon) refl
         omega (arith, late, t)
 
 -- results stay true for an equal system, horizon and list of notifications
-pub told-on : (s s' : System) (al al' : List Bool) (h : ℕ) (g g' : List Group) (t t' n n' : List Known) → s' ≡ s → al' ≡ al → g' ≡ g → t' ≡ t → n' ≡ n →
+pub told-on : (s s' : System) (al al' : List Bool) (h : ℕ) (g g' : List Group) (t t' n n' : List (Option Told)) → s' ≡ s → al' ≡ al → g' ≡ g → t' ≡ t → n' ≡ n →
     (AreToldSoFar s' al' h g' t' → AreToldSoFar s' al' h g' n) → AreToldSoFar s al h g t → AreToldSoFar s al h g n'
 told-on s s' al al' h g g' t t' n n' es ea eg et en f so =
     let A : System → Type 0 = λ x. AreToldSoFar x al' h g' t' → AreToldSoFar x al' h g' n in
     let B : List Bool → Type 0 = λ x. AreToldSoFar s x h g' t' → AreToldSoFar s x h g' n in
     let C : List Group → Type 0 = λ x. AreToldSoFar s al h x t' → AreToldSoFar s al h x n in
-    let D : List Known → Type 0 = λ x. AreToldSoFar s al h g x → AreToldSoFar s al h g n in
-    let E : List Known → Type 0 = λ x. AreToldSoFar s al h g x in
+    let D : List (Option Told) → Type 0 = λ x. AreToldSoFar s al h g x → AreToldSoFar s al h g n in
+    let E : List (Option Told) → Type 0 = λ x. AreToldSoFar s al h g x in
     subst E (sym en) (subst D et (subst C eg (subst B ea (subst A es f))) so)
 
 pub below-on : (s s' : System) (al al' : List Bool) (h : ℕ) (g g' : List Group) (all : List Told) → s' ≡ s → al' ≡ al → g' ≡ g →

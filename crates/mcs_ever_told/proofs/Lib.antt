@@ -6,7 +6,6 @@ pub mod Places
 pub mod Counted
 pub mod Unended
 pub mod Settling
-pub mod Flags
 pub mod Since
 pub mod Telling
 pub mod Keeping

@@ -1,29 +1,19 @@
 -- The lines of a set, appended to one another.
-use Rattle.std.proofs.Common.{◌≡◌, ℕ, suc, ◌+◌, ◌-◌, Bool, true, false, List, [], ◌∷◌, ◌++◌, length, refl, ap, ◌∙◌, append_assoc, length-append, arith}
+use Rattle.std.proofs.Common.{◌≡◌, ℕ, suc, ◌+◌, ◌-◌, Bool, true, false, List, [], ◌∷◌, ◌++◌, length, ap, ◌∙◌, append_assoc, arith}
 use Rattle.mcs_system.specs.System.{System}
 use Rattle.mcs_ever_found.specs.Course.{Course}
 use Rattle.mcs_ever_told.specs.declared.line.Line.{Line}
 use Rattle.mcs_ever_told.specs.declared.line.Line.TheVariants as line
 use Rattle.mcs_ever_told.specs.declared.outlook.told.Period.{Period}
-use Rattle.mcs_ever_told.specs.Lines.{count_lines, end_lines, thread_lines, threads_so_far, unsettled_lines, clean_lines}
-use Rattle.mcs_ever_told.specs.Outlook.{course_before, course_up_to, ended_between, unended_at, last_of, found_in_period, period_lines, found_so_far, open_lines}
+use Rattle.mcs_ever_told.specs.Lines.{count_lines, end_lines, ever_lines, thread_lines, threads_so_far, clean_lines}
+use Rattle.mcs_ever_found.specs.laws.GoOn.{untaken_up_to}
+use Rattle.mcs_ever_told.specs.Outlook.{course_before, course_up_to, ended_between, unended_at, last_of, endless, abandoned, found_in_period, period_lines, found_so_far, open_lines}
 
 length-first : (l : Line) (ls lines : List Line) (n : ℕ) → lines ≡ l ∷ ls → n ≡ length lines - 1 → n ≡ length ls
 length-first l ls lines n e is = is ∙ ap (λ (ls : List Line). length ls - 1) e ∙ less (length ls)
   where
     less : (n : ℕ) → suc n - 1 ≡ n
     less n = omega arith
-
-length-last : (xs ys lines : List Line) (n : ℕ) → lines ≡ xs ++ ys → n ≡ length lines - length xs → n ≡ length ys
-length-last xs ys lines n e is =
-    let both : length lines ≡ length xs + length ys = ap (λ (ls : List Line). length ls) e ∙ length-append xs ys in
-    omega (arith, is, both)
-
--- the set is not clean if there is a finding or an unsettled thread
-pub not-clean : (set : List Bool) (found others : List Line) → ((length found ≡ 0) × (length others ≡ 0) → ⊥) → clean_lines set (found ++ others) ≡ []
-not-clean set [] [] none = absurd (none (refl, refl))
-not-clean set [] (l ∷ others) none = refl
-not-clean set (l ∷ found) others none = refl
 
 -- what was put first, and two more
 pub first-three : (l : Line) (xs ys l1 l2 l3 : List Line) → l1 ≡ l ∷ [] → l2 ≡ l1 ++ xs → l3 ≡ l2 ++ ys → l3 ≡ l ∷ (xs ++ ys)
@@ -34,48 +24,39 @@ module _ (s : System) (allowed : List Bool) (horizon : ℕ) (set own : List Bool
   found = found_in_period s allowed own p
 
   -- for a set that recurs
-  pub record AreOfPeriod (unsettled : List Bool) (lines : List Line) (findings others : ℕ) : Type 0 where
-    pub lines_are : lines ≡ period_lines s allowed horizon set own unsettled p
+  pub record AreOfPeriod (lines : List Line) (findings : ℕ) : Type 0 where
+    pub lines_are : lines ≡ period_lines s allowed horizon set own p
     pub findings_are : findings ≡ length found
-    pub others_are : others ≡ length (unsettled_lines s own unsettled)
 
-  pub told-period : (m : ℕ) (before after : Course) (ended unsettled : List Bool) (l1 l2 l3 l4 l5 l6 : List Line) (findings others : ℕ) →
+  pub told-period : (m : ℕ) (before after : Course) (ended : List Bool) (l1 l2 l3 l4 l5 : List Line) (findings : ℕ) →
       m ≡ last_of p → before ≡ course_before s p.from → after ≡ course_up_to s (last_of p) → ended ≡ ended_between s p.from (p.from + p.ticks) →
       l1 ≡ line.Repeats set p.from p.ticks ∷ [] →
       l2 ≡ l1 ++ count_lines s own true before after allowed →
-      l3 ≡ l2 ++ end_lines s own m (unended_at s m) →
+      l3 ≡ l2 ++ ever_lines s own (endless s own p) (unended_at s m) (abandoned s own p) →
       l4 ≡ l3 ++ thread_lines s own after p.from ended →
-      l5 ≡ l4 ++ unsettled_lines s own unsettled →
-      findings ≡ length l3 - 1 → others ≡ length l5 - length l4 →
-      ((told more : List Line) → findings ≡ length told → others ≡ length more → l6 ≡ l5 ++ clean_lines set (told ++ more)) →
-      AreOfPeriod unsettled l6 findings others
-  told-period m before after ended unsettled l1 l2 l3 l4 l5 l6 findings others is_last is_before is_after is_ended e1 e2 e3 e4 e5 counted differs e6 =
+      findings ≡ length l3 - 1 →
+      ((told : List Line) → findings ≡ length told → l5 ≡ l4 ++ clean_lines set told) → AreOfPeriod l5 findings
+  told-period m before after ended l1 l2 l3 l4 l5 findings is_last is_before is_after is_ended e1 e2 e3 e4 counted e5 =
       let counts : l2 ≡ l1 ++ count_lines s own true (course_before s p.from) (course_up_to s (last_of p)) allowed =
       e2 ∙ ap (λ (b : Course). l1 ++ count_lines s own true b after allowed) is_before
       ∙ ap (λ (a : Course). l1 ++ count_lines s own true (course_before s p.from) a allowed) is_after in
-      let ends : l3 ≡ l2 ++ end_lines s own (last_of p) (unended_at s (last_of p)) =
-      e3 ∙ ap (λ (m : ℕ). l2 ++ end_lines s own m (unended_at s m)) is_last in
+      let ends : l3 ≡ l2 ++ ever_lines s own (endless s own p) (unended_at s (last_of p)) (abandoned s own p) =
+      e3 ∙ ap (λ (m : ℕ). l2 ++ ever_lines s own (endless s own p) (unended_at s m) (abandoned s own p)) is_last in
       let three : l3 ≡ line.Repeats set p.from p.ticks ∷ found =
       first-three (line.Repeats set p.from p.ticks) (count_lines s own true (course_before s p.from) (course_up_to s (last_of p)) allowed)
-      (end_lines s own (last_of p) (unended_at s (last_of p))) l1 l2 l3 e1 counts ends in
+      (ever_lines s own (endless s own p) (unended_at s (last_of p)) (abandoned s own p)) l1 l2 l3 e1 counts ends in
       let many : findings ≡ length found = length-first (line.Repeats set p.from p.ticks) found l3 findings three counted in
       let threads = thread_lines s own (course_up_to s (last_of p)) p.from (ended_between s p.from (p.from + p.ticks)) in
       let more : l4 ≡ (line.Repeats set p.from p.ticks ∷ found) ++ thread_lines s own (course_up_to s (last_of p)) p.from (ended_between s p.from (p.from + p.ticks)) =
       e4 ∙ ap (λ (a : Course). l3 ++ thread_lines s own a p.from ended) is_after
       ∙ ap (λ (e : List Bool). l3 ++ thread_lines s own (course_up_to s (last_of p)) p.from e) is_ended
       ∙ ap (λ (ls : List Line). ls ++ thread_lines s own (course_up_to s (last_of p)) p.from (ended_between s p.from (p.from + p.ticks))) three in
-      let rest = unsettled_lines s own unsettled in
-      let rests : others ≡ length (unsettled_lines s own unsettled) = length-last l4 (unsettled_lines s own unsettled) l5 others e5 differs in
-      let last = clean_lines set (found ++ unsettled_lines s own unsettled) in
       record {
         lines_are =
-            e6 found (unsettled_lines s own unsettled) many rests
-            ∙ ap (λ (ls : List Line). ls ++ clean_lines set (found ++ unsettled_lines s own unsettled))
-            (e5 ∙ ap (λ (ls : List Line). ls ++ unsettled_lines s own unsettled) more)
-            ∙ append_assoc ((line.Repeats set p.from p.ticks ∷ found) ++ threads) rest last
-            ∙ append_assoc (line.Repeats set p.from p.ticks ∷ found) threads (rest ++ last);
+            e5 found many ∙ ap (λ (ls : List Line). ls ++ clean_lines set found) more
+            ∙ append_assoc (line.Repeats set p.from p.ticks ∷ found)
+            (thread_lines s own (course_up_to s (last_of p)) p.from (ended_between s p.from (p.from + p.ticks))) (clean_lines set found);
         findings_are = many;
-        others_are = rests;
       }
 
 module _ (s : System) (allowed : List Bool) (horizon : ℕ) (set own : List Bool) where
@@ -87,13 +68,13 @@ module _ (s : System) (allowed : List Bool) (horizon : ℕ) (set own : List Bool
   pub told-open : (before after : Course) (l1 l2 l3 l4 : List Line) (findings : ℕ) → before ≡ course_up_to s horizon →
       l1 ≡ line.Open set horizon ∷ [] →
       l2 ≡ l1 ++ count_lines s own false before before allowed →
-      l3 ≡ l2 ++ end_lines s own horizon (unended_at s horizon) →
+      l3 ≡ l2 ++ end_lines s own horizon (unended_at s horizon) (untaken_up_to s horizon) →
       l4 ≡ l3 ++ threads_so_far s own before →
       findings ≡ length l3 - 1 → AreOpen l4 findings
   told-open before after l1 l2 l3 l4 findings is_before e1 e2 e3 e4 counted =
       let three : l3 ≡ line.Open set horizon ∷ found_so_far s allowed horizon set own =
       first-three (line.Open set horizon) (count_lines s own false (course_up_to s horizon) (course_up_to s horizon) allowed)
-      (end_lines s own horizon (unended_at s horizon)) l1 l2 l3 e1
+      (end_lines s own horizon (unended_at s horizon) (untaken_up_to s horizon)) l1 l2 l3 e1
       (e2 ∙ ap (λ (b : Course). l1 ++ count_lines s own false b b allowed) is_before) e3 in
       record {
         lines_are = e4 ∙ ap (λ (b : Course). l3 ++ threads_so_far s own b) is_before ∙ ap (λ (ls : List Line). ls ++ threads_so_far s own (course_up_to s horizon)) three;

@@ -1,91 +1,155 @@
--- Each finding of a thread at the end of a run has a line, and a thread without a deadline has none.
-use Rattle.std.proofs.Common.{◌≡◌, ℕ, ◌-◌, Bool, true, false, cond, ◌&&◌, not, List, Option, Some, None, refl, ap, ◌∙◌}
-use Rattle.std.specs.Prelude.{◌==◌, is_some}
+-- Rounds that never end, threads that are never activated, and words that nobody ever takes, by their
+-- findings.
+use Rattle.std.proofs.Common.{◌≡◌, ℕ, ◌-◌, Bool, true, false, cond, ◌&&◌, not, List, Option, Some, None, refl, sym, ap, ◌∙◌}
+use Rattle.std.specs.Prelude.{◌==◌, nat_le}
+use Rattle.mcs_ticks.specs.Capped.{one_more}
 use Rattle.mcs_ticks.specs.declared.row.Row.{Row}
 use Rattle.mcs_system.specs.System.{System, thread_part}
 use Rattle.mcs_verdict.specs.declared.finding.Finding.{Finding}
+use Rattle.mcs_verdict.specs.declared.finding.Finding.TheVariants.{Miss, Overdue, Untaken, Lost, Never}
+use Rattle.mcs_verdict.specs.declared.held.Held.{Held}
 use Rattle.mcs_verdict.specs.declared.standing.Stood.{Stood}
-use Rattle.mcs_verdict.specs.declared.finding.Finding.TheVariants.{Overdue, Never}
-use Rattle.mcs_verdict.specs.Misses.{is_reached, yet_to_begin, first_word, was_activated, overdue_at, overdue_since, overdue, never_at, never, first_of, unended}
+use Rattle.mcs_verdict.specs.Due.{calls_each, untaken_by, untaken}
+use Rattle.mcs_verdict.specs.Misses.{is_reached, first_word, was_activated, overdue_since, overdue, never_at, never, first_of, unended}
 use Rattle.mcs_verdict.specs.Calls.{first_wait, bits_of}
-use Rattle.mcs_verdict.specs.Rounds.{begun_of, called_of, activated}
+use Rattle.mcs_verdict.specs.Parts.{free_of, queued_in, parts_in}
+use Rattle.mcs_verdict.specs.Rounds.{activated_of, rounds_of}
 use Rattle.mcs_verdict.specs.Standing.{standing_at, telling}
 use Rattle.mcs_verdict.specs.Stood.{stood_in}
-use Rattle.mcs_ever_told.specs.Lines.{end_told}
+use Rattle.mcs_verdict.specs.Words.{held_of, firsts_of}
+use Rattle.mcs_ever_told.specs.Lines.{inactive_told, ever_told, abandoned_told}
 
-pub none-of : {T : Type 0} (o : Option T) → is_some o ≡ false → o ≡ None
-none-of None e = refl
-none-of (Some x) e = cc
+-- the thread or the notification of a finding, and its deadline
+abbrev about : Option Finding → ℕ
+about (Some (Overdue x number age deadline activated queued stood)) = x
+about (Some (Untaken note word age deadline set)) = note
+about _ = 0
 
-pub some-none : {T : Type 0} (o : Option T) → is_some o ≡ true → o ≡ None → ⊥
-some-none None e is = cc
-some-none (Some x) e is = cc
+abbrev deadline_in : Option Finding → ℕ
+deadline_in (Some (Overdue x number age deadline activated queued stood)) = deadline
+deadline_in (Some (Untaken note word age deadline set)) = deadline
+deadline_in _ = 0
 
-module _ (h x : ℕ) where
-  -- without a line the thread has no finding
-  abbrev IsTold : Option Finding → Type 0
-  IsTold o = end_told h x o ≡ None → o ≡ None
+module _ (system : System) (past : List Row) (horizon thread : ℕ) where
+  abbrev deadline : ℕ
+  deadline = (thread_part system thread).deadline
 
-  overdue-told : (thread deadline activated queued : ℕ) (stood : Stood) (b : Bool) → IsTold (cond b (Some (Overdue thread deadline activated queued stood)) None)
-  overdue-told thread deadline activated queued stood true e = cc
-  overdue-told thread deadline activated queued stood false e = refl
+  -- an overdue round is one of the thread, whose deadline it has
+  abbrev pub IsOfThread : Option Finding → Type 0
+  IsOfThread o =
+      (x number age d activated queued : ℕ) (stood : Stood) → o ≡ Some (Overdue x number age d activated queued stood) → (x ≡ thread) × (d ≡ deadline)
 
-  overdue_at-told : (horizon thread deadline begun : ℕ) (stood : Stood) (o : Option ℕ) → IsTold (overdue_at horizon thread deadline begun stood o)
-  overdue_at-told horizon thread deadline begun stood None e = refl
-  overdue_at-told horizon thread deadline begun stood (Some activated) e =
-      overdue-told thread deadline activated (begun - activated) stood (is_reached deadline (horizon - activated)) e
+  -- without a line nothing is overdue
+  abbrev pub IsTold : Option Finding → Type 0
+  IsTold o = (other : Option Finding) → ever_told thread o other ≡ None → o ≡ None
 
-  overdue_since-told : (system : System) (past : List Row) (horizon thread : ℕ) (o : Option ℕ) → IsTold (overdue_since system past horizon thread o)
-  overdue_since-told system past horizon thread None e =
-      overdue_at-told horizon thread (thread_part system thread).deadline horizon (stood_in thread past horizon horizon)
-      (yet_to_begin (standing_at horizon None (telling thread past)) (bits_of (thread_part system thread)) (first_word system thread past)) e
-  overdue_since-told system past horizon thread (Some begun) e =
-      overdue_at-told horizon thread (thread_part system thread).deadline begun (stood_in thread past begun horizon)
-      (activated system thread past begun horizon) e
+  -- if the first finding is of a thread that was never activated, the second one is
+  abbrev IsSecond : Option Finding → Type 0
+  IsSecond o = (other : Option Finding) (x d : ℕ) → first_of o other ≡ Some (Never x d) → other ≡ Some (Never x d)
 
-  never-told : (thread deadline : ℕ) (b : Bool) → IsTold (cond b (Some (Never thread deadline)) None)
-  never-told thread deadline true e = cc
-  never-told thread deadline false e = refl
+  at-of : (number age activated queued : ℕ) (stood : Stood) (b : Bool) → IsOfThread (cond b (Some (Overdue thread number age deadline activated queued stood)) None)
+  at-of number age activated queued stood true x n a d s q parts e = (sym (ap about e), sym (ap deadline_in e))
+  at-of number age activated queued stood false x n a d s q parts e = cc
 
-  never_at-told : (thread deadline : ℕ) (once : Bool) → IsTold (never_at thread deadline once)
-  never_at-told thread deadline once e = never-told thread deadline (not (deadline == 0) && not once) e
+  at-told : (number age activated queued : ℕ) (stood : Stood) (b : Bool) → IsTold (cond b (Some (Overdue thread number age deadline activated queued stood)) None)
+  at-told number age activated queued stood true other e = cc
+  at-told number age activated queued stood false other e = refl
 
-  first-told : (a b : Option Finding) → IsTold a → IsTold b → IsTold (first_of a b)
-  first-told None b told_a told_b e = told_b e
-  first-told (Some f) b told_a told_b e = told_a e
+  at-second : (number age activated queued : ℕ) (stood : Stood) (b : Bool) → IsSecond (cond b (Some (Overdue thread number age deadline activated queued stood)) None)
+  at-second number age activated queued stood true other x d e = cc
+  at-second number age activated queued stood false other x d e = e
 
-  pub unended-told : (system : System) (past : List Row) (horizon thread : ℕ) → IsTold (unended system past horizon thread)
-  unended-told system past horizon thread =
-      first-told (overdue system past horizon thread) (never system past horizon thread)
-      (overdue_since-told system past horizon thread (begun_of system thread past))
-      (never_at-told thread (thread_part system thread).deadline
-      (was_activated (first_wait (thread_part system thread)) (bits_of (thread_part system thread)) (called_of system thread past) (first_word system thread past)
-      (stood_in thread past 0 horizon)))
+  -- what holds of an overdue round and of none holds of `overdue`
+  module _ (P : Option Finding → Type 0) (none : P None)
+      (at : (number age activated queued : ℕ) (stood : Stood) (b : Bool) → P (cond b (Some (Overdue thread number age deadline activated queued stood)) None)) where
+    since : (o : Option ℕ) → P (overdue_since system past horizon thread o)
+    since None = none
+    since (Some activated) =
+        at (one_more (rounds_of thread past)) (horizon - activated) activated (queued_in (free_of system thread past) activated)
+        (parts_in thread past (free_of system thread past) activated horizon) (is_reached deadline (horizon - activated))
 
--- a thread without a deadline has no finding at the end of a run
-overdue_at-free : (horizon thread deadline begun : ℕ) (stood : Stood) (o : Option ℕ) → deadline ≡ 0 →
-    overdue_at horizon thread deadline begun stood o ≡ None
-overdue_at-free horizon thread deadline begun stood None e = refl
-overdue_at-free horizon thread deadline begun stood (Some active) e =
-    ap (λ (d : ℕ). cond (is_reached d (horizon - active)) (Some (Overdue thread deadline active (begun - active) stood)) None) e
+    pub of-overdue : P (overdue system past horizon thread)
+    of-overdue = since (activated_of system thread past horizon)
 
-overdue_since-free : (system : System) (past : List Row) (horizon thread : ℕ) (o : Option ℕ) → (thread_part system thread).deadline ≡ 0 →
-    overdue_since system past horizon thread o ≡ None
-overdue_since-free system past horizon thread None e =
-    overdue_at-free horizon thread (thread_part system thread).deadline horizon (stood_in thread past horizon horizon)
-    (yet_to_begin (standing_at horizon None (telling thread past)) (bits_of (thread_part system thread)) (first_word system thread past)) e
-overdue_since-free system past horizon thread (Some begun) e =
-    overdue_at-free horizon thread (thread_part system thread).deadline begun (stood_in thread past begun horizon)
-    (activated system thread past begun horizon) e
+    -- and of it only if a test fails
+    pub unless : (b : Bool) → P (cond b None (overdue system past horizon thread))
+    unless true = none
+    unless false = of-overdue
 
-never_at-free : (thread deadline : ℕ) (once : Bool) → deadline ≡ 0 → never_at thread deadline once ≡ None
-never_at-free thread deadline once e = ap (λ (d : ℕ). cond (not (d == 0) && not once) (Some (Never thread deadline)) None) e
+  none-of : IsOfThread None
+  none-of x number age d activated queued stood e = cc
 
-pub unended-free : (system : System) (past : List Row) (horizon thread : ℕ) → (thread_part system thread).deadline ≡ 0 →
-    unended system past horizon thread ≡ None
-unended-free system past horizon thread e =
-    ap (λ (o : Option Finding). first_of o (never system past horizon thread))
-    (overdue_since-free system past horizon thread (begun_of system thread past) e)
-    ∙ never_at-free thread (thread_part system thread).deadline
-    (was_activated (first_wait (thread_part system thread)) (bits_of (thread_part system thread)) (called_of system thread past) (first_word system thread past)
-    (stood_in thread past 0 horizon)) e
+  none-told : IsTold None
+  none-told other e = refl
+
+  none-second : IsSecond None
+  none-second other x d e = e
+
+  pub overdue-of : (b : Bool) → IsOfThread (cond b None (overdue system past horizon thread))
+  overdue-of b = unless IsOfThread none-of at-of b
+
+  pub overdue-told : (b : Bool) → IsTold (cond b None (overdue system past horizon thread))
+  overdue-told b = unless IsTold none-told at-told b
+
+  -- whether it was never activated
+  abbrev once : Bool
+  once =
+      was_activated (first_wait (thread_part system thread)) (bits_of (thread_part system thread)) (first_word system thread past)
+      (standing_at horizon (telling thread past)) (stood_in thread past 0 horizon)
+
+  at-never : (b : Bool) (x d : ℕ) → cond b (Some (Never thread deadline)) None ≡ Some (Never x d) → cond b (Some (Never thread deadline)) None ≡ Some (Never thread deadline)
+  at-never true x d e = refl
+  at-never false x d e = cc
+
+  -- a thread whose finding is that it was never activated
+  pub never-is : (x d : ℕ) → unended system past horizon thread ≡ Some (Never x d) → never system past horizon thread ≡ Some (Never thread deadline)
+  never-is x d e =
+      at-never (not (deadline == 0) && not once) x d (of-overdue IsSecond none-second at-second (never system past horizon thread) x d e)
+
+  at-active : (b : Bool) → inactive_told thread (cond b (Some (Never thread deadline)) None) ≡ None → cond b (Some (Never thread deadline)) None ≡ None
+  at-active true e = cc
+  at-active false e = refl
+
+  -- a thread with neither a line nor an overdue round
+  pub never-none : overdue system past horizon thread ≡ None → inactive_told thread (unended system past horizon thread) ≡ None →
+      never system past horizon thread ≡ None
+  never-none none e =
+      at-active (not (deadline == 0) && not once)
+      (ap (λ (o : Option Finding). inactive_told thread (first_of o (never system past horizon thread))) (sym none) ∙ e)
+
+module _ (horizon note : ℕ) where
+  -- an untaken word is one of the notification, whose deadline it has
+  abbrev IsOfNote : Option ℕ → Option Finding → Type 0
+  IsOfNote due o = (x word age d set : ℕ) → o ≡ Some (Untaken x word age d set) → (x ≡ note) × (due ≡ Some d)
+
+  word-at : (word age d set : ℕ) (b : Bool) → IsOfNote (Some d) (cond b (Some (Untaken note word age d set)) None)
+  word-at word age d set true x w a e s is = (sym (ap about is), ap (λ (f : Option Finding). Some (deadline_in f)) is)
+  word-at word age d set false x w a e s is = cc
+
+  word-by : (held : Held) (due : Option ℕ) (called : Bool) → IsOfNote due (untaken_by horizon note held due called)
+  word-by held None called = λ x w a e s is. cc
+  word-by held (Some d) called = word-at held.word (horizon - held.since) d held.since (not (held.word == 0) && called && nat_le d (horizon - held.since))
+
+  told-at : (word age d set : ℕ) (b : Bool) → abandoned_told note (cond b (Some (Untaken note word age d set)) None) ≡ None →
+      cond b (Some (Untaken note word age d set)) None ≡ None
+  told-at word age d set true e = cc
+  told-at word age d set false e = refl
+
+  told-by : (held : Held) (due : Option ℕ) (called : Bool) → abandoned_told note (untaken_by horizon note held due called) ≡ None →
+      untaken_by horizon note held due called ≡ None
+  told-by held None called e = refl
+  told-by held (Some d) called e =
+      told-at held.word (horizon - held.since) d held.since (not (held.word == 0) && called && nat_le d (horizon - held.since)) e
+
+  module _ (system : System) (past : List Row) where
+    abbrev held : Held
+    held = held_of (firsts_of system) note past
+
+    pub word-of : (b : Bool) → IsOfNote held.due (cond b None (untaken system past horizon note))
+    word-of true = λ x word age d set e. cc
+    word-of false = word-by held held.due (calls_each note held.word system.threads)
+
+    -- without a line no word is untaken
+    pub word-told : (b : Bool) → abandoned_told note (cond b None (untaken system past horizon note)) ≡ None → cond b None (untaken system past horizon note) ≡ None
+    word-told true e = refl
+    word-told false e = told-by held held.due (calls_each note held.word system.threads) e

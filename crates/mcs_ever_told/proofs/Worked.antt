@@ -2,15 +2,17 @@
 use Rattle.std.specs.Prelude.{◌≡◌, Bool, true, false, List, [], ◌∷◌, ◌++◌, ℕ, Some, None, codes, refl}
 use Rattle.std.specs.Fmt.{digits}
 use Rattle.serde_json.proofs.OnLiterals.{serde_json_on_literals}
-use Rattle.mcs_script.specs.declared.item.Item.TheVariants.{Compute}
+use Rattle.mcs_script.specs.declared.item.Item.TheVariants.{Compute, Wait}
 use Rattle.mcs_control.specs.declared.config.Mode.TheVariants as mode
 use Rattle.mcs_system.specs.System.{System}
 use Rattle.mcs_ever_told.specs.declared.line.Totals.{Totals}
-use Rattle.mcs_ever_told.specs.declared.line.Line.TheVariants.{Repeats, Open, Miss, Lost, Overdue, Never, Thread, ThreadSoFar, Unsettled, Clean, Sets}
+use Rattle.mcs_ever_told.specs.declared.line.Line.TheVariants.{Repeats, Open, Miss, Lost, Overdue, Never, Untaken, Endless, Inactive, Abandoned, Thread, ThreadSoFar, Clean, Sets}
 use Rattle.mcs_ever_told.specs.declared.line.LineFormat.TheVariants as format
 use Rattle.mcs_ever_told.specs.declared.line.Often.TheVariants.{Forever, SoFar}
 use Rattle.mcs_ever_told.specs.Formats.{line_text, lines_text}
-use Rattle.mcs_ever_told.specs.Lines.{clean_lines, unsettled_lines}
+use Rattle.mcs_verdict.specs.declared.finding.Finding.TheVariants as finding
+use Rattle.mcs_verdict.specs.Stood.{no_ticks}
+use Rattle.mcs_ever_told.specs.Lines.{clean_lines, end_lines, ever_lines}
 
 -- three cores, a thread T and a notification N
 system : System
@@ -105,6 +107,51 @@ never_object : line_text format.Json system (Never 0 25) ≡ codes "{\"kind\":\"
 unfolding system digits serde_json_on_literals
 never_object = refl
 
+untaken : line_text format.Text system (Untaken 0 25) ≡ codes "untaken N at 25\n"
+unfolding system digits
+untaken = refl
+
+untaken_object : line_text format.Json system (Untaken 0 25) ≡ codes "{\"kind\":\"untaken\",\"note\":\"N\",\"moment\":25}\n"
+unfolding system digits serde_json_on_literals
+untaken_object = refl
+
+-- round 3 of T was activated at 11, and never ends
+endless : line_text format.Text system (Endless 0 3 11) ≡ codes "overdue T round 3 activated 11 for ever\n"
+unfolding system digits
+endless = refl
+
+endless_object : line_text format.Json system (Endless 0 3 11) ≡ codes "{\"kind\":\"overdue\",\"thread\":\"T\",\"number\":3,\"activated\":11}\n"
+unfolding system digits serde_json_on_literals
+endless_object = refl
+
+inactive : line_text format.Text system (Inactive 0) ≡ codes "never T for ever\n"
+unfolding system digits
+inactive = refl
+
+inactive_object : line_text format.Json system (Inactive 0) ≡ codes "{\"kind\":\"never\",\"thread\":\"T\"}\n"
+unfolding system digits serde_json_on_literals
+inactive_object = refl
+
+-- A and B wait for N, and T does not
+pool : System
+pool =
+    record system {
+      threads =
+          record { name = codes "A"; context = 0; priority = 5; start = 0; rounds = 0; deadline = 10; script = Wait 0 ∷ Compute 1 ∷ [] }
+          ∷ record { name = codes "T"; context = 0; priority = 5; start = 0; rounds = 0; deadline = 10; script = Compute 5 ∷ [] }
+          ∷ record { name = codes "B"; context = 0; priority = 5; start = 0; rounds = 0; deadline = 10; script = Compute 1 ∷ Wait 0 ∷ [] } ∷ [];
+    }
+
+-- nobody ever takes the word 5, which was set at 11
+abandoned : line_text format.Text pool (Abandoned 0 5 11) ≡ codes "untaken N by A,B word 5 set 11 for ever\n"
+unfolding pool system digits
+abandoned = refl
+
+abandoned_object : line_text format.Json pool (Abandoned 0 5 11)
+    ≡ codes "{\"kind\":\"untaken\",\"note\":\"N\",\"by\":[\"A\",\"B\"],\"word\":5,\"set\":11}\n"
+unfolding pool system digits serde_json_on_literals
+abandoned_object = refl
+
 -- the line of a thread, with and without its optional parts
 thread : line_text format.Text system (Thread 0 (Some 4) true (Some 13))
     ≡ codes "thread T: greatest response 4, throttled: never, ends no round from 13 on\n"
@@ -148,15 +195,6 @@ none_so_far_object : line_text format.Json system (ThreadSoFar 0 None) ≡ codes
 unfolding system digits serde_json_on_literals
 none_so_far_object = refl
 
-unsettled : line_text format.Text system (Unsettled 0)
-    ≡ codes "unsettled T: no deadline is ever missed; whether a job is ever overdue is not known\n"
-unfolding system digits
-unsettled = refl
-
-unsettled_object : line_text format.Json system (Unsettled 0) ≡ codes "{\"kind\":\"unsettled\",\"thread\":\"T\"}\n"
-unfolding system digits serde_json_on_literals
-unsettled_object = refl
-
 clean : line_text format.Text system (Clean two) ≡ codes "nothing is ever found\n"
 unfolding system digits
 clean = refl
@@ -184,25 +222,34 @@ all : lines_text format.Text system (Repeats two 13 12 ∷ Clean two ∷ Sets (t
 unfolding system digits
 all = refl
 
--- T has a line if it has a flag and core 0 is reported
-one_unsettled : unsettled_lines system two (true ∷ []) ≡ Unsettled 0 ∷ []
+-- an overdue round and an untaken word at 25, if core 0 is reported
+at_25 : end_lines system two 25 (λ thread. Some (finding.Overdue thread 3 14 10 11 0 no_ticks)) (λ note. Some (finding.Untaken note 5 12 10 13))
+    ≡ Overdue 0 25 ∷ Untaken 0 25 ∷ []
 unfolding system
-one_unsettled = refl
+at_25 = refl
 
-all_settled : unsettled_lines system two (false ∷ []) ≡ []
-unfolding system
-all_settled = refl
-
-of_another_core : unsettled_lines system one (true ∷ []) ≡ []
+of_another_core : end_lines system one 25 (λ thread. Some (finding.Overdue thread 3 14 10 11 0 no_ticks)) (λ note. Some (finding.Untaken note 5 12 10 13)) ≡ []
 unfolding system
 of_another_core = refl
 
--- a set is clean if it has no finding and each thread is settled
-settled_and_clean : clean_lines two ([] ++ []) ≡ Clean two ∷ []
-settled_and_clean = refl
+-- a round that never ends; a thread that is never activated has a line only without such a round
+endless_and_abandoned : ever_lines system two (λ thread. Some (finding.Overdue thread 3 14 10 11 0 no_ticks)) (λ thread. Some (finding.Never thread 10))
+    (λ note. Some (finding.Untaken note 5 12 10 13)) ≡ Endless 0 3 11 ∷ Abandoned 0 5 13 ∷ []
+unfolding system
+endless_and_abandoned = refl
 
-not_settled : clean_lines two ([] ++ Unsettled 0 ∷ []) ≡ []
-not_settled = refl
+never_activated : ever_lines system two (λ thread. None) (λ thread. Some (finding.Never thread 10)) (λ note. None) ≡ Inactive 0 ∷ []
+unfolding system
+never_activated = refl
 
-found_and_settled : clean_lines two (Overdue 0 25 ∷ [] ++ []) ≡ []
-found_and_settled = refl
+-- a round that is overdue at the last moment of the first period, and ends later, has no such line
+overdue_once : ever_lines system two (λ thread. None) (λ thread. Some (finding.Overdue thread 3 14 10 11 0 no_ticks)) (λ note. None) ≡ []
+unfolding system
+overdue_once = refl
+
+-- a set is clean if it has no finding
+no_finding : clean_lines two [] ≡ Clean two ∷ []
+no_finding = refl
+
+one_finding : clean_lines two (Endless 0 3 11 ∷ []) ≡ []
+one_finding = refl

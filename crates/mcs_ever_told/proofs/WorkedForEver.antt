@@ -3,11 +3,13 @@
 -- end at 7, 12, 19, 24, 31 and 36, after 7 or 5 ticks. All recurs from 13 on with period 12. L's
 -- deadline is 6.
 use Rattle.std.proofs.Common.{◌≡◌, Bool, true, false, List, [], ◌∷◌, Some, None, refl, arith}
+use Rattle.mcs_control.specs.declared.config.Mode.TheVariants.{Sporadic}
+use Rattle.mcs_script.specs.declared.item.Item.TheVariants.{Compute, Signal}
+use Rattle.mcs_system.specs.System.{System}
 use Rattle.mcs_system.specs.WellFormed.{IsWellFormed}
 use Rattle.mcs_ever.proofs.Worked.{worked, ended, no-more}
 use Rattle.mcs_ever_found.specs.Recurs.{past_before}
 use Rattle.mcs_ever_found.specs.Course.{misses, losses}
-use Rattle.mcs_ever_found.proofs.WorkedFindings.{signals}
 use Rattle.mcs_ever_told.specs.declared.line.Line.TheVariants.{Miss, Thread}
 use Rattle.mcs_ever_told.specs.declared.line.Often.TheVariants.{Forever}
 use Rattle.mcs_ever_told.specs.declared.outlook.told.Period.{Period}
@@ -58,6 +60,25 @@ not-before often = let happens = often (omega arith) in let e : 1 ≡ 0 = happen
 -- H misses none
 none-of-H : misses (worked 6) 0 (past_before (worked 6) 37) ≡ 0
 none-of-H = refl
+
+-- in each of its periods S signals a notification for which nobody waits
+abbrev signals : System
+signals =
+    record {
+      cores = 1;
+      delay = 1;
+      call = 1;
+      min_budget = 1;
+      contexts = record { name = 115 ∷ []; core = 0; config = record { budget = 2; period = 4; extra = 0 }; mode = Sporadic } ∷ [];
+      notes = record { name = 110 ∷ []; core = 0; word = 0 } ∷ [];
+      threads = record { name = 83 ∷ []; context = 0; priority = 5; start = 0; rounds = 0; deadline = 0; script = Signal 0 1 ∷ Compute 1 ∷ [] } ∷ [];
+      orders = [];
+      links = [];
+      servers = 0;
+      sources = [];
+      beats = [];
+      chains = [];
+    }
 
 -- a signal is lost in each 4 ticks, from the second one on: at 5, 9 and 13
 lost-3 : losses signals 0 (past_before signals 3) ≡ 0

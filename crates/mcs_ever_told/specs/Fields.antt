@@ -1,9 +1,9 @@
 -- The lines of a check for all time, as named values.
 use Rattle.std.specs.Prelude.{ℕ, Bool, true, false, Option, Some, None, List, [], ◌∷◌, codes}
-use Rattle.mcs_fields.specs.Fields.{Text, Value, amount, empty, name}
+use Rattle.mcs_fields.specs.Fields.{Text, Value, amount, empty, listed, name}
 use Rattle.mcs_system.specs.System.{System}
 use Rattle.mcs_text.specs.Text.{note_name, thread_name}
-use Rattle.mcs_ever_told.specs.Texts.{cores_text}
+use Rattle.mcs_ever_told.specs.Texts.{cores_text, taker_names}
 use Rattle.mcs_ever_told.specs.declared.line.Line.{Line}
 use Rattle.mcs_ever_told.specs.declared.line.Line.TheVariants as line
 use Rattle.mcs_ever_told.specs.declared.line.Often.{Often}
@@ -56,11 +56,18 @@ module _ (system : System) where
       (codes "kind", name (codes "overdue")) ∷ thread_field thread ∷ (codes "moment", amount moment) ∷ []
   line_fields (line.Never thread moment) =
       (codes "kind", name (codes "never")) ∷ thread_field thread ∷ (codes "moment", amount moment) ∷ []
+  line_fields (line.Untaken note moment) =
+      (codes "kind", name (codes "untaken")) ∷ note_field note ∷ (codes "moment", amount moment) ∷ []
+  line_fields (line.Endless thread number activated) =
+      (codes "kind", name (codes "overdue")) ∷ thread_field thread ∷ (codes "number", amount number) ∷ (codes "activated", amount activated) ∷ []
+  line_fields (line.Inactive thread) = (codes "kind", name (codes "never")) ∷ thread_field thread ∷ []
+  line_fields (line.Abandoned note word set) =
+      (codes "kind", name (codes "untaken")) ∷ note_field note ∷ (codes "by", listed (taker_names system note)) ∷ (codes "word", amount word)
+      ∷ (codes "set", amount set) ∷ []
   line_fields (line.Thread thread greatest never_throttled silent_from) =
       (codes "kind", name (codes "thread")) ∷ thread_field thread ∷ (codes "greatest", known greatest)
       ∷ (codes "throttled", throttled_value never_throttled) ∷ (codes "ends_no_round_from", known silent_from) ∷ []
   line_fields (line.ThreadSoFar thread greatest) =
       (codes "kind", name (codes "thread_so_far")) ∷ thread_field thread ∷ (codes "greatest", known greatest) ∷ []
-  line_fields (line.Unsettled thread) = (codes "kind", name (codes "unsettled")) ∷ thread_field thread ∷ []
   line_fields (line.Clean cores) = (codes "kind", name (codes "clean")) ∷ cores_field cores ∷ []
   line_fields (line.Sets totals) = totals_fields totals

@@ -2,9 +2,11 @@
 use Rattle.std.specs.Prelude.{◌≡◌, ℕ, ◌+◌, ◌-◌, ◌*◌, ◌^◌, ◌<◌, ◌≤◌, Bool, true, false, List, [], map, Option, Some, None}
 use Rattle.std.specs.List.{AllByRecursion}
 use Rattle.mcs_ticks.specs.declared.row.Row.{Row}
-use Rattle.mcs_system.specs.System.{System}
+use Rattle.mcs_system.specs.System.{System, thread_part}
 use Rattle.mcs_core.specs.Clock.{turn_of, schedule}
+use Rattle.mcs_verdict.specs.declared.finding.Finding.TheVariants.{Untaken, Never}
 use Rattle.mcs_verdict.specs.declared.job.Job.{Job}
+use Rattle.mcs_verdict.specs.Takers.{due_of}
 use Rattle.mcs_verdict.specs.Findings.{past_of}
 use Rattle.mcs_verdict.specs.Jobs.{jobs_in}
 use Rattle.mcs_ever.specs.Closed.{has}
@@ -14,6 +16,7 @@ use Rattle.mcs_ever.specs.laws.Repeats.{EndsNoRound}
 use Rattle.mcs_ever_found.specs.Recurs.{past_before}
 use Rattle.mcs_ever_found.specs.Course.{greatest, was_spent}
 use Rattle.mcs_ever_found.specs.laws.Course.{is_at_most}
+use Rattle.mcs_ever_found.specs.laws.GoOn.{never_up_to, untaken_up_to, IsOverdueRound}
 use Rattle.mcs_ever_told.specs.declared.line.Often.{Often}
 use Rattle.mcs_ever_told.specs.declared.line.Often.TheVariants.{Forever, SoFar}
 use Rattle.mcs_ever_told.specs.declared.outlook.told.Period.{Period}
@@ -59,3 +62,23 @@ module _ (system : System) where
       pub reached : (h : ℕ) → p.from + p.ticks ≤ h + 1 → greatest system thread (past_of [] (schedule system h)) ≡ response
       pub throttled : never_throttled ≡ true → IsNeverThrottled thread
       pub silent : IsSilentFrom thread silent_from
+
+    -- the round of the thread with this number, which was activated at this time, is overdue at each
+    -- horizon from the last moment of the first period on at which its deadline has passed
+    abbrev pub IsEndless : ℕ → ℕ → ℕ → Type 0
+    IsEndless thread number activated =
+        (h : ℕ) → p.from + p.ticks ≤ h + 1 → (thread_part system thread).deadline ≤ h - activated →
+        IsOverdueRound system h thread number (thread_part system thread).deadline activated
+
+    -- the thread was not activated up to any horizon from the last moment of the first period on
+    abbrev pub IsInactive : ℕ → Type 0
+    IsInactive thread =
+        (h : ℕ) → p.from + p.ticks ≤ h + 1 → never_up_to system h thread ≡ Some (Never thread (thread_part system thread).deadline)
+
+    -- the notification has a deadline. This word of it, which was set at this time, is untaken at
+    -- each horizon from the last moment of the first period on at which the deadline has passed
+    pub record IsAbandoned (note word set : ℕ) : Type 0 where
+      pub deadline : ℕ
+      pub due : due_of note system.threads ≡ Some deadline
+      pub untaken : (h : ℕ) → p.from + p.ticks ≤ h + 1 → deadline ≤ h - set →
+          untaken_up_to system h note ≡ Some (Untaken note word (h - set) deadline set)

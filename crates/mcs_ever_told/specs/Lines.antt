@@ -26,11 +26,31 @@ abbrev pub silent_from : ℕ → Bool → Option ℕ
 silent_from from true = None
 silent_from from false = Some from
 
--- the line of a thread's finding at the horizon
+-- the line of a thread's finding at the horizon, and that of a notification's
 abbrev pub end_told : ℕ → ℕ → Option Finding → Option Line
-end_told horizon thread (Some (finding.Overdue x deadline activated queued stood)) = Some (line.Overdue thread horizon)
+end_told horizon thread (Some (finding.Overdue x number age deadline activated queued stood)) = Some (line.Overdue thread horizon)
 end_told horizon thread (Some (finding.Never x deadline)) = Some (line.Never thread horizon)
 end_told horizon thread _ = None
+
+abbrev pub untaken_told : ℕ → ℕ → Option Finding → Option Line
+untaken_told horizon note (Some (finding.Untaken x word age deadline set)) = Some (line.Untaken note horizon)
+untaken_told horizon note _ = None
+
+-- the line of a thread that is never activated, by its finding at the end of the first period
+abbrev pub inactive_told : ℕ → Option Finding → Option Line
+inactive_told thread (Some (finding.Never x deadline)) = Some (line.Inactive thread)
+inactive_told thread _ = None
+
+-- the line of a thread's round that never ends; if there is none, that of a thread that is never
+-- activated
+abbrev pub ever_told : ℕ → Option Finding → Option Finding → Option Line
+ever_told thread (Some (finding.Overdue x number age deadline activated queued stood)) unended = Some (line.Endless thread number activated)
+ever_told thread _ unended = inactive_told thread unended
+
+-- the line of a notification's word that nobody ever takes
+abbrev pub abandoned_told : ℕ → Option Finding → Option Line
+abandoned_told note (Some (finding.Untaken x word age deadline set)) = Some (line.Abandoned note word set)
+abandoned_told note _ = None
 
 module _ (system : System) where
   -- a line for each thread of the system, if there is one, and for each notification
@@ -72,8 +92,23 @@ module _ (system : System) (own : List Bool) where
   abbrev pub end_line : ℕ → (ℕ → Option Finding) → ℕ → Option Line
   end_line horizon unended thread = if is_own_thread thread then end_told horizon thread (unended thread) else None
 
-  abbrev pub end_lines : ℕ → (ℕ → Option Finding) → List Line
-  end_lines horizon unended = of_threads system (end_line horizon unended)
+  abbrev pub untaken_line : ℕ → (ℕ → Option Finding) → ℕ → Option Line
+  untaken_line horizon untaken note = if is_own_note note then untaken_told horizon note (untaken note) else None
+
+  -- the findings at the horizon, by thread and by notification
+  abbrev pub end_lines : ℕ → (ℕ → Option Finding) → (ℕ → Option Finding) → List Line
+  end_lines horizon unended untaken = of_threads system (end_line horizon unended) ++ of_notes system (untaken_line horizon untaken)
+
+  abbrev pub ever_line : (ℕ → Option Finding) → (ℕ → Option Finding) → ℕ → Option Line
+  ever_line endless unended thread = if is_own_thread thread then ever_told thread (endless thread) (unended thread) else None
+
+  abbrev pub abandoned_line : (ℕ → Option Finding) → ℕ → Option Line
+  abandoned_line abandoned note = if is_own_note note then abandoned_told note (abandoned note) else None
+
+  -- the findings that go on for ever, by thread and by notification
+  abbrev pub ever_lines : (ℕ → Option Finding) → (ℕ → Option Finding) → (ℕ → Option Finding) → List Line
+  ever_lines endless unended abandoned =
+      of_threads system (ever_line endless unended) ++ of_notes system (abandoned_line abandoned)
 
   -- the maximum response of the thread, whether it never exhausted its budget, and the time from
   -- which on it ends no round
@@ -94,15 +129,7 @@ module _ (system : System) (own : List Bool) where
   abbrev pub threads_so_far : Course → List Line
   threads_so_far course = of_threads system (thread_so_far course)
 
-  -- the line of a thread that is not known to be settled
-  abbrev pub unsettled_line : List Bool → ℕ → Option Line
-  unsettled_line unsettled thread =
-      if is_own_thread thread && has unsettled thread then Some (line.Unsettled thread) else None
-
-  abbrev pub unsettled_lines : List Bool → List Line
-  unsettled_lines unsettled = of_threads system (unsettled_line unsettled)
-
--- the line `nothing is ever found`, if there are no lines of findings and of unsettled threads
+-- the line `nothing is ever found`, if there are no lines of findings
 abbrev pub clean_lines : List Bool → List Line → List Line
 clean_lines set [] = line.Clean set ∷ []
 clean_lines set (l ∷ lines) = []

@@ -3,6 +3,7 @@
 mod cores;
 mod object;
 mod put;
+mod takers;
 mod text;
 mod thread;
 mod word;
@@ -69,15 +70,40 @@ pub enum Line {
         note: NoteId,
         often: Often,
     },
-    /// A round of the thread is overdue at this time.
+    /// A round of the thread is overdue at this time; no recurrence was found.
     Overdue {
         thread: ThreadId,
         moment: Tick,
     },
-    /// The thread has a deadline, and was not activated for a round up to this time.
+    /// The thread has a deadline, and was not activated for a round up to this time; no recurrence
+    /// was found.
     Never {
         thread: ThreadId,
         moment: Tick,
+    },
+    /// Nobody has taken the word of the notification, and whoever takes it misses its deadline at
+    /// this time; no recurrence was found.
+    Untaken {
+        note: NoteId,
+        moment: Tick,
+    },
+    /// The round of the thread with this number, which was activated at this time, never ends. The
+    /// thread has a deadline.
+    Endless {
+        thread: ThreadId,
+        number: u64,
+        activated: Tick,
+    },
+    /// The thread has a deadline, and is never activated for a round.
+    Inactive {
+        thread: ThreadId,
+    },
+    /// Nobody ever takes this word of the notification, which was set at this time. Each thread
+    /// that may take it has a deadline.
+    Abandoned {
+        note: NoteId,
+        word: u32,
+        set: Tick,
     },
     /// The maximum response of all rounds of the thread that ever end, if one does; whether the
     /// thread never stops with its budget exhausted; and the time from which on it ends no round,
@@ -93,11 +119,6 @@ pub enum Line {
     ThreadSoFar {
         thread: ThreadId,
         greatest: Option<u64>,
-    },
-    /// The thread has a deadline and never misses it, but it is not known whether a round of it is
-    /// ever overdue.
-    Unsettled {
-        thread: ThreadId,
     },
     /// These cores have no finding at any horizon.
     Clean {

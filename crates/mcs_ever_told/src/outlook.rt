@@ -4,7 +4,6 @@
 mod lines;
 mod look;
 mod sets;
-mod settle;
 mod tell;
 mod told;
 
@@ -15,8 +14,7 @@ ghost use Rattle.mcs_ever_told.specs.Progress.{IsOpening, IsOfSame};
 
 use crate::outlook::look::Look;
 use crate::outlook::sets::{Group, groups_of};
-use crate::outlook::tell::{all_told, is_any_left, nothing_known, tell_now};
-use crate::outlook::told::Known;
+use crate::outlook::tell::{all_told, is_any_left, nothing_told, tell_now};
 use mcs_ever::{CoreSet, closed_sets};
 use mcs_ever_search::{Sampling, Search};
 use mcs_system::System;
@@ -38,7 +36,7 @@ pub struct Outlook {
     search: Search,
     sampling: Sampling,
     rows: Vec<Row>,
-    known: Vec<Known>,
+    told: Vec<Option<Told>>,
     failed: bool,
 }
 
@@ -69,7 +67,7 @@ impl Outlook {
     {
         let sets = closed_sets(alloc, &system)?;
         let groups = groups_of(alloc, sets.as_slice())?;
-        let known = nothing_known(alloc, groups.len())?;
+        let told = nothing_told(alloc, groups.len())?;
         let allowed = allowed.iter().copied().collect(alloc)?;
         let shared = Arc::try_clone(&system)?;
         let search = Search::new(alloc, shared, horizon)?;
@@ -82,7 +80,7 @@ impl Outlook {
             search,
             sampling: Sampling::new(),
             rows: Vec::new(alloc),
-            known,
+            told,
             failed: false,
         })
     }
@@ -106,7 +104,7 @@ impl Outlook {
         if self.failed {
             return Err(NoMemory);
         }
-        if self.search.clock() > self.horizon || !is_any_left(self.known.as_slice()) {
+        if self.search.clock() > self.horizon || !is_any_left(self.told.as_slice()) {
             return Ok(false);
         }
         self.failed = true;
@@ -122,7 +120,7 @@ impl Outlook {
             alloc,
             &look,
             self.groups.as_slice(),
-            self.known.as_mut_slice(),
+            self.told.as_mut_slice(),
         )?;
         self.failed = false;
         Ok(true)
@@ -156,7 +154,7 @@ impl Outlook {
             alloc,
             &look,
             self.groups.as_slice(),
-            self.known.as_mut_slice(),
+            self.told.as_mut_slice(),
         )
     }
 }

@@ -15,7 +15,7 @@ cores = 3
 delay = 1
 context = [{ name = "c", core = 0, budget = 2, period = 5 }]
 note = [{ name = "N", core = 0 }]
-thread = [{ name = "T", context = "c", priority = 5, deadline = 10, script = ["compute 5"] }]
+thread = [{ name = "T", context = "c", priority = 5, deadline = 10, script = ["wait N", "compute 5"] }]
 "#;
 
 const IN_WORDS: &str = "\
@@ -25,9 +25,12 @@ miss T: 2 in each period, 1 before
 lost N: 3 so far
 overdue T at 25
 never T up to 25
+untaken N at 25
+overdue T round 3 activated 13 for ever
+never T for ever
+untaken N by T word 5 set 13 for ever
 thread T: greatest response 4, throttled: never, ends no round from 13 on
 thread T: greatest response 9 so far
-unsettled T: no deadline is ever missed; whether a job is ever overdue is not known
 nothing is ever found
 sets 3 repeating 2 findings 0 threads 4 deadlines 1
 ";
@@ -38,9 +41,12 @@ const AS_OBJECTS: &str = r#"{"kind":"repeats","cores":"0 2","from":13,"period":1
 {"kind":"lost","note":"N","so_far":3}
 {"kind":"overdue","thread":"T","moment":25}
 {"kind":"never","thread":"T","moment":25}
+{"kind":"untaken","note":"N","moment":25}
+{"kind":"overdue","thread":"T","number":3,"activated":13}
+{"kind":"never","thread":"T"}
+{"kind":"untaken","note":"N","by":["T"],"word":5,"set":13}
 {"kind":"thread","thread":"T","greatest":4,"throttled":"never","ends_no_round_from":13}
 {"kind":"thread_so_far","thread":"T","greatest":9}
-{"kind":"unsettled","thread":"T"}
 {"kind":"clean","cores":"0 2"}
 {"kind":"sets","sets":3,"repeating":2,"findings":0,"threads":4,"deadlines":1}
 "#;
@@ -55,9 +61,10 @@ fn cores() -> CoreSet {
 }
 
 /// A line of each kind.
-fn lines() -> [Line; 11] {
+fn lines() -> [Line; 14] {
     let cores = cores();
     let thread = ThreadId(0);
+    let note = NoteId(0);
     let from = Tick::new(13).unwrap();
     let moment = Tick::new(25).unwrap();
     [
@@ -78,11 +85,23 @@ fn lines() -> [Line; 11] {
             },
         },
         Line::Lost {
-            note: NoteId(0),
+            note,
             often: Often::SoFar { times: 3 },
         },
         Line::Overdue { thread, moment },
         Line::Never { thread, moment },
+        Line::Untaken { note, moment },
+        Line::Endless {
+            thread,
+            number: 3,
+            activated: from,
+        },
+        Line::Inactive { thread },
+        Line::Abandoned {
+            note,
+            word: 5,
+            set: from,
+        },
         Line::Thread {
             thread,
             greatest: Some(4),
@@ -93,7 +112,6 @@ fn lines() -> [Line; 11] {
             thread,
             greatest: Some(9),
         },
-        Line::Unsettled { thread },
         Line::Clean { cores },
         Line::Sets {
             totals: Totals {

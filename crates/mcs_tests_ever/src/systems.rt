@@ -3,7 +3,7 @@ ghost use Rattle.std.specs.Prelude.{◌≤◌, ◌^◌, IfOk};
 
 use mcs_ever::closed_sets;
 use mcs_ever_search::{Repeats, find_repeats};
-use mcs_ever_told::{LineFormat, Told, put_lines, tell_all};
+use mcs_ever_told::{Line, LineFormat, Told, put_lines, tell_all};
 use mcs_load::load;
 use mcs_system::System;
 use mcs_ticks::Tick;
@@ -82,6 +82,11 @@ pub(crate) fn lines(alloc: Global, text: &str, horizon: u64) -> Result<Vec<u8>, 
     let all = told(alloc, text, horizon)?;
     let system = load(alloc, text.as_bytes())?;
     written(alloc, &system, all.as_slice())
+}
+
+/// Whether the result has this line.
+pub(crate) fn has(told: &Told, line: Line) -> bool {
+    told.lines.as_slice().iter().any(|one| *one == line)
 }
 
 /// The period of a set of cores; 0 if no recurrence was found.

@@ -192,7 +192,7 @@ abbrev signal : Mail
 signal = record { arrives = 3; made = 1; maker = 1; note = 0; badge = 7 }
 
 a_signal_arrives : IsNextBusy waits_system 0 2 (signal ∷ []) waiting (Some 3)
-a_signal_arrives = (1, refl, omega arith, quiet, tells _ _ (row.Arrive 0 7 1) (row.Wake 0 0 7 ∷ row.Run 0 ∷ []) refl)
+a_signal_arrives = (1, refl, omega arith, quiet, tells _ _ (row.Arrive 0 7 1) (row.Wake 0 0 7 None ∷ row.Run 0 ∷ []) refl)
   where
     quiet : AreQuiet waits_system 0 2 (signal ∷ []) waiting 1
     quiet zero l = refl

@@ -23,7 +23,7 @@ two_handlers : schedule two_handlers_system 12 ≡
     ∷ at 0 0 (row.Run 0)
     ∷ at 1 0 (row.Stop 0 why.Wait 1 None)
     ∷ at 2 0 (row.Interrupt 0 0 1)
-    ∷ at 2 0 (row.Wake 0 0 1)
+    ∷ at 2 0 (row.Wake 0 0 1 None)
     ∷ at 2 0 (row.Interrupt 1 0 2)
     ∷ at 2 0 (row.Hold 0 2)
     ∷ at 2 0 (row.Run 0)
@@ -32,7 +32,7 @@ two_handlers : schedule two_handlers_system 12 ≡
     ∷ at 8 0 (row.Round 0 2 3)
     ∷ at 9 0 (row.Stop 0 why.Wait 7 None)
     ∷ at 12 0 (row.Interrupt 0 0 1)
-    ∷ at 12 0 (row.Wake 0 0 1)
+    ∷ at 12 0 (row.Wake 0 0 1 None)
     ∷ at 12 0 (row.Run 0)
     ∷ []
 two_handlers = refl
@@ -51,7 +51,7 @@ nobodys_badge : schedule nobodys_badge_system 4 ≡
     ∷ at 0 0 (row.Run 0)
     ∷ at 1 0 (row.Stop 0 why.Wait 1 None)
     ∷ at 2 0 (row.Interrupt 0 0 4)
-    ∷ at 2 0 (row.Wake 0 0 4)
+    ∷ at 2 0 (row.Wake 0 0 4 None)
     ∷ at 2 0 (row.Run 0)
     ∷ at 3 0 (row.Stop 0 why.Wait 1 None)
     ∷ []
@@ -107,7 +107,7 @@ a_server_that_is_taken : schedule a_server_that_is_taken_system 22 ≡
     ∷ at 20 0 (row.Release 0)
     ∷ at 20 0 (row.Run 0)
     ∷ at 21 0 (row.Signal 0 0 1)
-    ∷ at 21 0 (row.Wake 1 0 1)
+    ∷ at 21 0 (row.Wake 1 0 1 None)
     ∷ at 21 0 (row.Round 0 1 21)
     ∷ at 21 0 (row.Stop 0 why.Done 1 None)
     ∷ at 21 0 (row.Run 1)

@@ -6,3 +6,6 @@ mod Handlers
 mod Random
 pub mod Busy
 mod OneList
+pub mod EverFindings
+mod EverFlags
+mod EverGoOn

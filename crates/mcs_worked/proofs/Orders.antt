@@ -82,7 +82,7 @@ order_for_a_blocked_thread : schedule order_for_a_blocked_thread_system 9 ≡
     ∷ at 1 0 (row.Run 1)
     ∷ at 3 0 (row.Order 0)
     ∷ at 5 0 (row.Signal 1 0 1)
-    ∷ at 5 0 (row.Wake 0 0 1)
+    ∷ at 5 0 (row.Wake 0 0 1 None)
     ∷ at 5 0 (row.Stop 1 why.Preempt 4 None)
     ∷ at 5 0 (row.Run 0)
     ∷ at 7 0 (row.Stop 0 why.Spent 2 (Some 35))

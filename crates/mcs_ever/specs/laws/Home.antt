@@ -27,7 +27,7 @@ module _ (system : System) (core : ℕ) where
   IsOfOwn (row.Run thread) = IsOwnThread thread
   IsOfOwn (row.Signal thread note badge) = IsOwnThread thread
   IsOfOwn (row.Arrive note badge maker) = IsOwnNote note
-  IsOfOwn (row.Wake thread note word) = IsOwnThread thread × IsOwnNote note
+  IsOfOwn (row.Wake thread note word until) = IsOwnThread thread × IsOwnNote note
   IsOfOwn (row.Hold note word) = IsOwnNote note
   IsOfOwn (row.Got thread note word) = IsOwnThread thread × IsOwnNote note
   IsOfOwn (row.Order context) = Unit {0}

@@ -1,6 +1,6 @@
--- A thread without a finding by the end of the first period never has one, and a notification that
--- loses no signal by then never loses one.
-use Rattle.std.specs.Prelude.{◌≡◌, ◌≢◌, ℕ, suc, ◌+◌, ◌<◌, ◌≤◌, Bool, true, false, ◌==◌, List, [], length, None}
+-- A thread that misses no deadline by the end of the first period never misses one, and a
+-- notification that loses no signal by then never loses one.
+use Rattle.std.specs.Prelude.{◌≡◌, ℕ, suc, ◌+◌, ◌≤◌, Bool, true, false, ◌==◌, List, [], None}
 use Rattle.std.specs.List.{list_any}
 use Rattle.mcs_system.specs.System.{System, thread_part, note_part, core_of}
 use Rattle.mcs_system.specs.WellFormed.{IsWellFormed}
@@ -9,10 +9,10 @@ use Rattle.mcs_verdict.specs.declared.finding.Finding.{Finding}
 use Rattle.mcs_verdict.specs.declared.finding.Finding.TheVariants.{Lost}
 use Rattle.mcs_verdict.specs.declared.finding.Found.{Found}
 use Rattle.mcs_verdict.specs.Findings.{past_of, found_in}
-use Rattle.mcs_verdict.specs.Misses.{unended}
-use Rattle.mcs_verdict_laws.specs.laws.Horizons.{TakesItAlone, has_miss_of}
+use Rattle.mcs_verdict.specs.Misses.{overdue}
+use Rattle.mcs_verdict_laws.specs.laws.Horizons.{has_miss_of}
 use Rattle.mcs_ever.specs.Recurs.{Shifts}
-use Rattle.mcs_ever_found.specs.Recurs.{EndRecurs, FindingsRecur}
+use Rattle.mcs_ever_found.specs.Recurs.{FindingsRecur}
 
 -- whether a signal of the notification was lost
 abbrev pub is_lost_of : ℕ → Finding → Bool
@@ -27,11 +27,10 @@ module _ (system : System) (horizon : ℕ) where
   abbrev pub told_up_to : List Found
   told_up_to = found_in system [] (schedule system horizon)
 
-  -- no round of the thread missed its deadline up to the horizon, and at the horizon the thread is
-  -- neither overdue nor never activated
-  pub record NothingIsFoundOf (thread : ℕ) : Type 0 where
+  -- no round of the thread missed its deadline up to the horizon, and none is overdue at the horizon
+  pub record IsInTime (thread : ℕ) : Type 0 where
     pub missed : has_miss_of thread told_up_to ≡ false
-    pub unended : unended system (past_of [] (schedule system horizon)) horizon thread ≡ None
+    pub overdue : overdue system (past_of [] (schedule system horizon)) horizon thread ≡ None
 
 -- if no round of a thread of the group missed its deadline before the end of the first period, none
 -- does up to any horizon
@@ -50,17 +49,3 @@ NoSignalIsLost =
     (note : ℕ) → group (note_part system note).core ≡ true →
     (last : ℕ) → from + shifts.by ≤ suc last → has_lost_of note (told_up_to system last) ≡ false →
     (horizon : ℕ) → has_lost_of note (told_up_to system horizon) ≡ false
-
--- the thread's finding at horizons recurs, and it has none at two horizons: one at most the first
--- of the first period, the other at least its last. It then has none at any horizon from the
--- earlier one on. If it has a deadline, no other thread may take the word for which it waits first
--- between them
-abbrev pub ThreadIsNeverFound : Type 0
-ThreadIsNeverFound =
-    (system : System) (group : ℕ → Bool) (shifts : Shifts) (from : ℕ) → IsWellFormed system → FindingsRecur system group shifts from →
-    (thread : ℕ) → thread < length system.threads → group (core_of system (thread_part system thread)) ≡ true →
-    EndRecurs system shifts.by from thread →
-    (earlier last : ℕ) → earlier ≤ from → from + shifts.by ≤ suc last →
-    ((thread_part system thread).deadline ≢ 0 → TakesItAlone system thread earlier (schedule system last)) →
-    unended system (past_of [] (schedule system earlier)) earlier thread ≡ None → NothingIsFoundOf system last thread →
-    (horizon : ℕ) → earlier ≤ horizon → NothingIsFoundOf system horizon thread

@@ -1,5 +1,5 @@
 -- If a group of cores recurs in its findings, each of them recurs, for ever.
-use Rattle.std.specs.Prelude.{◌≡◌, ◌≢◌, ℕ, suc, ◌+◌, ◌<◌, ◌≤◌, Bool, true, List, [], filter, map, flat_map, length, option_map}
+use Rattle.std.specs.Prelude.{◌≡◌, ℕ, ◌+◌, ◌≤◌, Bool, true, List, [], filter, map, flat_map}
 use Rattle.std.specs.List.{AllByRecursion}
 use Rattle.mcs_ticks.specs.declared.row.Row.{Row}
 use Rattle.mcs_system.specs.System.{System, thread_part, core_of}
@@ -8,13 +8,11 @@ use Rattle.mcs_core.specs.Clock.{clock, rows_of, schedule}
 use Rattle.mcs_laws.specs.Turns.{cores}
 use Rattle.mcs_verdict.specs.declared.finding.Found.{Found}
 use Rattle.mcs_verdict.specs.declared.job.Job.{Job}
-use Rattle.mcs_verdict.specs.Findings.{past_of, found_in, findings}
+use Rattle.mcs_verdict.specs.Findings.{found_in}
 use Rattle.mcs_verdict.specs.Jobs.{jobs_in}
-use Rattle.mcs_verdict.specs.Misses.{overdue}
-use Rattle.mcs_verdict_laws.specs.laws.Horizons.{TakesItAlone}
 use Rattle.mcs_ever.specs.Recurs.{Shifts, shift_of}
-use Rattle.mcs_ever_found.specs.Later.{later_job, later_finding, later_found}
-use Rattle.mcs_ever_found.specs.Recurs.{past_before, ThreadIsLater, FirstWordRecurs, EndRecurs, FindingsRecur}
+use Rattle.mcs_ever_found.specs.Later.{later_job, later_found}
+use Rattle.mcs_ever_found.specs.Recurs.{past_before, FindingsRecur}
 
 module _ (system : System) where
   -- the rows of time t
@@ -34,11 +32,6 @@ module _ (system : System) where
     -- the findings in its rows up to the horizon
     abbrev pub found_up_to : ℕ → List Found
     found_up_to horizon = filter (λ (found : Found). group found.core) (found_in system [] (schedule system horizon))
-
-    -- all findings of the group in a run to the horizon, also overdue rounds and threads that were
-    -- never activated
-    abbrev pub all_found : ℕ → List Found
-    all_found horizon = filter (λ (found : Found). group found.core) (findings system horizon (schedule system horizon))
 
     -- the rounds of the group's threads that end in the rows of time t, in those before time t, and
     -- in those up to the horizon
@@ -66,43 +59,6 @@ abbrev pub NothingIsFound : Type 0
 NothingIsFound =
     (system : System) (group : ℕ → Bool) (shifts : Shifts) (from : ℕ) → IsWellFormed system → FindingsRecur system group shifts from →
     found_before system group (from + shifts.by) ≡ [] → (horizon : ℕ) → found_up_to system group horizon ≡ []
-
--- a thread of the group whose account and first word are later: it is overdue exactly if it is
--- overdue a period later
-abbrev pub OverdueRepeats : Type 0
-OverdueRepeats =
-    (system : System) (group : ℕ → Bool) (shifts : Shifts) (from : ℕ) → IsWellFormed system → FindingsRecur system group shifts from →
-    (thread : ℕ) → thread < length system.threads → group (core_of system (thread_part system thread)) ≡ true →
-    ThreadIsLater system shifts.by from thread → FirstWordRecurs system shifts.by from thread →
-    (horizon : ℕ) → from ≤ horizon →
-    overdue system (past_of [] (schedule system (horizon + shifts.by))) (horizon + shifts.by) thread
-    ≡ option_map (later_finding (shift_of shifts (core_of system (thread_part system thread))))
-    (overdue system (past_of [] (schedule system horizon)) horizon thread)
-
--- the findings of all the group's threads at horizons recur, and the group has no finding at each
--- horizon of the first period: it has none at any horizon from then on
-abbrev pub NothingIsEverFound : Type 0
-NothingIsEverFound =
-    (system : System) (group : ℕ → Bool) (shifts : Shifts) (from : ℕ) → IsWellFormed system → FindingsRecur system group shifts from →
-    ((thread : ℕ) → thread < length system.threads → group (core_of system (thread_part system thread)) ≡ true →
-    EndRecurs system shifts.by from thread) →
-    ((horizon : ℕ) → from ≤ horizon → horizon < from + shifts.by → all_found system group horizon ≡ []) →
-    (horizon : ℕ) → from ≤ horizon → all_found system group horizon ≡ []
-
--- the same by two horizons, one at most the first of the first period, the other at least its last:
--- if the group has no finding at both, it has none at any horizon from the earlier one on. Between
--- them no other thread may take the word for which a thread of the group with a deadline waits
--- first
-abbrev pub NothingIsFoundAfter : Type 0
-NothingIsFoundAfter =
-    (system : System) (group : ℕ → Bool) (shifts : Shifts) (from : ℕ) → IsWellFormed system → FindingsRecur system group shifts from →
-    ((thread : ℕ) → thread < length system.threads → group (core_of system (thread_part system thread)) ≡ true →
-    EndRecurs system shifts.by from thread) →
-    (earlier last : ℕ) → earlier ≤ from → from + shifts.by ≤ suc last →
-    ((thread : ℕ) → thread < length system.threads → group (core_of system (thread_part system thread)) ≡ true →
-    (thread_part system thread).deadline ≢ 0 → TakesItAlone system thread earlier (schedule system last)) →
-    all_found system group earlier ≡ [] → all_found system group last ≡ [] →
-    (horizon : ℕ) → earlier ≤ horizon → all_found system group horizon ≡ []
 
 -- a round that ended, later by the shift of its thread's core
 abbrev pub later_job_of : System → Shifts → Job → Job

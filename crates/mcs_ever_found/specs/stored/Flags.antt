@@ -14,11 +14,6 @@ abbrev pub taken_by : What → Option ℕ
 taken_by (row.Got thread note word) = Some note
 taken_by _ = None
 
--- the notification in whose word a signal is held
-abbrev pub held_by : What → Option ℕ
-held_by (row.Hold note word) = Some note
-held_by _ = None
-
 -- the flag of that number is set, if there is one
 abbrev pub marked : Option ℕ → List Bool → List Bool
 marked None flags = flags
@@ -32,7 +27,5 @@ abbrev pub nothing_done : Doings → Doings
 nothing_done doings =
     record {
       ended = unmarked doings.ended;
-      told = unmarked doings.told;
       taken = unmarked doings.taken;
-      held = unmarked doings.held;
     }

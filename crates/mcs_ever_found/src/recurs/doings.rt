@@ -1,9 +1,8 @@
 ghost use Rattle.std.specs.Prelude.{◌≡◌, false, [], ◌∷◌, ◌++◌, List, get_or, IfOk};
 ghost use Rattle.mcs_ticks.specs.declared.row.What.{What as TheWhat};
 ghost use Rattle.mcs_system.specs.System.{System as TheSystem};
-ghost use Rattle.mcs_verdict.specs.Account.{subject};
 ghost use Rattle.mcs_ever_found.specs.Doings.{doings_of};
-ghost use Rattle.mcs_ever_found.specs.stored.Flags.{ended_by, taken_by, held_by, marked, unmarked, nothing_done};
+ghost use Rattle.mcs_ever_found.specs.stored.Flags.{ended_by, taken_by, marked, unmarked, nothing_done};
 
 use mcs_system::System;
 use mcs_ticks::{NoMemory, NoteId, ThreadId, What};
@@ -20,37 +19,12 @@ fn ended_by(what: &What) -> Option<usize>
     }
 }
 
-/// The thread that the row is about.
-fn subject(what: &What) -> Option<usize>
-    ensures { result ≡ subject what.now }
-{
-    match *what {
-        What::Release { thread }
-        | What::Run { thread }
-        | What::Stop { thread, .. }
-        | What::Wake { thread, .. }
-        | What::Got { thread, .. }
-        | What::Round { thread, .. } => Some(thread.0),
-        _ => None,
-    }
-}
-
 /// The notification whose word a thread takes.
 fn taken_by(what: &What) -> Option<usize>
     ensures { result ≡ taken_by what.now }
 {
     match *what {
         What::Got { note, .. } => Some(note.0),
-        _ => None,
-    }
-}
-
-/// The notification in whose word a signal is held.
-fn held_by(what: &What) -> Option<usize>
-    ensures { result ≡ held_by what.now }
-{
-    match *what {
-        What::Hold { note, .. } => Some(note.0),
         _ => None,
     }
 }
@@ -83,15 +57,13 @@ fn is_marked(flags: &[bool], number: usize) -> bool
     }
 }
 
-/// Flags of what some rows of a system did. A thread has two: a round of it ended, a row was about
-/// it. A notification has two: its word was taken, a signal was held in it. One more row takes
-/// constant time and no memory.
+/// Flags of what some rows of a system did: for each thread, whether a round of it ended; for each
+/// notification, whether its word was taken, by any thread. One more row takes constant time and no
+/// memory.
 #[derive(Drop)]
 pub struct Doings {
     ended: Vec<bool>,
-    told: Vec<bool>,
     taken: Vec<bool>,
-    held: Vec<bool>,
 }
 
 impl Model for Doings {
@@ -101,9 +73,7 @@ impl Model for Doings {
 
     ghost view = { λ a. record {
       ended = a.ended.items;
-      told = a.told.items;
       taken = a.taken.items;
-      held = a.held.items;
     } };
 }
 
@@ -116,9 +86,7 @@ impl Doings {
         let notes = system.parts().notes.len();
         Ok(Doings {
             ended: vec![in alloc; false; threads]?,
-            told: vec![in alloc; false; threads]?,
             taken: vec![in alloc; false; notes]?,
-            held: vec![in alloc; false; notes]?,
         })
     }
 
@@ -128,9 +96,7 @@ impl Doings {
             self.new ≡ doings_of system (rows ++ what.now ∷ []) }
     {
         mark(self.ended.as_mut_slice(), ended_by(what));
-        mark(self.told.as_mut_slice(), subject(what));
         mark(self.taken.as_mut_slice(), taken_by(what));
-        mark(self.held.as_mut_slice(), held_by(what));
     }
 
     /// Whether a round of the thread ended; `false` if there is no such thread.
@@ -140,26 +106,11 @@ impl Doings {
         is_marked(self.ended.as_slice(), thread.0)
     }
 
-    /// Whether a row was about the thread; `false` if there is no such thread.
-    pub fn is_about(&self, thread: ThreadId) -> bool
-        ensures { result ≡ get_or self.now.told thread false }
-    {
-        is_marked(self.told.as_slice(), thread.0)
-    }
-
     /// Whether a thread took the notification's word; `false` if there is no such notification.
     pub fn takes_word(&self, note: NoteId) -> bool
         ensures { result ≡ get_or self.now.taken note false }
     {
         is_marked(self.taken.as_slice(), note.0)
-    }
-
-    /// Whether a signal was held in the notification's word; `false` if there is no such
-    /// notification.
-    pub fn holds_word(&self, note: NoteId) -> bool
-        ensures { result ≡ get_or self.now.held note false }
-    {
-        is_marked(self.held.as_slice(), note.0)
     }
 
     /// Clears all flags, as before the first row.
@@ -168,8 +119,6 @@ impl Doings {
         ensures anew { (system : TheSystem) (rows : List TheWhat) → self.old ≡ doings_of system rows → self.new ≡ doings_of system [] }
     {
         unmark(self.ended.as_mut_slice());
-        unmark(self.told.as_mut_slice());
         unmark(self.taken.as_mut_slice());
-        unmark(self.held.as_mut_slice());
     }
 }

@@ -15,7 +15,7 @@ progress_of a =
       allowed = a.allowed.items;
       horizon = a.horizon;
       clock = a.search.clock;
-      left = is_any_left a.known.items;
+      left = is_any_left a.told.items;
     }
 
 -- the search is one of this system, up to this horizon
@@ -26,6 +26,6 @@ pub record IsGoing (a : Inside) : Type 0 where
 pub record IsKept (a : Inside) : Type 0 where
   pub sets : AreLeastClosed (arc_value a.system) a.sets.items
   pub groups : a.groups.items ≡ groups_of a.sets.items
-  pub many : length a.known.items ≡ length a.groups.items
-  pub told : AreToldSoFar (arc_value a.system) a.allowed.items a.horizon a.groups.items a.known.items
+  pub many : length a.told.items ≡ length a.groups.items
+  pub told : AreToldSoFar (arc_value a.system) a.allowed.items a.horizon a.groups.items a.told.items
   pub going : a.failed ≡ false → IsGoing a

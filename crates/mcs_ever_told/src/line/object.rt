@@ -1,11 +1,12 @@
 //! Lines as JSON objects.
 ghost use Rattle.std.specs.Prelude.{◌≡◌, ◌++◌, ◌∷◌, [], OnOk, OnErr, codes};
-ghost use Rattle.mcs_fields.specs.Fields.{amount, name, object_text};
-ghost use Rattle.mcs_ever_told.specs.declared.line.Line.TheVariants.{Repeats, Open, Miss, Lost, Overdue, Never, Clean};
+ghost use Rattle.mcs_fields.specs.Fields.{amount, name, object_text, value_of};
+ghost use Rattle.mcs_ever_told.specs.declared.line.Line.TheVariants.{Repeats, Open, Miss, Lost, Overdue, Never, Untaken, Endless, Inactive, Abandoned, Clean};
 ghost use Rattle.mcs_ever_told.specs.Fields.{line_fields, often_fields, totals_fields};
 
 use crate::line::cores::cores_text;
-use crate::line::thread::{put_so_far, put_thread, put_unsettled};
+use crate::line::takers::taker_names;
+use crate::line::thread::{put_endless, put_inactive, put_so_far, put_thread};
 use crate::line::{Line, Often, Totals};
 use mcs_ever::CoreSet;
 use mcs_fields::{Cell, put_object};
@@ -35,6 +36,14 @@ pub(crate) fn put_fields(
         Line::Lost { note, often } => put_lost(alloc, text, system, note, &often),
         Line::Overdue { thread, moment } => put_overdue(alloc, text, system, thread, moment),
         Line::Never { thread, moment } => put_never(alloc, text, system, thread, moment),
+        Line::Untaken { note, moment } => put_untaken(alloc, text, system, note, moment),
+        Line::Endless {
+            thread,
+            number,
+            activated,
+        } => put_endless(alloc, text, system, thread, number, activated),
+        Line::Inactive { thread } => put_inactive(alloc, text, system, thread),
+        Line::Abandoned { note, word, set } => put_abandoned(alloc, text, system, note, word, set),
         Line::Thread {
             thread,
             greatest,
@@ -45,7 +54,6 @@ pub(crate) fn put_fields(
             put_thread(alloc, text, name, greatest, never_throttled, silent_from)
         }
         Line::ThreadSoFar { thread, greatest } => put_so_far(alloc, text, system, thread, greatest),
-        Line::Unsettled { thread } => put_unsettled(alloc, text, system, thread),
         Line::Clean { cores } => put_clean(alloc, text, system, &cores),
         Line::Sets { totals } => put_sets(alloc, text, &totals),
     }
@@ -165,6 +173,64 @@ fn put_never(
     ensures err { OnErr result (text.new.items ≡ text.old.items) }
 {
     put_moment(alloc, text, "never", thread_name(system, thread), moment)
+}
+
+fn put_untaken(
+    alloc: Global,
+    text: &mut Vec<u8>,
+    system: &System,
+    note: NoteId,
+    moment: Tick,
+) -> Result<(), NoMemory>
+    ensures ok { OnOk result (text.new.items ≡ text.old.items ++ object_text (line_fields system.now (Untaken note moment))) }
+    ensures err { OnErr result (text.new.items ≡ text.old.items) }
+{
+    let fields = [
+        ("kind", Cell::Name("untaken")),
+        ("note", Cell::Name(note_name(system, note))),
+        ("moment", Cell::Number(moment.get())),
+    ];
+    put_object(alloc, text, &fields)
+}
+
+fn put_abandoned(
+    alloc: Global,
+    text: &mut Vec<u8>,
+    system: &System,
+    note: NoteId,
+    word: u32,
+    set: Tick,
+) -> Result<(), NoMemory>
+    ensures ok { OnOk result (text.new.items ≡ text.old.items ++ object_text (line_fields system.now (Abandoned note word set))) }
+    ensures err { OnErr result (text.new.items ≡ text.old.items) }
+{
+    let by = taker_names(alloc, system, note)?;
+    let by = Cell::Names(by.as_slice());
+    put_word(alloc, text, note_name(system, note), by, word, set)
+}
+
+/// Appends a word of a notification, with those that may take it, and when it was set.
+fn put_word<'s>(
+    alloc: Global,
+    text: &mut Vec<u8>,
+    note: &'s str,
+    by: Cell<'s>,
+    word: u32,
+    set: Tick,
+) -> Result<(), NoMemory>
+    ensures ok { OnOk result (text.new.items ≡ text.old.items ++ object_text
+        ((codes "kind", name (codes "untaken")) ∷ (codes "note", name note.now) ∷ (codes "by", value_of by.entry) ∷ (codes "word", amount word)
+        ∷ (codes "set", amount set) ∷ [])) }
+    ensures err { OnErr result (text.new.items ≡ text.old.items) }
+{
+    let fields = [
+        ("kind", Cell::Name("untaken")),
+        ("note", Cell::Name(note)),
+        ("by", by),
+        ("word", Cell::Number(u64::from(word))),
+        ("set", Cell::Number(set.get())),
+    ];
+    put_object(alloc, text, &fields)
 }
 
 /// Appends how often something was found. `key` says whether the name is that of a thread or of a

@@ -2,10 +2,12 @@
 ghost use Rattle.std.specs.Prelude.{◌≡◌, ◌++◌, ◌∷◌, [], OnOk, Some, codes, decimal};
 ghost use Rattle.std.specs.Io.{StartsWith};
 ghost use Rattle.mcs_text.specs.Text.{line};
-ghost use Rattle.mcs_ever_told.specs.declared.line.Line.TheVariants.{Repeats, Open, Miss, Lost, Overdue, Never, ThreadSoFar, Unsettled};
+ghost use Rattle.mcs_ever_told.specs.declared.line.Line.TheVariants.{Repeats, Open, Miss, Lost, Overdue, Never, Untaken, Endless, Inactive, Abandoned, ThreadSoFar};
+ghost use Rattle.mcs_ever_told.specs.stored.Words.{word_of};
 ghost use Rattle.mcs_ever_told.specs.Texts.{known_word, named, often_words, silent_text, throttled_text, totals_words, words_text};
 
 use crate::line::cores::cores_text;
+use crate::line::takers::taker_names;
 use crate::line::word::{Word, append_line, append_words, known_word};
 use crate::line::{Line, Often, Totals};
 use mcs_ever::CoreSet;
@@ -35,6 +37,16 @@ pub(crate) fn append_told(
         Line::Lost { note, often } => append_lost(text, system, note, &often),
         Line::Overdue { thread, moment } => append_overdue(text, system, thread, moment),
         Line::Never { thread, moment } => append_never(text, system, thread, moment),
+        Line::Untaken { note, moment } => append_untaken(text, system, note, moment),
+        Line::Endless {
+            thread,
+            number,
+            activated,
+        } => append_endless(text, system, thread, number, activated),
+        Line::Inactive { thread } => append_inactive(text, system, thread),
+        Line::Abandoned { note, word, set } => append_abandoned(
+            alloc, text, system, note, word, set,
+        ),
         Line::Thread {
             thread,
             greatest,
@@ -45,7 +57,6 @@ pub(crate) fn append_told(
             append_thread(text, name, greatest, never_throttled, silent_from)
         }
         Line::ThreadSoFar { thread, greatest } => append_so_far(text, system, thread, greatest),
-        Line::Unsettled { thread } => append_unsettled(text, system, thread),
         Line::Clean { .. } => append_line(text, "nothing is ever found", &[]),
         Line::Sets { totals } => append_sets(text, &totals),
     }
@@ -140,6 +151,91 @@ fn append_never(
     append_moment(text, "never", thread_name(system, thread), "up to", moment)
 }
 
+fn append_untaken(
+    text: &mut Vec<u8>,
+    system: &System,
+    note: NoteId,
+    moment: Tick,
+) -> Result<(), NoMemory>
+    ensures ok { OnOk result (text.new.items ≡ text.old.items ++ words_text system.now (Untaken note moment)) }
+    ensures kept { StartsWith text.new.items text.old.items }
+{
+    append_moment(text, "untaken", note_name(system, note), "at", moment)
+}
+
+fn append_endless(
+    text: &mut Vec<u8>,
+    system: &System,
+    thread: ThreadId,
+    number: u64,
+    activated: Tick,
+) -> Result<(), NoMemory>
+    ensures ok { OnOk result (text.new.items ≡ text.old.items ++ words_text system.now (Endless thread number activated)) }
+    ensures kept { StartsWith text.new.items text.old.items }
+{
+    let words = [
+        Word::Plain(thread_name(system, thread)),
+        Word::Plain("round"),
+        Word::Number(number),
+        Word::Plain("activated"),
+        Word::Number(activated.get()),
+        Word::Plain("for ever"),
+    ];
+    append_line(text, "overdue", &words)
+}
+
+fn append_inactive(text: &mut Vec<u8>, system: &System, thread: ThreadId) -> Result<(), NoMemory>
+    ensures ok { OnOk result (text.new.items ≡ text.old.items ++ words_text system.now (Inactive thread)) }
+    ensures kept { StartsWith text.new.items text.old.items }
+{
+    let words = [
+        Word::Plain(thread_name(system, thread)),
+        Word::Plain("for ever"),
+    ];
+    append_line(text, "never", &words)
+}
+
+fn append_abandoned(
+    alloc: Global,
+    text: &mut Vec<u8>,
+    system: &System,
+    note: NoteId,
+    word: u32,
+    set: Tick,
+) -> Result<(), NoMemory>
+    ensures ok { OnOk result (text.new.items ≡ text.old.items ++ words_text system.now (Abandoned note word set)) }
+    ensures kept { StartsWith text.new.items text.old.items }
+{
+    let names = taker_names(alloc, system, note)?;
+    let by = Word::Names(names.as_slice());
+    append_word_of(text, note_name(system, note), by, word, set)
+}
+
+/// Appends a word of a notification, with those that may take it, and when it was set.
+fn append_word_of<'s>(
+    text: &mut Vec<u8>,
+    note: &'s str,
+    by: Word<'s>,
+    word: u32,
+    set: Tick,
+) -> Result<(), NoMemory>
+    ensures ok { OnOk result (text.new.items ≡ text.old.items ++ line (codes "untaken") (note.now ∷ codes "by" ∷ word_of by.entry
+        ∷ codes "word" ∷ decimal word ∷ codes "set" ∷ decimal set ∷ codes "for ever" ∷ [])) }
+    ensures kept { StartsWith text.new.items text.old.items }
+{
+    let words = [
+        Word::Plain(note),
+        Word::Plain("by"),
+        by,
+        Word::Plain("word"),
+        Word::Number(u64::from(word)),
+        Word::Plain("set"),
+        Word::Number(set.get()),
+        Word::Plain("for ever"),
+    ];
+    append_line(text, "untaken", &words)
+}
+
 /// Appends how often something was found of the thread or the notification with this name.
 fn append_often(text: &mut Vec<u8>, kind: &str, name: &str, often: &Often) -> Result<(), NoMemory>
     ensures ok { OnOk result (text.new.items ≡ text.old.items ++ line kind.now (named name.now ∷ often_words often.now)) }
@@ -170,7 +266,7 @@ fn append_often(text: &mut Vec<u8>, kind: &str, name: &str, often: &Often) -> Re
     }
 }
 
-/// Appends the finding of a thread at a time, or up to it.
+/// Appends the finding of a thread or a notification at a time, or up to it.
 fn append_moment<'s>(
     text: &mut Vec<u8>,
     kind: &str,
@@ -258,17 +354,6 @@ fn append_so_far(
         Word::Plain("so far"),
     ];
     append_line(text, "thread", &words)
-}
-
-fn append_unsettled(text: &mut Vec<u8>, system: &System, thread: ThreadId) -> Result<(), NoMemory>
-    ensures ok { OnOk result (text.new.items ≡ text.old.items ++ words_text system.now (Unsettled thread)) }
-    ensures kept { StartsWith text.new.items text.old.items }
-{
-    let words = [
-        Word::Named(thread_name(system, thread)),
-        Word::Plain("no deadline is ever missed; whether a job is ever overdue is not known"),
-    ];
-    append_line(text, "unsettled", &words)
 }
 
 fn append_sets(text: &mut Vec<u8>, totals: &Totals) -> Result<(), NoMemory>

@@ -1,7 +1,7 @@
 //! Lines about a thread as JSON objects.
 ghost use Rattle.std.specs.Prelude.{◌≡◌, ◌++◌, ◌∷◌, [], OnOk, OnErr, codes};
 ghost use Rattle.mcs_fields.specs.Fields.{name, object_text, value_of};
-ghost use Rattle.mcs_ever_told.specs.declared.line.Line.TheVariants.{ThreadSoFar, Unsettled};
+ghost use Rattle.mcs_ever_told.specs.declared.line.Line.TheVariants.{Endless, Inactive, ThreadSoFar};
 ghost use Rattle.mcs_ever_told.specs.Fields.{known, line_fields, throttled_value};
 
 use mcs_fields::{Cell, put_object};
@@ -79,17 +79,37 @@ pub(crate) fn put_so_far(
     put_object(alloc, text, &fields)
 }
 
-pub(crate) fn put_unsettled(
+pub(crate) fn put_endless(
+    alloc: Global,
+    text: &mut Vec<u8>,
+    system: &System,
+    thread: ThreadId,
+    number: u64,
+    activated: Tick,
+) -> Result<(), NoMemory>
+    ensures ok { OnOk result (text.new.items ≡ text.old.items ++ object_text (line_fields system.now (Endless thread number activated))) }
+    ensures err { OnErr result (text.new.items ≡ text.old.items) }
+{
+    let fields = [
+        ("kind", Cell::Name("overdue")),
+        ("thread", Cell::Name(thread_name(system, thread))),
+        ("number", Cell::Number(number)),
+        ("activated", Cell::Number(activated.get())),
+    ];
+    put_object(alloc, text, &fields)
+}
+
+pub(crate) fn put_inactive(
     alloc: Global,
     text: &mut Vec<u8>,
     system: &System,
     thread: ThreadId,
 ) -> Result<(), NoMemory>
-    ensures ok { OnOk result (text.new.items ≡ text.old.items ++ object_text (line_fields system.now (Unsettled thread))) }
+    ensures ok { OnOk result (text.new.items ≡ text.old.items ++ object_text (line_fields system.now (Inactive thread))) }
     ensures err { OnErr result (text.new.items ≡ text.old.items) }
 {
     let fields = [
-        ("kind", Cell::Name("unsettled")),
+        ("kind", Cell::Name("never")),
         ("thread", Cell::Name(thread_name(system, thread))),
     ];
     put_object(alloc, text, &fields)

@@ -5,6 +5,7 @@ ghost use Rattle.mcs_text.specs.Text.{after, line};
 ghost use Rattle.mcs_ever_told.specs.Texts.{known_word};
 ghost use Rattle.mcs_ever_told.specs.stored.Words.{word_of};
 
+use mcs_fields::append_joined;
 use mcs_text::{append_number, append_word};
 use mcs_ticks::NoMemory;
 
@@ -15,6 +16,8 @@ pub(crate) enum Word<'a> {
     Plain(&'a str),
     /// A name and a colon.
     Named(&'a str),
+    /// Names with commas between them.
+    Names(&'a [&'a str]),
 }
 
 /// A number; `-` for `None`.
@@ -70,6 +73,10 @@ fn append_one(text: &mut Vec<u8>, word: &Word<'_>) -> Result<(), NoMemory>
             append_word(text, name)?;
             text.push(b':')?;
             Ok(())
+        }
+        Word::Names(names) => {
+            text.push(b' ')?;
+            append_joined(text, names)
         }
     }
 }

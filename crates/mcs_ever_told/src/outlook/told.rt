@@ -23,16 +23,4 @@ pub struct Told {
     pub lines: Vec<Line>,
     /// The number of lines that report a finding.
     pub findings: usize,
-    /// The number of threads that are not settled: each has a deadline and never misses it, but it
-    /// is not known whether a round of it is ever overdue. 0 if no recurrence was found.
-    pub unsettled: usize,
-}
-
-/// The results of a set at one moment of a search.
-#[derive(Debug, Drop)]
-pub(crate) struct Known {
-    /// Its result, if all threads are settled.
-    pub(crate) told: Option<Told>,
-    /// The result with the fewest threads that are not settled, the earliest one of these.
-    pub(crate) unsettled: Option<Told>,
 }

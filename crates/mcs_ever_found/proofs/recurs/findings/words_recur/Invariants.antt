@@ -3,4 +3,4 @@ use Rattle.mcs_ever_found.specs.Tests.{WordsRecur}
 use Rattle.mcs_ever_found.proofs.recurs.findings.words_recur.Given as goal
 
 abbrev pub invariant-loop-note : goal.invariant-loop-note
-invariant-loop-note l = WordsRecur l.system (has l.group) l.by l.before l.after l.doings l.note
+invariant-loop-note l = WordsRecur l.system (has l.group) l.by l.from l.before l.after l.doings l.note

@@ -1,12 +1,11 @@
-use Rattle.std.proofs.Common.{◌≡◌, length, replicate, List, refl, ap, subst, ◌∙◌, rules}
+use Rattle.std.proofs.Common.{◌≡◌, length, replicate, Option, None, List, refl, ap, subst, ◌∙◌, arith, rules}
 use Rattle.std.specs.Arc.{arc_value}
 use Rattle.std.proofs.lemmas.List.{length-replicate}
 use Rattle.mcs_system.specs.System.{System}
 use Rattle.mcs_ever.specs.Closed.{AreLeastClosed}
 use Rattle.mcs_ever_search.specs.Compared.{Compared}
-use Rattle.mcs_ever_told.specs.declared.outlook.told.Known.{Known}
+use Rattle.mcs_ever_told.specs.declared.outlook.told.Told.{Told}
 use Rattle.mcs_ever_told.specs.stored.Groups.{groups_of}
-use Rattle.mcs_ever_told.specs.stored.Left.{unknown}
 use Rattle.mcs_ever_told.proofs.Keeping.{none-told-yet}
 use Rattle.mcs_ever_told.proofs.outlook.Outlook.new.Goals as goal
 
@@ -14,13 +13,13 @@ pub invariant_of-result : goal.invariant_of-result
 invariant_of-result c =
     let s = arc_value c.args.system in
     let groups = c.in_ok-groups.groups.items in
-    let known : c.in_ok-known.known.items ≡ replicate (length groups) unknown = search rules in
+    let told : c.in_ok-told.told.items ≡ replicate (length groups) None = search rules in
     let shared : arc_value c.in_ok-shared.shared ≡ s = search rules in
     record {
       sets = subst (λ (system : System). AreLeastClosed system c.in_ok-sets.sets.items) c.deref.ensures c.in_ok-sets.ensures;
       groups = c.in_ok-groups.ensures ∙ ap groups_of c.as_slice.ensures.value;
-      many = ap (λ (known : List Known). length known) known ∙ length-replicate (length groups) unknown;
-      told = none-told-yet s c.in_ok-allowed.allowed.items c.args.horizon groups c.in_ok-known.known.items known;
+      many = ap (λ (told : List (Option Told)). length told) told ∙ length-replicate (length groups) None;
+      told = none-told-yet s c.in_ok-allowed.allowed.items c.args.horizon groups c.in_ok-told.told.items told;
       going = λ whole.
           record {
             look = record {

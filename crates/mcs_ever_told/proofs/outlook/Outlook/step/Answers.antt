@@ -1,8 +1,8 @@
-use Rattle.std.proofs.Common.{List, length, sym, ap, subst, ◌∙◌}
+use Rattle.std.proofs.Common.{◌-◌, List, length, Option, sym, ap, subst, ◌∙◌}
 use Rattle.std.specs.Arc.{arc_value}
 use Rattle.std.proofs.lemmas.List.{with_items_is}
 use Rattle.mcs_system.specs.System.{System}
-use Rattle.mcs_ever_told.specs.declared.outlook.told.Known.{Known}
+use Rattle.mcs_ever_told.specs.declared.outlook.told.Told.{Told}
 use Rattle.mcs_ever_told.specs.declared.outlook.sets.Group.{Group}
 use Rattle.mcs_ever_told.specs.stored.Looks.{AreClosed}
 use Rattle.mcs_ever_told.proofs.Keeping.{groups-closed, told-on}
@@ -20,16 +20,16 @@ pub invariant_of-self-in_err-tell_now : goal.invariant_of-self-in_err-tell_now
 invariant_of-self-in_err-tell_now c =
     let a = c.self.inside in
     let kept = c.self.invariant in
-    let items = with_items_is a.known c.tell_now.new.known (c.tell_now.auto.known ∙ c.as_mut_slice.ensures.len) in
+    let items = with_items_is a.told c.tell_now.new.told (c.tell_now.auto.told ∙ c.as_mut_slice.ensures.len) in
     record {
       sets = kept.sets;
       groups = kept.groups;
       many =
-          ap (λ (known : List Known). length known) items ∙ c.tell_now.auto.known
-          ∙ ap (λ (known : List Known). length known) c.as_mut_slice.ensures.value ∙ kept.many;
+          ap (λ (told : List (Option Told)). length told) items ∙ c.tell_now.auto.told
+          ∙ ap (λ (told : List (Option Told)). length told) c.as_mut_slice.ensures.value ∙ kept.many;
       told =
           told-on (arc_value a.system) c.deref.result.now a.allowed.items c.as_slice-2.result.now a.horizon a.groups.items c.as_slice-3.result.now
-          a.known.items c.as_mut_slice.result.now c.tell_now.new.known _ c.deref.ensures c.as_slice-2.ensures.value c.as_slice-3.ensures.value
+          a.told.items c.as_mut_slice.result.now c.tell_now.new.told _ c.deref.ensures c.as_slice-2.ensures.value c.as_slice-3.ensures.value
           c.as_mut_slice.ensures.value items (c.in_err-tell_now.ensures a.horizon) kept.told;
       going = λ still. cc;
     }
@@ -38,18 +38,18 @@ pub invariant_of-self-2 : goal.invariant_of-self-2
 invariant_of-self-2 c =
     let a = c.self.inside in
     let kept = c.self.invariant in
-    let items = with_items_is a.known c.tell_now.new.known (c.tell_now.auto.known ∙ c.as_mut_slice.ensures.len) in
+    let items = with_items_is a.told c.tell_now.new.told (c.tell_now.auto.told ∙ c.as_mut_slice.ensures.len) in
     let on = c.in_ok-go_on.ensures.on in
     let going = kept.going c.if-self.false in
     record {
       sets = kept.sets;
       groups = kept.groups;
       many =
-          ap (λ (known : List Known). length known) items ∙ c.tell_now.auto.known
-          ∙ ap (λ (known : List Known). length known) c.as_mut_slice.ensures.value ∙ kept.many;
+          ap (λ (told : List (Option Told)). length told) items ∙ c.tell_now.auto.told
+          ∙ ap (λ (told : List (Option Told)). length told) c.as_mut_slice.ensures.value ∙ kept.many;
       told =
           told-on (arc_value a.system) c.deref.result.now a.allowed.items c.as_slice-2.result.now a.horizon a.groups.items c.as_slice-3.result.now
-          a.known.items c.as_mut_slice.result.now c.tell_now.new.known _ c.deref.ensures c.as_slice-2.ensures.value c.as_slice-3.ensures.value
+          a.told.items c.as_mut_slice.result.now c.tell_now.new.told _ c.deref.ensures c.as_slice-2.ensures.value c.as_slice-3.ensures.value
           c.as_mut_slice.ensures.value items (c.in_ok-tell_now.ensures a.horizon) kept.told;
       going = λ still. record { look = record { same = on.system ∙ going.look.same; going = on.going }; horizon = on.horizon ∙ going.horizon };
     }

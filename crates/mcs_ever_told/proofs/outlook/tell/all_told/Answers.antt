@@ -1,11 +1,10 @@
-use Rattle.std.proofs.Common.{◌≡◌, ◌≢◌, ℕ, ◌+◌, ◌<◌, List, [], length, get_or, None, sym, ap, subst, ◌∙◌, arith}
+use Rattle.std.proofs.Common.{◌≡◌, ◌≢◌, ℕ, ◌+◌, ◌-◌, ◌<◌, List, [], length, get_or, set, Option, None, sym, ap, subst, ◌∙◌, arith}
+use Rattle.std.specs.Prelude.{IfSome}
 use Rattle.std.proofs.lemmas.List.{get_or-set_other, length_push}
 use Rattle.mcs_ever_told.specs.Outlook.{IsTold}
 use Rattle.mcs_ever_told.specs.declared.outlook.sets.Group.{Group}
-use Rattle.mcs_ever_told.specs.declared.outlook.told.Known.{Known}
 use Rattle.mcs_ever_told.specs.declared.outlook.told.Told.{Told}
-use Rattle.mcs_ever_told.specs.stored.Left.{unknown}
-use Rattle.mcs_ever_told.specs.stored.Looks.{AreTrueOf, AreToldBelow}
+use Rattle.mcs_ever_told.specs.stored.Looks.{AreToldBelow}
 use Rattle.mcs_ever_told.proofs.Places.{written, pushed, same-at}
 use Rattle.mcs_ever_told.proofs.outlook.tell.all_told.Goals as goal
 
@@ -17,23 +16,23 @@ loop-i-preserved c =
     let i = c.loop-i.i in
     let g : Group = record { set = []; own = [] } in
     let test = c.loop-i-test.true in
-    let within : i < length c.loop-i.known = (let e = c.loop-i.auto.known in omega (arith, e, c.requires.many, c.loop-i-test.true)) in
-    let old-is = same-at c.loop-i.known i c.index-known-i.result unknown within in
+    let within : i < length c.loop-i.told = (let e = c.loop-i.auto.told in omega (arith, e, c.requires.many, c.loop-i-test.true)) in
+    let old-is = same-at c.loop-i.told i c.index-told-i.result None within in
     record {
       left = λ k l.
           let other : k ≢ i = omega (arith, l) in
-          get_or-set_other c.loop-i.known i k c.told_or_open.new.known unknown other ∙ c.loop-i.invariant.left k (omega (arith, l));
+          get_or-set_other c.loop-i.told i k c.told_or_open.new.told None other ∙ c.loop-i.invariant.left k (omega (arith, l));
       kept = λ horizon so k d l.
-          let P : ℕ → Known → Type 0 = λ i one. AreTrueOf s al horizon (get_or groups i d) one in
-          let N : Known → Type 0 = λ one. P i one in
-          written P unknown c.loop-i.known i c.told_or_open.new.known within k (λ other. c.loop-i.invariant.kept horizon so k d l)
-          (subst N (sym c.in_ok-told_or_open.ensures.left) (record { told = tt; unsettled = tt }));
+          let P : ℕ → Option Told → Type 0 = λ i one. IfSome one (IsTold s al horizon (get_or groups i d).set (get_or groups i d).own) in
+          let N : Option Told → Type 0 = λ one. P i one in
+          written P None c.loop-i.told i c.told_or_open.new.told within k (λ other. c.loop-i.invariant.kept horizon so k d l)
+          (subst N (sym c.in_ok-told_or_open.ensures.left) tt);
       told = λ horizon over so.
           let before = c.loop-i.invariant.told horizon over so in
-          let O : Known → Type 0 = λ one. AreTrueOf s al horizon (get_or groups i g) one in
+          let O : Option Told → Type 0 = λ one. IfSome one (IsTold s al horizon (get_or groups i g).set (get_or groups i g).own) in
           let old = subst O (sym old-is) (c.loop-i.invariant.kept horizon so i g test) in
-          let met = λ (e : (get_or c.loop-i.known i c.index-known-i.result).told ≡ None).
-          over i test (ap (λ (known : Known). known.told) (sym (c.loop-i.invariant.left i (omega arith)) ∙ sym old-is) ∙ e) in
+          let met = λ (e : get_or c.loop-i.told i c.index-told-i.result ≡ None).
+          over i test (sym (c.loop-i.invariant.left i (omega arith)) ∙ sym old-is ∙ e) in
           let here = c.in_ok-told_or_open.ensures.told horizon met old in
           let A : List Told → Type 0 = λ all. AreToldBelow s al horizon groups (i + 1) all in
           subst A (sym c.in_ok-push.ensures.items)

@@ -4,5 +4,5 @@ use Rattle.mcs_ever_told.proofs.outlook.tell.tell_now.Given as goal
 
 abbrev pub invariant-loop-i : goal.invariant-loop-i
 invariant-loop-i l =
-    (horizon : ℕ) → AreToldSoFar l.look.system.now l.look.allowed.now horizon l.groups l.initial.known →
-    AreToldSoFar l.look.system.now l.look.allowed.now horizon l.groups l.known
+    (horizon : ℕ) → AreToldSoFar l.look.system.now l.look.allowed.now horizon l.groups l.initial.told →
+    AreToldSoFar l.look.system.now l.look.allowed.now horizon l.groups l.told

@@ -2,6 +2,7 @@ use Rattle.std.proofs.Common.{◌≡◌, ℕ, ◌-◌, [], length, None, refl, s
 use Rattle.mcs_core.specs.Clock.{schedule}
 use Rattle.mcs_verdict.specs.Findings.{past_of}
 use Rattle.mcs_verdict.specs.Watch.{watch_of}
+use Rattle.mcs_ever_told.specs.declared.line.Line.TheVariants as line
 use Rattle.mcs_ever_told.specs.Outlook.{IsTold, course_up_to}
 use Rattle.mcs_ever_told.proofs.Since.{course-now, watch-at}
 use Rattle.mcs_ever_told.proofs.Telling.{told-open}
@@ -29,5 +30,5 @@ returns c =
     c.saturating_sub-findings.result course
     c.in_ok-lines.ensures c.in_ok-push_counts.ensures (c.in_ok-push_ends.ensures (past_of [] (schedule s m)) watch up) c.in_ok-push_so_far.ensures counted in
     let T : ℕ → Type 0 = λ h. IsTold s allowed h set own
-    (record { set = set; period = None; lines = c.push_so_far.new.lines; findings = c.saturating_sub-findings.result; unsettled = 0 }) in
-    subst T at (record { cores = refl; flags = []; so = tt; lines = told.lines_are; findings = told.findings_are; unsettled = refl })
+    (record { set = set; period = None; lines = c.push_so_far.new.lines; findings = c.saturating_sub-findings.result }) in
+    subst T at (record { cores = refl; so = tt; lines = told.lines_are; findings = told.findings_are })

@@ -7,11 +7,9 @@ use Rattle.mcs_ever_found.proofs.recurs.doings.Doings.clear.Goals as goal
 pub returns-clause-forgotten : goal.returns-clause-forgotten
 returns-clause-forgotten c =
     let self = c.self.inside in
-    same_doings _ _ _ _ _ _ _ _
+    same_doings _ _ _ _
     (with_items_is self.ended c.unmark.new.flags (c.unmark.auto.flags ∙ c.as_mut_slice.ensures.len) ∙ c.unmark.ensures ∙ ap unmarked c.as_mut_slice.ensures.value)
-    (with_items_is self.told c.unmark-2.new.flags (c.unmark-2.auto.flags ∙ c.as_mut_slice-2.ensures.len) ∙ c.unmark-2.ensures ∙ ap unmarked c.as_mut_slice-2.ensures.value)
-    (with_items_is self.taken c.unmark-3.new.flags (c.unmark-3.auto.flags ∙ c.as_mut_slice-3.ensures.len) ∙ c.unmark-3.ensures ∙ ap unmarked c.as_mut_slice-3.ensures.value)
-    (with_items_is self.held c.unmark-4.new.flags (c.unmark-4.auto.flags ∙ c.as_mut_slice-4.ensures.len) ∙ c.unmark-4.ensures ∙ ap unmarked c.as_mut_slice-4.ensures.value)
+    (with_items_is self.taken c.unmark-2.new.flags (c.unmark-2.auto.flags ∙ c.as_mut_slice-2.ensures.len) ∙ c.unmark-2.ensures ∙ ap unmarked c.as_mut_slice-2.ensures.value)
     ∙ ap nothing_done c.self.view_is
 
 pub returns-clause-anew : goal.returns-clause-anew

@@ -7,9 +7,6 @@ returns c =
     let threads : c.len-threads.result ≡ length c.args.system.now.threads = search rules in
     let notes : c.len-notes.result ≡ length c.args.system.now.notes = search rules in
     let ended : c.in_ok-vec.field-0.items ≡ replicate c.len-threads.result false = search rules in
-    let told : c.in_ok-vec-2.field-0.items ≡ replicate c.len-threads.result false = search rules in
-    let taken : c.in_ok-vec-3.field-0.items ≡ replicate c.len-notes.result false = search rules in
-    let held : c.in_ok-vec-4.field-0.items ≡ replicate c.len-notes.result false = search rules in
-    same_doings _ _ _ _ _ _ _ _ (ended ∙ ap (λ n. replicate n false) threads) (told ∙ ap (λ n. replicate n false) threads)
-    (taken ∙ ap (λ n. replicate n false) notes) (held ∙ ap (λ n. replicate n false) notes)
+    let taken : c.in_ok-vec-2.field-0.items ≡ replicate c.len-notes.result false = search rules in
+    same_doings _ _ _ _ (ended ∙ ap (λ n. replicate n false) threads) (taken ∙ ap (λ n. replicate n false) notes)
     ∙ doings-first c.args.system.now
