@@ -16,7 +16,7 @@ extern "C" {
 /* The version of this interface. A new minor number adds calls or values, and a program that was
  * built with an earlier one still runs. The major number is that of libmcs.so.1. */
 #define MCS_VERSION_MAJOR 1
-#define MCS_VERSION_MINOR 2
+#define MCS_VERSION_MINOR 3
 #define MCS_VERSION (MCS_VERSION_MAJOR * 65536 + MCS_VERSION_MINOR)
 
 /* The maximum horizon, in ticks: 2^40. */
@@ -191,7 +191,8 @@ enum {
                           replenishment for which it waits, or MCS_NONE */
     MCS_SIGNAL = 3,    /* the thread's signal at `note` takes effect, with the badge `value` */
     MCS_ARRIVE = 4,    /* the badge `value` of the core `part` arrives at `note` */
-    MCS_WAKE = 5,      /* the thread is woken at `note` with the word `value` */
+    MCS_WAKE = 5,      /* the thread is woken at `note` with the word `value`; `more` is the date of
+                          the replenishment for which it waits, or MCS_NONE */
     MCS_HOLD = 6,      /* no thread waits at `note`, whose word is now `value` */
     MCS_GOT = 7,       /* the thread took the word `value` of `note` without blocking */
     MCS_ROUND = 8,     /* the round `value` of the thread ended, with the response `more` */
@@ -243,9 +244,10 @@ uint32_t mcs_rows(const uint8_t *text, size_t text_bytes, uint64_t horizon, mcs_
 /* The kinds of findings. */
 enum {
     MCS_MISS = 0,    /* a round of the thread ended after its deadline */
-    MCS_OVERDUE = 1, /* a round that has not ended at the horizon can only end after its deadline */
+    MCS_OVERDUE = 1, /* a round that is under way at the horizon can only end after its deadline */
     MCS_LOST = 2,    /* a signal or interrupt at the notification changed nothing */
-    MCS_NEVER = 3    /* a thread with a deadline was not activated */
+    MCS_NEVER = 3,   /* no round of a thread with a deadline could begin up to the horizon */
+    MCS_UNTAKEN = 4  /* nobody took the notification's word in time: whoever takes it is late */
 };
 
 /* A finding of a thread or a notification. A number that its kind does not have is 0. */
@@ -254,22 +256,22 @@ typedef struct mcs_finding {
     uint64_t core;
     uint64_t kind;
     uint64_t thread;    /* of MCS_MISS, MCS_OVERDUE and MCS_NEVER; else MCS_NONE */
-    uint64_t note;      /* of MCS_LOST; else MCS_NONE */
-    uint64_t number;    /* the number of the round, from 1, of MCS_MISS */
-    uint64_t response;  /* of MCS_MISS, from the activation */
-    uint64_t deadline;  /* of the thread */
-    uint64_t activated; /* when the round was activated, of MCS_MISS and MCS_OVERDUE */
-    uint64_t queued;    /* ticks from then to its beginning */
-    uint64_t word;      /* the notification's word, of MCS_LOST */
-    uint64_t ready;     /* ticks in which the thread stood ready from the beginning on, */
+    uint64_t note;      /* of MCS_LOST and MCS_UNTAKEN; else MCS_NONE */
+    uint64_t number;    /* the number of the round, from 1, of MCS_MISS and MCS_OVERDUE */
+    uint64_t response;  /* of MCS_MISS, from the activation; else the ticks from then to the horizon */
+    uint64_t deadline;  /* of the thread; of MCS_UNTAKEN the greatest of those that may take the word */
+    uint64_t activated; /* when the round was activated, or when the word of MCS_UNTAKEN was set */
+    uint64_t queued;    /* ticks from then until the round before it ended, or the thread started */
+    uint64_t word;      /* the notification's word, of MCS_LOST and MCS_UNTAKEN */
+    uint64_t ready;     /* ticks from then on, or from the activation: the thread stood ready, */
     uint64_t running;   /* ran, */
     uint64_t throttled; /* was without budget, */
-    uint64_t blocked;   /* waited for a server or a word, */
-    uint64_t woken;     /* and was woken but not yet chosen */
+    uint64_t blocked;   /* waited for a word, */
+    uint64_t server;    /* and waited for a server that was taken */
 } mcs_finding;
 
 /* Writes the findings of threads and notifications to an array: those of the rows in order, then
- * those at the horizon. Lost signals that mcs_check is told to allow are among them; findings of
+ * those at the horizon: by thread, and then by notification. Lost signals that mcs_check is told to allow are among them; findings of
  * chains are not.
  *
  *   Result              *many

@@ -1,5 +1,5 @@
 # A program that asks for a version gets one of the same major number that is as new or newer.
-set(PACKAGE_VERSION "1.2")
+set(PACKAGE_VERSION "1.3")
 
 if(PACKAGE_FIND_VERSION VERSION_GREATER PACKAGE_VERSION OR NOT PACKAGE_FIND_VERSION_MAJOR EQUAL 1)
   set(PACKAGE_VERSION_COMPATIBLE FALSE)

@@ -70,8 +70,8 @@ class Simulated(unittest.TestCase):
 class Checked(unittest.TestCase):
     def test_a_miss(self) -> None:
         found = TICKING.check(14)
-        self.assertEqual(list(found), [mcsim.Miss(4, 0, 'H', 1, 4, 3, activated=0, queued=1, ready=0, running=3, throttled=0, blocked=0, woken=0)])
-        self.assertEqual(found.counts, mcsim.Counts(missed=1, overdue=0, lost=0, never=0, merged=0, allowed=0,
+        self.assertEqual(list(found), [mcsim.Miss(4, 0, 'H', 1, 4, 3, activated=0, queued=0, ready=0, running=4, throttled=0, blocked=0, server=0)])
+        self.assertEqual(found.counts, mcsim.Counts(missed=1, overdue=0, untaken=0, lost=0, never=0, merged=0, allowed=0,
                                                     unjudged=0, hints=0, threads=1, deadlines=1, judged=2))
         self.assertEqual((found.is_clean, found.is_judged), (False, True))
 
@@ -96,11 +96,17 @@ class Checked(unittest.TestCase):
         lost = [mcsim.Lost(10, 0, 'tick', 1), mcsim.Lost(20, 0, 'tick', 1)]
         found = late.check(24)
         self.assertEqual(list(found)[:2], lost)
-        self.assertEqual([(type(one), one.moment) for one in found][2:], [(mcsim.Overdue, 24)])
+        # nobody took the word of 0, and it is older than 3
+        self.assertEqual(list(found)[2:], [mcsim.Never(24, 0, 'H', 3), mcsim.Untaken(24, 0, 'tick', ('H',), 1, age=24, deadline=3, set=0)])
         silent = TICKING.put(dataclasses.replace(TICKING.source('clock'), start=50)).check(24)
         self.assertEqual(list(silent), [mcsim.Never(24, 0, 'H', 3)])
         allowed = late.check(24, allow_lost=['tick'])
-        self.assertEqual((len(allowed), allowed.counts.allowed, allowed.counts.lost), (1, 2, 0))
+        self.assertEqual((len(allowed), allowed.counts.allowed, allowed.counts.lost, allowed.counts.untaken), (2, 2, 0, 1))
+        # its wait and its computation run from 0 on: at 9 it ran 9 ticks of a budget of 10
+        slow = TICKING.put(dataclasses.replace(TICKING.thread('H'), script=['wait tick', 'compute 23'])).check(9)
+        self.assertEqual(list(slow), [
+            mcsim.Overdue(9, 0, 'H', number=1, age=9, deadline=3, activated=0, queued=0, ready=0, running=9, throttled=0, blocked=0, server=0),
+        ])
 
     def test_hints(self) -> None:
         system = TICKING.put(mcsim.Context('spare', 0, 15, 20)).put(mcsim.Note('none', 0)).put(mcsim.Context('more', 0, 15, 20))
@@ -140,7 +146,7 @@ class Checked(unittest.TestCase):
 
     def test_jobs(self) -> None:
         first, second = TICKING.jobs(14)
-        self.assertEqual((first.number, first.activated, first.begun, first.moment, first.response, first.queued), (1, 0, 1, 4, 4, 1))
+        self.assertEqual((first.number, first.activated, first.begun, first.moment, first.response, first.queued), (1, 0, 1, 4, 4, 0))
         self.assertEqual((second.number, second.activated, second.begun, second.moment, second.response, second.queued), (2, 10, 10, 13, 3, 0))
 
     def test_a_chain_of_two_cores(self) -> None:
@@ -267,8 +273,8 @@ class Foretold(unittest.TestCase):
 
     def test_what_is_overdue_never_and_lost(self) -> None:
         late = TICKING.put(dataclasses.replace(TICKING.thread('H'), start=25))
-        self.assertEqual(list(late.forever(24)), [mcsim.Losses('tick', so_far=2), mcsim.EndsOverdue('H', 24)])
-        self.assertEqual(list(late.forever(24, allow_lost=['tick'])), [mcsim.EndsOverdue('H', 24)])
+        self.assertEqual(list(late.forever(24)), [mcsim.Losses('tick', so_far=2), mcsim.EndsNever('H', 24), mcsim.EndsUntaken('tick', moment=24)])
+        self.assertEqual(list(late.forever(24, allow_lost=['tick'])), [mcsim.EndsNever('H', 24), mcsim.EndsUntaken('tick', moment=24)])
         silent = TICKING.put(dataclasses.replace(TICKING.source('clock'), start=50)).forever(24)
         self.assertEqual(list(silent), [mcsim.EndsNever('H', 24)])
 

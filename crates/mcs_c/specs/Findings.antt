@@ -1,7 +1,7 @@
 -- The findings in a schedule as numbers.
 use Rattle.std.specs.Prelude.{ℕ}
 use Rattle.mcs_verdict.specs.declared.finding.Finding.{Finding}
-use Rattle.mcs_verdict.specs.declared.finding.Finding.TheVariants.{Miss, Overdue, Lost, Never}
+use Rattle.mcs_verdict.specs.declared.finding.Finding.TheVariants.{Miss, Overdue, Untaken, Lost, Never}
 use Rattle.mcs_verdict.specs.declared.finding.Found.{Found}
 use Rattle.mcs_verdict.specs.declared.standing.Stood.{Stood}
 use Rattle.mcs_c.specs.Numbers.{none}
@@ -9,10 +9,10 @@ use Rattle.mcs_c.specs.declared.findings.NumberedFinding.{NumberedFinding}
 use Rattle.mcs_c.specs.declared.findings.NumberedStood.{NumberedStood}
 
 abbrev pub stood_of : Stood → NumberedStood
-stood_of s = record { ready = s.ready; running = s.running; throttled = s.throttled; blocked = s.blocked; woken = s.woken }
+stood_of s = record { ready = s.ready; running = s.running; throttled = s.throttled; blocked = s.blocked; server = s.server }
 
 abbrev pub no_stood : NumberedStood
-no_stood = record { ready = 0; running = 0; throttled = 0; blocked = 0; woken = 0 }
+no_stood = record { ready = 0; running = 0; throttled = 0; blocked = 0; server = 0 }
 
 module _ (moment core : ℕ) where
   abbrev pub finding_at : Finding → NumberedFinding
@@ -30,14 +30,14 @@ module _ (moment core : ℕ) where
     word = 0;
     stood = stood_of stood;
   }
-  finding_at (Overdue thread deadline activated queued stood) = record {
+  finding_at (Overdue thread number age deadline activated queued stood) = record {
     moment = moment;
     core = core;
     kind = 1;
     thread = thread;
     note = none;
-    number = 0;
-    response = 0;
+    number = number;
+    response = age;
     deadline = deadline;
     activated = activated;
     queued = queued;
@@ -70,6 +70,20 @@ module _ (moment core : ℕ) where
     activated = 0;
     queued = 0;
     word = 0;
+    stood = no_stood;
+  }
+  finding_at (Untaken note word age deadline set) = record {
+    moment = moment;
+    core = core;
+    kind = 4;
+    thread = none;
+    note = note;
+    number = 0;
+    response = age;
+    deadline = deadline;
+    activated = set;
+    queued = 0;
+    word = word;
     stood = no_stood;
   }
 

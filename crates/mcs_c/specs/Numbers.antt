@@ -37,7 +37,7 @@ module _ (moment core : ℕ) where
   numbers_at (row.Stop thread why charged until) = numbered 2 thread none (reason why) charged (number_or_none until)
   numbers_at (row.Signal thread note badge) = numbered 3 thread note none badge 0
   numbers_at (row.Arrive note badge maker) = numbered 4 maker note none badge 0
-  numbers_at (row.Wake thread note word) = numbered 5 thread note none word 0
+  numbers_at (row.Wake thread note word until) = numbered 5 thread note none word (number_or_none until)
   numbers_at (row.Hold note word) = numbered 6 none note none word 0
   numbers_at (row.Got thread note word) = numbered 7 thread note none word 0
   numbers_at (row.Round thread number response) = numbered 8 thread none none number response

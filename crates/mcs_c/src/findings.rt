@@ -25,7 +25,7 @@ pub struct NumberedStood {
     pub running: u64,
     pub throttled: u64,
     pub blocked: u64,
-    pub woken: u64,
+    pub server: u64,
 }
 
 /// A finding in numbers, as C has it. Instead of a number that its kind does not have it has 0,
@@ -36,25 +36,27 @@ pub struct NumberedFinding {
     /// The time, in ticks.
     pub moment: u64,
     pub core: u64,
-    /// 0 miss, 1 overdue, 2 lost, 3 never.
+    /// 0 miss, 1 overdue, 2 lost, 3 never, 4 untaken.
     pub kind: u64,
     /// The thread of `miss`, `overdue` and `never`.
     pub thread: u64,
-    /// The notification of `lost`.
+    /// The notification of `lost` and `untaken`.
     pub note: u64,
-    /// The number of the round of `miss`, from 1.
+    /// The number of the round of `miss` and `overdue`, from 1.
     pub number: u64,
-    /// The response of `miss`, from its activation.
+    /// The response of `miss`, from its activation; the age of `overdue`, from its activation to
+    /// the horizon, and that of `untaken`, from when the word was set.
     pub response: u64,
-    /// The deadline of the thread.
+    /// The deadline of the thread; of `untaken` the greatest of those that may take the word.
     pub deadline: u64,
-    /// When the round of `miss` or `overdue` was activated.
+    /// When the round of `miss` or `overdue` was activated; when the word of `untaken` was set.
     pub activated: u64,
-    /// The ticks from its activation to its beginning.
+    /// The ticks from its activation until the round before it ended, or the thread started.
     pub queued: u64,
-    /// The word of `lost`.
+    /// The word of `lost` and `untaken`.
     pub word: u64,
-    /// How the thread stood from the beginning of the round of `miss` or `overdue`.
+    /// How the thread stood in the round of `miss` or `overdue` from then on, or from its
+    /// activation if that came later.
     pub stood: NumberedStood,
 }
 
@@ -66,7 +68,7 @@ fn in_numbers(stood: Stood) -> NumberedStood
         running: stood.running,
         throttled: stood.throttled,
         blocked: stood.blocked,
-        woken: stood.woken,
+        server: stood.server,
     }
 }
 
@@ -84,7 +86,7 @@ fn plain(found: &Found, kind: u64) -> NumberedFinding
       activated = 0;
       queued = 0;
       word = 0;
-      stood = record { ready = 0; running = 0; throttled = 0; blocked = 0; woken = 0 };
+      stood = record { ready = 0; running = 0; throttled = 0; blocked = 0; server = 0 };
     } }
 {
     NumberedFinding {
@@ -104,7 +106,7 @@ fn plain(found: &Found, kind: u64) -> NumberedFinding
             running: 0,
             throttled: 0,
             blocked: 0,
-            woken: 0,
+            server: 0,
         },
     }
 }
@@ -134,17 +136,35 @@ fn finding_in_numbers(found: &Found) -> NumberedFinding
         },
         Finding::Overdue {
             thread,
+            number,
+            age,
             deadline,
             activated,
             queued,
             stood,
         } => NumberedFinding {
             thread: thread.0 as u64,
+            number,
+            response: age,
             deadline,
             activated: activated.get(),
             queued,
             stood: in_numbers(stood),
             ..plain(found, 1)
+        },
+        Finding::Untaken {
+            note,
+            word,
+            age,
+            deadline,
+            set,
+        } => NumberedFinding {
+            note: note.0 as u64,
+            response: age,
+            deadline,
+            activated: set.get(),
+            word: u64::from(word),
+            ..plain(found, 4)
         },
         Finding::Lost { note, word } => NumberedFinding {
             note: note.0 as u64,
@@ -187,7 +207,7 @@ fn findings_of(alloc: Global, system: System, horizon: Tick) -> Result<Vec<Found
 
 /// Finds what is wrong with the threads and notifications of the system that a text describes, up
 /// to a horizon of at most 2^40 ticks, on the calling thread only: those of the rows in order, then
-/// those at the horizon in the order of the threads.
+/// those at the horizon: by thread, and then by notification.
 ///
 /// They are written to the start of an array, and their number to `many_of`. Later findings of the
 /// array stay as they were. The result is one of these codes:

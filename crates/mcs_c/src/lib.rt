@@ -37,12 +37,12 @@ use std::alloc::Global;
 pub use why::mcs_why;
 
 /// The version of the interface: 65,536 times the major number, and the minor number.
-const VERSION: u32 = 65_536 + 2;
+const VERSION: u32 = 65_536 + 3;
 
 /// Returns the version of the library, which is that of the header that it was built with.
 #[unsafe(no_mangle)]
 pub extern "C" fn mcs_version() -> u32
-    ensures { result ≡ 65538 }
+    ensures { result ≡ 65539 }
 {
     VERSION
 }

@@ -36,8 +36,8 @@ pub struct NumberedRow {
     /// The badge of `signal`, `arrive` and `interrupt`, the word of `wake`, `hold` and `got`, what
     /// `stop` charges, the number of `round`; 0 of the others.
     pub value: u64,
-    /// The date of the replenishment for which `stop` waits, or `NONE`; the response of `round`; 0
-    /// of the others.
+    /// The date of the replenishment for which the thread of `stop` or `wake` waits, or `NONE`; the
+    /// response of `round`; 0 of the others.
     pub more: u64,
 }
 
@@ -122,7 +122,15 @@ fn in_numbers(row: &Row) -> NumberedRow
             badge,
         } => noted(row, 3, thread.0 as u64, note, badge),
         What::Arrive { note, badge, maker } => noted(row, 4, maker.0 as u64, note, badge),
-        What::Wake { thread, note, word } => noted(row, 5, thread.0 as u64, note, word),
+        What::Wake {
+            thread,
+            note,
+            word,
+            until,
+        } => NumberedRow {
+            more: number_or_none(until),
+            ..noted(row, 5, thread.0 as u64, note, word)
+        },
         What::Hold { note, word } => noted(row, 6, NONE, note, word),
         What::Got { thread, note, word } => noted(row, 7, thread.0 as u64, note, word),
         What::Round {

@@ -4,7 +4,7 @@ use Rattle.std.specs.Prelude.{Result, Ok, Err, IfSome, None}
 use Rattle.mcs_ticks.specs.Capped.{capped}
 use Rattle.mcs_ticks.specs.declared.row.Row.{Row}
 use Rattle.mcs_system.specs.System.{System}
-use Rattle.mcs_verdict.specs.Findings.{UpTo, found_at_end, past_of}
+use Rattle.mcs_verdict.specs.Findings.{UpTo, all_at_end, past_of}
 use Rattle.mcs_chain.specs.Found.{all_unanswered}
 use Rattle.mcs_chain.specs.Watch.{all_due, all_judged_many, all_slow_many, watch_of as chains_of}
 use Rattle.mcs_verdict.specs.Words.{firsts_of}
@@ -37,7 +37,7 @@ module _ (system : System) (allowed : List Bool) (options : Options) (old new : 
         → ((past : List Row) → seen.watch ≡ watches_of system past → IfOk r (λ found. found.due.items ≡ all_due None 0 (chains_of system past).each))
         → ((past : List Row) → seen.watch ≡ watches_of system past → IfOk r (λ found. found.slow ≡ all_slow_many (chains_of system past).each))
         → ((past : List Row) → seen.watch ≡ watches_of system past → IfOk r (λ found. found.unanswered.items ≡ all_unanswered system past options.horizon 0 system.chains))
-        → ((past : List Row) → seen.watch ≡ watches_of system past → UpTo options.horizon past → IfOk r (λ found. found.unended.items ≡ found_at_end system past options.horizon 0 system.threads))
+        → ((past : List Row) → seen.watch ≡ watches_of system past → UpTo options.horizon past → IfOk r (λ found. found.unended.items ≡ all_at_end system past options.horizon))
         → ((past : List Row) → seen.watch ≡ watches_of system past → IfOk r (λ found. found.rounds ≡ capped (judged_rounds system past)))
         → ((past : List Row) → seen.watch ≡ watches_of system past → IfOk r (λ found. found.answers ≡ all_judged_many (chains_of system past).each))
         → ((past : List Row) → seen.watch ≡ watches_of system past → UpTo options.horizon past → IfOk r (λ found. found.unjudged.items ≡ all_unjudged system past options.horizon))

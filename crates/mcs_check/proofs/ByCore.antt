@@ -19,9 +19,10 @@ use Rattle.mcs_stretch.proofs.Merging.{AreAt, AreAt-flat_map, AreAt-map, clock-b
 use Rattle.mcs_stretch.proofs.Ranges.{rows-join}
 use Rattle.mcs_verdict.specs.declared.finding.Finding.{Finding}
 use Rattle.mcs_verdict.specs.declared.finding.Found.{Found}
-use Rattle.mcs_verdict.specs.Findings.{UpTo, finding, found_at, found_in, past_of}
+use Rattle.mcs_verdict.specs.Findings.{InOrder, UpTo, finding, found_at, found_in, past_of}
+use Rattle.mcs_verdict.specs.Due.{untaken}
 use Rattle.mcs_verdict.specs.Misses.{unended}
-use Rattle.mcs_verdict.specs.laws.ByCore.{rows_on, found_on, home_of, ComeHome, CoresAreWatched, WaitsAtHome}
+use Rattle.mcs_verdict.specs.laws.ByCore.{rows_on, found_on, home_of, note_home_of, ComeHome, CoresAreWatched, WaitsAtHome}
 use Rattle.mcs_verdict_laws.proofs.Standings.{past-append}
 use Rattle.mcs_check_lines.specs.Counts.{is_allowed, told_of}
 use Rattle.mcs_check_lines.specs.Told.{told}
@@ -30,10 +31,14 @@ use Rattle.mcs_check.specs.stored.Found.{before_of, told_by, told_in}
 use Rattle.mcs_check.specs.stored.OwnRows.{told-append}
 use Rattle.mcs_check.proofs.FoundInOrder.{AreLater, found_then, stably-sorted}
 
--- rows before a moment are up to the one before it
-pub up-past : (h : ℕ) (past rows : List Row) → UpTo h past → AreBefore (suc h) rows → UpTo h (past_of past rows)
-up-past h past [] up before = up
-up-past h past (r ∷ rows) up before = up-past h (r ∷ past) rows (omega (arith, before.0), up) before.1
+-- rows in order before a moment are up to the one before it
+pub up-past : (h : ℕ) (past rows : List Row) → UpTo h past → InOrder past rows → AreBefore (suc h) rows → UpTo h (past_of past rows)
+up-past h past [] up order before = up
+up-past h past (r ∷ rows) up order before = up-past h (r ∷ past) rows (omega (arith, before.0), order.0) order.1 before.1
+
+come-order : (system : System) (past rows : List Row) → ComeHome system past rows → InOrder past rows
+come-order system past [] come = tt
+come-order system past (r ∷ rows) come = (come.1, come-order system (r ∷ past) rows come.2)
 
 -- what was found before a moment, and from it on
 abbrev pub found_before : ℕ → List Found → List Found
@@ -321,6 +326,14 @@ module _ (system : System) (well : IsWellFormed system) (come-home : (t : ℕ) �
       → unended system (before_on system (home_of system thread) (suc horizon)) horizon thread ≡ unended system (before_of system (suc horizon)) horizon thread
   unended-home waits-home horizon thread =
       let known : home_of system thread < system.cores = core_of_context system well _ in
-      let up : UpTo horizon (before_of system (suc horizon)) = up-past horizon [] (clock system (suc horizon)).rows tt (clock-before system (takes_time system well) (suc horizon)) in
+      let up : UpTo horizon (before_of system (suc horizon)) = up-past horizon [] (clock system (suc horizon)).rows tt (come-order system [] (clock system (suc horizon)).rows (come-home (suc horizon))) (clock-before system (takes_time system well) (suc horizon)) in
       ap (λ rows. unended system (past_of [] rows) horizon thread) (sym (on-core (home_of system thread) (suc horizon) known))
       ∙ (watched system).1 (clock system (suc horizon)).rows horizon thread (come-home (suc horizon)) up (waits-home thread)
+
+  -- what a notification's core finds of it at the horizon
+  pub untaken-home : (horizon note : ℕ) → note_home_of system note < system.cores
+      → untaken system (before_on system (note_home_of system note) (suc horizon)) horizon note ≡ untaken system (before_of system (suc horizon)) horizon note
+  untaken-home horizon note known =
+      let up : UpTo horizon (before_of system (suc horizon)) = up-past horizon [] (clock system (suc horizon)).rows tt (come-order system [] (clock system (suc horizon)).rows (come-home (suc horizon))) (clock-before system (takes_time system well) (suc horizon)) in
+      ap (λ rows. untaken system (past_of [] rows) horizon note) (sym (on-core (note_home_of system note) (suc horizon) known))
+      ∙ (watched system).2 (clock system (suc horizon)).rows horizon note (come-home (suc horizon)) up

@@ -1,4 +1,4 @@
--- What the core of a thread says of it: rounds that ended, and the activation of the first one.
+-- What the core of a thread says of it: rounds that ended, and the activation of the one under way.
 use Rattle.std.proofs.Common.{◌≡◌, ◌∙◌, ℕ, suc, ◌+◌, ◌<◌, Bool, true, false, cond, eqb, nat_lt, List, [], ◌∷◌, length, get_or, replicate, Option, Some, None, refl, sym, ap, subst, arith}
 use Rattle.std.specs.Prelude.{slice_index, slice_index_or, ◌==◌, ◌&&◌, not, is_some, if◌then◌else◌}
 use Rattle.std.proofs.lemmas.Bool.{cond_both, eqb-true, eq-eqb}
@@ -7,59 +7,68 @@ use Rattle.std.proofs.lemmas.List.{get_or-replicate}
 use Rattle.mcs_ticks.specs.declared.row.Row.{Row}
 use Rattle.mcs_ticks.specs.declared.row.What.{What}
 use Rattle.mcs_ticks.specs.declared.row.What.TheVariants as row
-use Rattle.mcs_system.specs.declared.part.ThreadPart.{ThreadPart}
 use Rattle.mcs_system.specs.System.{System, core_of, thread_part}
 use Rattle.mcs_system.specs.WellFormed.{IsWellFormed}
-use Rattle.mcs_system.proofs.Linked.{takes_time}
 use Rattle.mcs_core.specs.Clock.{clock}
 use Rattle.mcs_laws.proofs.Homes.{core_of_context}
 use Rattle.mcs_stretch.specs.Stretch.{rows_between}
-use Rattle.mcs_stretch.proofs.Merging.{clock-before}
 use Rattle.mcs_verdict.specs.declared.finding.Finding.{Finding}
 use Rattle.mcs_verdict.specs.declared.held.Held.{Held}
-use Rattle.mcs_verdict.specs.declared.job.Job.{Job}
-use Rattle.mcs_verdict.specs.Account.{account_of, seen_own, set_for, subject, is_some_of, is_about, job_by}
+use Rattle.mcs_verdict.specs.Account.{subject, is_some_of, is_about}
 use Rattle.mcs_verdict.specs.Calls.{bits_of}
 use Rattle.mcs_verdict.specs.Findings.{UpTo, past_of}
-use Rattle.mcs_verdict.specs.Jobs.{job}
-use Rattle.mcs_verdict.specs.Misses.{set_at, unended, word_for, word_set}
-use Rattle.mcs_verdict.specs.Rounds.{first_wait}
-use Rattle.mcs_verdict.specs.Words.{no_word, held, held_after, firsts_of}
+use Rattle.mcs_verdict.specs.Misses.{unended}
+use Rattle.mcs_verdict.specs.Rounds.{activated_in, activated_of, begun_after, begun_of, called_after, called_of, first_wait}
+use Rattle.mcs_verdict.specs.Standing.{telling, tells}
+use Rattle.mcs_verdict.specs.Words.{no_word, held, held_after, held_of, firsts_of}
 use Rattle.mcs_verdict.specs.laws.ByCore.{rows_on, word_told, home_of, note_home_of, IsAtHome, ComeHome, CoresAreWatched}
-use Rattle.mcs_verdict.proofs.Accounts.{same, own}
-use Rattle.mcs_verdict.proofs.Kept.{job-kept}
-use Rattle.mcs_verdict.proofs.Watches.{since-up_to}
 use Rattle.mcs_check_lines.specs.declared.unjudged.Unjudged.{Unjudged}
 use Rattle.mcs_check_lines.specs.Deadlines.{has_deadline}
 use Rattle.mcs_check.specs.declared.core_watch.CoreWatch.{CoreWatch}
-use Rattle.mcs_check.specs.Judged.{earlier, ended, ends, unjudged}
+use Rattle.mcs_check.specs.Judged.{by_then, ended, ends, unjudged}
 use Rattle.mcs_check.specs.stored.ByCore.{before_on}
 use Rattle.mcs_check.specs.stored.Found.{before_of}
 use Rattle.mcs_check.specs.stored.Rounds.{AreWatched}
 use Rattle.mcs_check.specs.stored.Threads.{threads_of}
-use Rattle.mcs_check.proofs.ByCore.{unended-home, up-past}
+use Rattle.mcs_check.proofs.ByCore.{unended-home}
 use Rattle.mcs_check.proofs.Cores.{home-known, up-on}
 use Rattle.mcs_check.proofs.EndedRounds.{ended-more}
 use Rattle.mcs_check.proofs.Homes.{come-home, on-core, waits-home}
-
-up_to-on : (c m : ℕ) (past : List Row) → UpTo m past → UpTo m (rows_on c past)
-up_to-on c m [] up = tt
-up_to-on c m (r ∷ past) up =
-    let rest = up_to-on c m past up.1 in
-    cond_both (eqb r.core c) (r ∷ rows_on c past) (rows_on c past) (UpTo m) (λ e. (up.0, rest)) (λ e. rest)
 
 -- a row that changes another word
 held_after-other : (note m : ℕ) (what : What) (before : Held) → (word_told what ≡ Some note → ⊥) → held_after note m what before ≡ before
 held_after-other note m what before other = grind (arith, nat_tests, other)
 
--- when the word was set that is taken
-set-same : (firsts : List Held) (some all : List Row) (what : What) → ((n : ℕ) → word_told what ≡ Some n → held (get_or firsts n no_word) n some ≡ held (get_or firsts n no_word) n all)
-    → set_for firsts some what ≡ set_for firsts all what
-set-same firsts some all what same = grind (arith, same)
-
 about-some : (s : Option ℕ) (thread : ℕ) → is_some_of s thread ≡ true → s ≡ Some thread
 about-some None thread e = cc
 about-some (Some x) thread e = ap Some (eqb-true x thread e)
+
+-- a row about another thread
+tells-other : (thread : ℕ) (what : What) → is_about thread what ≡ false → tells thread what ≡ false
+tells-other thread what e = grind (arith, nat_tests)
+
+begun-other : (waits bits : Option ℕ) (thread m : ℕ) (what : What) (begun : Option ℕ) → is_about thread what ≡ false → begun_after waits bits thread m what begun ≡ begun
+begun-other waits bits thread m what begun e = grind (arith, nat_tests)
+
+called-other : (firsts : List Held) (waits bits : Option ℕ) (thread : ℕ) (past : List Row) (m : ℕ) (what : What) (begun before : Option ℕ) → is_about thread what ≡ false
+    → called_after firsts waits bits thread past m what begun before ≡ before
+called-other firsts waits bits thread past m what begun before e = grind (arith, nat_tests)
+
+-- a word that is taken is the same in some of the rows
+called-same : (firsts : List Held) (waits bits : Option ℕ) (thread : ℕ) (some all : List Row) (m : ℕ) (what : What) (begun before : Option ℕ)
+    → ((n : ℕ) → word_told what ≡ Some n → held_of firsts n some ≡ held_of firsts n all)
+    → called_after firsts waits bits thread some m what begun before ≡ called_after firsts waits bits thread all m what begun before
+called-same firsts waits bits thread some all m (row.Got x note word) begun before same = rw (same note refl) refl
+called-same firsts waits bits thread some all m (row.Release x) begun before same = refl
+called-same firsts waits bits thread some all m (row.Run x) begun before same = refl
+called-same firsts waits bits thread some all m (row.Stop x cause charged until) begun before same = refl
+called-same firsts waits bits thread some all m (row.Signal x n badge) begun before same = refl
+called-same firsts waits bits thread some all m (row.Arrive n badge maker) begun before same = refl
+called-same firsts waits bits thread some all m (row.Wake x n word until) begun before same = refl
+called-same firsts waits bits thread some all m (row.Hold n word) begun before same = refl
+called-same firsts waits bits thread some all m (row.Round x number response) begun before same = refl
+called-same firsts waits bits thread some all m (row.Order context) begun before same = refl
+called-same firsts waits bits thread some all m (row.Interrupt source n badge) begun before same = refl
 
 past-on : (c : ℕ) (past rows : List Row) → past_of (rows_on c past) (rows_on c rows) ≡ rows_on c (past_of past rows)
 past-on c past [] = refl
@@ -76,11 +85,17 @@ ends-about n (row.Run x) e = cc
 ends-about n (row.Stop x why charged until) e = cc
 ends-about n (row.Signal x m badge) e = cc
 ends-about n (row.Arrive m badge maker) e = cc
-ends-about n (row.Wake x m word) e = cc
+ends-about n (row.Wake x m word until) e = cc
 ends-about n (row.Hold m word) e = cc
 ends-about n (row.Got x m word) e = cc
 ends-about n (row.Order context) e = cc
 ends-about n (row.Interrupt source m badge) e = cc
+
+-- the round under way is the same by some rows and by all
+record Same (system : System) (thread : ℕ) (some all : List Row) : Type 0 where
+  pub telling_is : telling thread some ≡ telling thread all
+  pub begun_is : begun_of system thread some ≡ begun_of system thread all
+  pub called_is : called_of system thread some ≡ called_of system thread all
 
 module _ (system : System) where
   abbrev firsts : List Held
@@ -89,62 +104,90 @@ module _ (system : System) where
   -- rows at home, the latest first
   abbrev AreHome : List Row → Type 0
   AreHome [] = Unit {0}
-  AreHome (r ∷ past) = IsAtHome system r × UpTo r.moment past × AreHome past
+  AreHome (r ∷ past) = IsAtHome system r × AreHome past
 
   home-past : (past rows : List Row) → AreHome past → ComeHome system past rows → AreHome (past_of past rows)
   home-past past [] h come = h
-  home-past past (r ∷ rows) h come = home-past (r ∷ past) rows (come.0, come.1, h) come.2
+  home-past past (r ∷ rows) h come = home-past (r ∷ past) rows (come.0, h) come.2
 
   -- the word of a notification of the core
   held-on : (first : Held) (c note : ℕ) (past : List Row) → note_home_of system note ≡ c → AreHome past
       → held first note (rows_on c past) ≡ held first note past
   held-on first c note [] home h = refl
   held-on first c note (r ∷ past) home h =
-      let before = held-on first c note past home h.2 in
+      let before = held-on first c note past home h.1 in
       cond_both (eqb r.core c) (r ∷ rows_on c past) (rows_on c past) (λ rows. held first note rows ≡ held first note (r ∷ past))
       (λ e. ap (held_after note r.moment r.what) before)
       (λ e. before ∙ sym (held_after-other note r.moment r.what (held first note past) (λ t. grind (arith, nat_tests, h.0.note note t))))
 
-  -- the account of a thread of the core
-  account-on : (c thread : ℕ) (part : ThreadPart) (past : List Row) → home_of system thread ≡ c → AreHome past
-      → account_of firsts part thread (rows_on c past) ≡ account_of firsts part thread past
-  account-on c thread part [] home h = refl
-  account-on c thread part (r ∷ past) home h = by (is_about thread r.what) refl (account-on c thread part past home h.2)
+  held_of-on : (c note : ℕ) (past : List Row) → note_home_of system note ≡ c → AreHome past → held_of firsts note (rows_on c past) ≡ held_of firsts note past
+  held_of-on c note past home h =
+      ap (λ (held : Held). cond (nat_lt note (length firsts)) held no_word) (held-on (get_or firsts note no_word) c note past home h)
+
+  -- a row about another thread
+  other : (thread : ℕ) (r : Row) (past : List Row) → is_about thread r.what ≡ false → Same system thread (r ∷ past) past
+  other thread r past e =
+      let part = thread_part system thread in
+      record {
+        telling_is = rw (tells-other thread r.what e) refl;
+        begun_is = begun-other (first_wait part) (bits_of part) thread r.moment r.what (begun_of system thread past) e;
+        called_is = called-other firsts (first_wait part) (bits_of part) thread past r.moment r.what (begun_of system thread past) (called_of system thread past) e;
+      }
+
+  trans : (thread : ℕ) (a b d : List Row) → Same system thread a b → Same system thread b d → Same system thread a d
+  trans thread a b d f g = record {
+    telling_is = f.telling_is ∙ g.telling_is;
+    begun_is = f.begun_is ∙ g.begun_is;
+    called_is = f.called_is ∙ g.called_is;
+  }
+
+  back : (thread : ℕ) (a b : List Row) → Same system thread a b → Same system thread b a
+  back thread a b f = record { telling_is = sym f.telling_is; begun_is = sym f.begun_is; called_is = sym f.called_is }
+
+  -- a row of both
+  both : (thread : ℕ) (r : Row) (some all : List Row) → ((n : ℕ) → word_told r.what ≡ Some n → held_of firsts n some ≡ held_of firsts n all)
+      → Same system thread some all → Same system thread (r ∷ some) (r ∷ all)
+  both thread r some all words f =
+      let part = thread_part system thread in
+      let waits = first_wait part in
+      let bits = bits_of part in
+      record {
+        telling_is = ap (λ rows. cond (tells thread r.what) (r ∷ rows) rows) f.telling_is;
+        begun_is = ap (begun_after waits bits thread r.moment r.what) f.begun_is;
+        called_is =
+            called-same firsts waits bits thread some all r.moment r.what (begun_of system thread some) (called_of system thread some) words
+            ∙ ap (λ begun. called_after firsts waits bits thread all r.moment r.what begun (called_of system thread some)) f.begun_is
+            ∙ ap (called_after firsts waits bits thread all r.moment r.what (begun_of system thread all)) f.called_is;
+      }
+
+  -- the rows of the thread's core
+  same-on : (c thread : ℕ) (past : List Row) → home_of system thread ≡ c → AreHome past → Same system thread (rows_on c past) past
+  same-on c thread [] home h = record { telling_is = refl; begun_is = refl; called_is = refl }
+  same-on c thread (r ∷ past) home h = by (is_about thread r.what) refl (same-on c thread past home h.1)
     where
       some : List Row
       some = rows_on c past
 
-      by : (a : Bool) → is_about thread r.what ≡ a → account_of firsts part thread some ≡ account_of firsts part thread past
-          → account_of firsts part thread (rows_on c (r ∷ past)) ≡ account_of firsts part thread (r ∷ past)
+      by : (a : Bool) → is_about thread r.what ≡ a → Same system thread some past → Same system thread (rows_on c (r ∷ past)) (r ∷ past)
       by true a before =
           let at : r.core ≡ c = sym (h.0.thread thread (about-some (subject r.what) thread a)) ∙ home in
-          let put = set_for firsts past r.what in
-          let set : put ≡ set_for firsts some r.what = sym (set-same firsts some past r.what (λ n t. held-on (get_or firsts n no_word) c n past (h.0.note n t ∙ at) h.2)) in
-          rw (eq-eqb r.core c at)
-          (sym (own firsts part thread some r.moment r.core put r.what a set (since-up_to thread r.moment some (up_to-on c r.moment past h.1)))
-          ∙ ap (seen_own put r.moment r.what) before
-          ∙ own firsts part thread past r.moment r.core put r.what a refl (since-up_to thread r.moment past h.1))
+          rw (eq-eqb r.core c at) (both thread r some past (λ n t. held_of-on c n past (h.0.note n t ∙ at) h.1) before)
       by false a before =
-          cond_both (eqb r.core c) (r ∷ some) some (λ rows. account_of firsts part thread rows ≡ account_of firsts part thread past)
-          (λ e. same firsts part thread some r.moment r.core r.what a ∙ before) (λ e. before)
-          ∙ sym (same firsts part thread past r.moment r.core r.what a)
+          let rest = back thread (r ∷ past) past (other thread r past a) in
+          cond_both (eqb r.core c) (r ∷ some) some (λ rows. Same system thread rows (r ∷ past))
+          (λ e. trans thread (r ∷ some) some (r ∷ past) (other thread r some a) (trans thread some past (r ∷ past) before rest))
+          (λ e. trans thread some past (r ∷ past) before rest)
 
-  job-on : (c thread moment number : ℕ) (past : List Row) → home_of system thread ≡ c → AreHome past → UpTo moment past
-      → job system (rows_on c past) moment thread number ≡ job system past moment thread number
-  job-on c thread moment number past home h up =
-      sym (job-kept system thread (rows_on c past) moment number (up_to-on c moment past up))
-      ∙ ap (job_by moment thread number) (account-on c thread (thread_part system thread) past home h)
-      ∙ job-kept system thread past moment number up
-
-  -- the word that a thread of the core waits for first
-  word-on : (c : ℕ) (waits : Option ℕ) (past : List Row) → ((n : ℕ) → waits ≡ Some n → note_home_of system n ≡ c) → AreHome past
-      → word_for firsts waits (rows_on c past) ≡ word_for firsts waits past
-  word-on c None past home h = refl
-  word-on c (Some n) past home h = ap (λ (held : Held). cond (nat_lt n (length firsts)) held no_word) (held-on (get_or firsts n no_word) c n past (home n refl) h)
+  activated-same : (thread m : ℕ) (some all : List Row) → Same system thread some all → activated_of system thread some m ≡ activated_of system thread all m
+  activated-same thread m some all f = ap (activated_in system thread some m) f.begun_is ∙ by (begun_of system thread all)
+    where
+      by : (begun : Option ℕ) → activated_in system thread some m begun ≡ activated_in system thread all m begun
+      by None = refl
+      by (Some begun) = cc (f.called_is, f.telling_is)
 
   ended-on : (c n : ℕ) (past : List Row) → home_of system n ≡ c → AreHome past → ended n (rows_on c past) ≡ ended n past
   ended-on c n [] home h = refl
-  ended-on c n (r ∷ past) home h = by (ends n r.what) refl (ended-on c n past home h.2)
+  ended-on c n (r ∷ past) home h = by (ends n r.what) refl (ended-on c n past home h.1)
     where
       by : (b : Bool) → ends n r.what ≡ b → ended n (rows_on c past) ≡ ended n past → ended n (rows_on c (r ∷ past)) ≡ ended n (r ∷ past)
       by true e before =
@@ -174,33 +217,25 @@ module _ (system : System) where
     are-home : AreHome all
     are-home = home-past [] (clock system (suc horizon)).rows tt (come-home system well (suc horizon))
 
-    in-time : UpTo horizon all
-    in-time = up-past horizon [] (clock system (suc horizon)).rows tt (clock-before system (takes_time system well) (suc horizon))
-
     pub ended-home : ended thread alone ≡ ended thread all
     ended-home = ap (ended thread) alone-is ∙ ended-on (home_of system thread) thread all refl are-home
 
-    job-home : job system alone horizon thread 1 ≡ job system all horizon thread 1
-    job-home = ap (λ past. job system past horizon thread 1) alone-is ∙ job-on (home_of system thread) thread horizon 1 all refl are-home in-time
-
-    word-home : word_set system alone thread ≡ word_set system all thread
-    word-home =
-        ap (λ past. word_set system past thread) alone-is
-        ∙ ap (set_at (bits_of (thread_part system thread)))
-        (word-on (home_of system thread) (first_wait (thread_part system thread)) all (waits-home system well thread) are-home)
+    activated-home : activated_of system thread alone horizon ≡ activated_of system thread all horizon
+    activated-home =
+        ap (λ past. activated_of system thread past horizon) alone-is
+        ∙ activated-same thread horizon (rows_on (home_of system thread) all) all (same-on (home_of system thread) thread all refl are-home)
 
     pub unjudged-home : unjudged system alone horizon thread ≡ unjudged system all horizon thread
     unjudged-home =
         let part = thread_part system thread in
-        let made : ℕ → Option Finding → Job → Option ℕ → Option Unjudged = λ rounds found round word.
+        let made : ℕ → Option Finding → Option ℕ → Option Unjudged = λ rounds found activated.
         if has_deadline part && (rounds == 0 && not (is_some found))
-        then Some (record { moment = horizon; core = core_of system part; thread = thread; deadline = part.deadline; activated = earlier round.activated word })
+        then Some (record { moment = horizon; core = core_of system part; thread = thread; deadline = part.deadline; activated = by_then horizon (first_wait part) activated })
         else None in
         let found = unended-home system well (come-home system well) (on-core system well) watched (waits-home system well) horizon thread in
-        ap (λ n. made n (unended system alone horizon thread) (job system alone horizon thread 1) (word_set system alone thread)) ended-home
-        ∙ ap (λ f. made (ended thread all) f (job system alone horizon thread 1) (word_set system alone thread)) found
-        ∙ ap (λ j. made (ended thread all) (unended system all horizon thread) j (word_set system alone thread)) job-home
-        ∙ ap (λ w. made (ended thread all) (unended system all horizon thread) (job system all horizon thread 1) w) word-home
+        ap (λ n. made n (unended system alone horizon thread) (activated_of system thread alone horizon)) ended-home
+        ∙ ap (λ f. made (ended thread all) f (activated_of system thread alone horizon)) found
+        ∙ ap (λ a. made (ended thread all) (unended system all horizon thread) a) activated-home
 
   -- what the core of a thread kept of its rows
   module _ (well : IsWellFormed system) (allowed : List Bool) (from horizon thread c : ℕ) (watches : List CoreWatch) (own : CoreWatch)

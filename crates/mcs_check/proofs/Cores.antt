@@ -9,7 +9,8 @@ use Rattle.std.proofs.lemmas.List.{drop_more, get_or-map, length-append, length-
 use Rattle.mcs_ticks.specs.declared.row.Row.{Row}
 use Rattle.mcs_merge.specs.Merge.{AreFrom, DoNotFall}
 use Rattle.mcs_merge.proofs.Merges.{AreFrom-zero}
-use Rattle.mcs_system.specs.System.{System, core_of, no_thread, thread_part}
+use Rattle.mcs_system.specs.System.{System, core_of, no_note, no_thread, note_part, thread_part}
+use Rattle.mcs_system.specs.declared.part.NotePart.{NotePart}
 use Rattle.mcs_system.specs.declared.part.ThreadPart.{ThreadPart}
 use Rattle.mcs_system.specs.WellFormed.{IsWellFormed}
 use Rattle.mcs_laws.proofs.Homes.{core_of_context}
@@ -22,10 +23,12 @@ use Rattle.mcs_stretch.proofs.Ranges.{flat_map-join}
 use Rattle.mcs_window.specs.Desk.{Table, clock_of, opening_table, taken_at, taken_of, turns_left, AllAreHere, AreToldBetween, IsFinished, IsLater}
 use Rattle.mcs_window.proofs.Lists.{each-more, some-of}
 use Rattle.mcs_verdict.specs.declared.finding.Found.{Found}
-use Rattle.mcs_verdict.specs.Findings.{InOrder, UpTo, found_at, found_at_end, past_of}
+use Rattle.mcs_verdict.specs.Findings.{InOrder, UpTo, found_at, found_at_end, past_of, untaken_at_end}
 use Rattle.mcs_verdict.specs.declared.finding.Finding.{Finding}
+use Rattle.mcs_verdict.specs.Due.{untaken}
 use Rattle.mcs_verdict.specs.Misses.{unended}
-use Rattle.mcs_verdict.specs.laws.ByCore.{CoresAreWatched, home_of}
+use Rattle.mcs_verdict.proofs.Orders.{up_to-later}
+use Rattle.mcs_verdict.specs.laws.ByCore.{CoresAreWatched, home_of, note_home_of}
 use Rattle.mcs_check.specs.declared.rounds.Cores.{Cores}
 use Rattle.mcs_check.specs.declared.core_watch.CoreWatch.{CoreWatch}
 use Rattle.mcs_check_lines.specs.declared.counts.Counts.{Counts}
@@ -35,7 +38,7 @@ use Rattle.mcs_check.specs.stored.Found.{before_of, counts_so_far, told_in}
 use Rattle.mcs_check.specs.stored.OwnRows.{since, until, HoldsOwn}
 use Rattle.mcs_check.specs.stored.Threads.{threads_of}
 use Rattle.mcs_check.specs.stored.Rounds.{are_counted_together, AreWatched, HasTaken, IsNext, IsReady, IsWatched}
-use Rattle.mcs_check.proofs.ByCore.{told-later, told-sorted, told-split, unended-home, up-past}
+use Rattle.mcs_check.proofs.ByCore.{told-later, told-sorted, told-split, unended-home, untaken-home, up-past}
 use Rattle.mcs_check.proofs.CountsByCore.{counts-together}
 use Rattle.mcs_check.proofs.Homes.{come-home, on-core, waits-home}
 
@@ -50,14 +53,10 @@ since-since from to l (f ∷ found) = by (nat_le from f.moment) refl (since-sinc
         let early : nat_le to f.moment ≡ false = grind (arith, nat_tests) in
         rest ∙ sym (ap (λ b. cond b (f ∷ since to found) (since to found)) early)
 
-up-later : (t u : ℕ) (past : List Row) → t ≤ u → UpTo t past → UpTo u past
-up-later t u [] l up = tt
-up-later t u (r ∷ past) l up = (let e = up.0 in omega arith, up-later t u past l up.1)
-
 in-order : (past rows : List Row) (t : ℕ) → UpTo t past → AreFrom t rows → DoNotFall rows → InOrder past rows
 in-order past [] t up from order = tt
 in-order past (r ∷ rows) t up from order =
-    let here = up-later t r.moment past from.0 up in (here, in-order (r ∷ past) rows r.moment (omega arith, here) order.0 order.1)
+    let here = up_to-later t r.moment past from.0 up in (here, in-order (r ∷ past) rows r.moment (omega arith, here) order.0 order.1)
 
 -- the rows of a core come in order
 pub order-on : (system : System) (c to : ℕ) → InOrder [] (rows_between system c 0 to)
@@ -65,7 +64,7 @@ order-on system c to = in-order [] (rows_between system c 0 to) 0 tt (AreFrom-ze
 
 -- and those of a run are not after its horizon
 pub up-on : (system : System) (c horizon : ℕ) → UpTo horizon (past_of [] (rows_between system c 0 (suc horizon)))
-up-on system c horizon = up-past horizon [] (rows_between system c 0 (suc horizon)) tt (list-between system c 0 (suc horizon) (omega arith)).before
+up-on system c horizon = up-past horizon [] (rows_between system c 0 (suc horizon)) tt (order-on system c (suc horizon)) (list-between system c 0 (suc horizon) (omega arith)).before
 
 -- clocks do not go back
 set-grows : (xs : List ℕ) (c b : ℕ) → slice_index xs b ≤ slice_index (slice_set xs c (suc (slice_index xs c))) b
@@ -112,6 +111,21 @@ unended-next system past horizon n part core finding before now whole l is home 
     ∙ ap (λ found. before ++ (found ++ more)) first
     ∙ ap (λ found. before ++ (found_at horizon (core_of system part) (unended system past horizon n) ++ found)) next
     ∙ ap (λ parts. before ++ found_at_end system past horizon n parts) (sym split) ∙ so_far
+
+-- and of one notification more
+pub untaken-next : (system : System) (past : List Row) (horizon n core : ℕ) (finding : Option Finding) (before now whole : List Found) → n < length system.notes
+    → core ≡ note_home_of system n → finding ≡ untaken system past horizon n → now ≡ before ++ found_at horizon core finding
+    → before ++ untaken_at_end system past horizon n (drop n system.notes) ≡ whole → now ++ untaken_at_end system past horizon (n + 1) (drop (n + 1) system.notes) ≡ whole
+untaken-next system past horizon n core finding before now whole l home says put so_far =
+    let rest = drop (n + 1) system.notes in
+    let more = untaken_at_end system past horizon (n + 1) rest in
+    let first : found_at horizon core finding ≡ found_at horizon (note_home_of system n) (untaken system past horizon n) = ap (λ k. found_at horizon k finding) home ∙ ap (found_at horizon (note_home_of system n)) says in
+    let next : more ≡ untaken_at_end system past horizon (suc n) rest = ap (λ k. untaken_at_end system past horizon k rest) (let e : n + 1 ≡ suc n = omega arith in e) in
+    let split : drop n system.notes ≡ note_part system n ∷ rest = drop_more system.notes n no_note l in
+    ap (λ found. found ++ more) put ∙ append_assoc before (found_at horizon core finding) more
+    ∙ ap (λ found. before ++ (found ++ more)) first
+    ∙ ap (λ found. before ++ (found_at horizon (note_home_of system n) (untaken system past horizon n) ++ found)) next
+    ∙ ap (λ parts. before ++ untaken_at_end system past horizon n parts) (sym split) ∙ so_far
 
 -- what is kept before the first row
 abbrev pub IsUnused : System → CoreWatch → Type 0
@@ -394,3 +408,18 @@ module _ (system : System) (allowed : List Bool) where
       says (before_on system c (suc horizon)) seen (up-on system c horizon)
       ∙ ap (λ n. unended system (before_on system n (suc horizon)) horizon thread) home
       ∙ unended-home system well (come-home system well) (on-core system well) watched (waits-home system well) horizon thread
+
+  -- and of a notification
+  pub untaken-at-home : IsWellFormed system → CoresAreWatched → (from horizon note c : ℕ) (watches : List CoreWatch) (own : CoreWatch) (found : Option Finding)
+      → AreWatched system allowed from (replicate system.cores (horizon + 1)) watches → c ≡ note_home_of system note → c < system.cores → own ≡ slice_index_or watches c own
+      → ((past : List Row) → own.watch ≡ threads_of system past → found ≡ untaken system past horizon note)
+      → found ≡ untaken system (past_of [] (schedule system horizon)) horizon note
+  untaken-at-home well watched from horizon note c watches own found are home l is says =
+      let its = are.each c own l in
+      let to : slice_index (replicate system.cores (horizon + 1)) c ≡ suc horizon = get_or-replicate system.cores c (horizon + 1) 0 l ∙ (let e : horizon + 1 ≡ suc horizon = omega arith in e) in
+      let seen : own.watch ≡ threads_of system (before_on system c (suc horizon)) =
+      ap (λ (w : CoreWatch). w.watch) is ∙ its.seen.watch ∙ ap (λ n. threads_of system (past_of [] (rows_between system c 0 n))) to in
+      let known : note_home_of system note < system.cores = omega (arith, home, l) in
+      says (before_on system c (suc horizon)) seen
+      ∙ ap (λ n. untaken system (before_on system n (suc horizon)) horizon note) home
+      ∙ untaken-home system well (come-home system well) (on-core system well) watched horizon note known

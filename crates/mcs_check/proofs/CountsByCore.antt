@@ -14,6 +14,7 @@ use Rattle.mcs_system.specs.WellFormed.{IsWellFormed}
 use Rattle.mcs_core.specs.Clock.{clock, rows_of}
 use Rattle.mcs_stretch.specs.Stretch.{rows_between}
 use Rattle.mcs_verdict.specs.declared.finding.Finding.{Finding}
+use Rattle.mcs_verdict.specs.declared.finding.Finding.TheVariants.{Miss, Overdue, Untaken, Lost, Never}
 use Rattle.mcs_verdict.specs.declared.finding.Found.{Found}
 use Rattle.mcs_verdict.specs.declared.held.Held.{Held}
 use Rattle.mcs_verdict.specs.Findings.{finding, found_at, found_in, past_of}
@@ -34,6 +35,7 @@ plus a b =
     record {
       missed = a.missed + b.missed;
       overdue = a.overdue + b.overdue;
+      untaken = a.untaken + b.untaken;
       lost = a.lost + b.lost;
       never = a.never + b.never;
       merged = a.merged + b.merged;
@@ -47,6 +49,7 @@ capped_all a =
     record {
       missed = capped a.missed;
       overdue = capped a.overdue;
+      untaken = capped a.untaken;
       lost = capped a.lost;
       never = capped a.never;
       merged = capped a.merged;
@@ -74,7 +77,18 @@ with_merged m counts = if m then record counts { merged = one_more counts.merged
 
 counted-plus : (allowed : List Bool) (f : Option Finding) (m : Bool) (s : Counts)
     → taken allowed f (with_merged m (capped_all s)) ≡ capped_all (plus s (taken allowed f (with_merged m no_counts)))
-counted-plus allowed f m s = grind arith
+counted-plus allowed None true s = grind arith
+counted-plus allowed None false s = grind arith
+counted-plus allowed (Some (Miss thread number response deadline activated queued stood)) true s = grind arith
+counted-plus allowed (Some (Miss thread number response deadline activated queued stood)) false s = grind arith
+counted-plus allowed (Some (Overdue thread number age deadline activated queued stood)) true s = grind arith
+counted-plus allowed (Some (Overdue thread number age deadline activated queued stood)) false s = grind arith
+counted-plus allowed (Some (Untaken note word age deadline set)) true s = grind arith
+counted-plus allowed (Some (Untaken note word age deadline set)) false s = grind arith
+counted-plus allowed (Some (Lost note word)) true s = grind arith
+counted-plus allowed (Some (Lost note word)) false s = grind arith
+counted-plus allowed (Some (Never thread deadline)) true s = grind arith
+counted-plus allowed (Some (Never thread deadline)) false s = grind arith
 
 -- the numbers of the cores from a on, n of them, added up
 total : (ℕ → Counts) → ℕ → ℕ → Counts
@@ -177,7 +191,7 @@ module _ (system : System) where
   merges-on c past (row.Stop x cause charged until) note h = refl
   merges-on c past (row.Signal x n badge) note h = refl
   merges-on c past (row.Arrive n badge maker) note h = refl
-  merges-on c past (row.Wake x n word) note h = refl
+  merges-on c past (row.Wake x n word until) note h = refl
   merges-on c past (row.Hold n word) note h =
       let firsts = firsts_of system in
       ap (λ (held : Held). adds (cond (nat_lt n (length firsts)) held no_word).word word) (held-on (get_or firsts n no_word) c n past (note n refl) h)

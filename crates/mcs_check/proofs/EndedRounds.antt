@@ -60,7 +60,7 @@ module _ (system : System) where
   row-none (row.Stop x why charged until) = refl
   row-none (row.Signal x n badge) = refl
   row-none (row.Arrive n badge maker) = refl
-  row-none (row.Wake x n word) = refl
+  row-none (row.Wake x n word until) = refl
   row-none (row.Hold n word) = refl
   row-none (row.Got x n word) = refl
   row-none (row.Order context) = refl
@@ -86,7 +86,7 @@ module _ (system : System) where
   row-more n (row.Stop x why charged until) = grind arith
   row-more n (row.Signal x m badge) = grind arith
   row-more n (row.Arrive m badge maker) = grind arith
-  row-more n (row.Wake x m word) = grind arith
+  row-more n (row.Wake x m word until) = grind arith
   row-more n (row.Hold m word) = grind arith
   row-more n (row.Got x m word) = grind arith
   row-more n (row.Order context) = grind arith
@@ -124,7 +124,7 @@ module _ (system : System) where
   row-all (row.Stop x why charged until) = refl
   row-all (row.Signal x n badge) = refl
   row-all (row.Arrive n badge maker) = refl
-  row-all (row.Wake x n word) = refl
+  row-all (row.Wake x n word until) = refl
   row-all (row.Hold n word) = refl
   row-all (row.Got x n word) = refl
   row-all (row.Order context) = refl

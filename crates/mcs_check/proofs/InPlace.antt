@@ -9,6 +9,7 @@ use Rattle.mcs_system.specs.System.{System}
 use Rattle.mcs_verdict.specs.declared.finding.Finding.{Finding}
 use Rattle.mcs_verdict.specs.declared.finding.Found.{Found}
 use Rattle.mcs_verdict.specs.Findings.{InOrder, UpTo, finding, found_at, found_in, past_of}
+use Rattle.mcs_verdict.proofs.Orders.{up_to-later}
 use Rattle.mcs_chain.specs.declared.finding.Found.{Found as ChainFound}
 use Rattle.mcs_chain.specs.Found.{all_slow}
 use Rattle.mcs_chain.specs.Watch.{all_due, watch_of as chains_of}
@@ -180,18 +181,18 @@ module _ (how : Format) (system : System) (flags : List Bool) where
   entries-most : (m : ℕ) (past : List Row) → UpTo m past → AtMost m (entries past)
   entries-most m [] up = tt
   entries-most m (r ∷ past) up =
-      most-append m (entries past) (news past r) (entries-most m past up.1)
+      most-append m (entries past) (news past r) (entries-most m past (up_to-later r.moment m past up.0 up.1))
       (most-later r.moment m (news past r) up.0 (most-of-at r.moment (news past r) (one-at r.moment r.core (finding system past r.moment r.what))))
 
-  later-split : (past : List Row) (r : Row) (m : ℕ) → r.moment < m → UpTo m past → UpTo r.moment past → AreOrdered past → Split (r ∷ past) r.moment → Split (r ∷ past) m
-  later-split past r m less up last order s =
+  later-split : (past : List Row) (r : Row) (m : ℕ) → r.moment < m → UpTo r.moment past → AreOrdered past → Split (r ∷ past) r.moment → Split (r ∷ past) m
+  later-split past r m less last order s =
       let all = slows (r ∷ past) in
       let most : AtMost r.moment (slows (r ∷ past)) = slows-most r.moment (r ∷ past) (omega arith, last) in
       record {
         es = entries (r ∷ past);
         ls = [];
         is = sym (append-nil (entries (r ∷ past)));
-        most = entries-most m (r ∷ past) (omega (arith, less), up);
+        most = entries-most m (r ∷ past) (omega (arith, less), last);
         here = tt;
         text =
             ap (λ fs. written (r ∷ past) ++ chain_found_lines how system fs) (all-due-later system r past m 0 system.chains less)
@@ -217,7 +218,7 @@ module _ (how : Format) (system : System) (flags : List Bool) where
   split (r ∷ past) m up order = by (nat_lt r.moment m) refl (here-split past r (split past r.moment order.0 order.1))
     where
       by : (b : Bool) → nat_lt r.moment m ≡ b → Split (r ∷ past) r.moment → Split (r ∷ past) m
-      by true t s = later-split past r m (grind (arith, nat_tests, t)) up.1 order.0 order.1 s
+      by true t s = later-split past r m (grind (arith, nat_tests, t)) order.0 order.1 s
       by false t s = let same : r.moment ≡ m = grind (arith, nat_tests, t, up.0) in subst (Split (r ∷ past)) same s
 
   all-in-place : (past : List Row) → AreOrdered past → written past ++ due_text None past ≡ flat (placed_all (entries past) (slows past))

@@ -6,6 +6,7 @@ use Rattle.mcs_ticks.specs.declared.row.Row.{Row}
 use Rattle.mcs_system.specs.declared.part.ChainPart.{ChainPart}
 use Rattle.mcs_system.specs.System.{System}
 use Rattle.mcs_verdict.specs.Findings.{UpTo}
+use Rattle.mcs_verdict.proofs.Orders.{up_to-later}
 use Rattle.mcs_chain.specs.declared.finding.Finding.{Finding}
 use Rattle.mcs_chain.specs.declared.finding.Found.{Found}
 use Rattle.mcs_chain.specs.declared.one.Late.{Late}
@@ -96,7 +97,7 @@ module _ (system : System) (n : ℕ) (chain : ChainPart) where
       let kept = lately system chain past in
       let last : r.moment ≤ m = omega (arith, up.0) in
       filter-append (λ (f : Found). f.moment == m) (slow_in system n chain past) (found_at r.moment r.core n new)
-      ∙ ap₂ (λ a b. a ++ b) (then-kept m past up.1 order.1 ∙ ap (map (told n)) (sym (then-again m r.moment kept last (most-lately r.moment past order.0 order.1))))
+      ∙ ap₂ (λ a b. a ++ b) (then-kept m past (up_to-later r.moment m past last up.1) order.1 ∙ ap (map (told n)) (sym (then-again m r.moment kept last (most-lately r.moment past order.0 order.1))))
       (one-then m r.moment r.core n new)
       ∙ sym (map-join (told n) (late_then m (late_then r.moment kept)) (late_then m (late_at r.moment r.core new)))
       ∙ ap (map (told n)) (sym (filter-append (λ (l : Late). l.moment == m) (late_then r.moment kept) (late_at r.moment r.core new)))
@@ -165,7 +166,7 @@ found-one m k core n (Some f) l = (l, tt)
 most-slow : (system : System) (n : ℕ) (chain : ChainPart) (m : ℕ) (past : List Row) → UpTo m past → MostFound m (slow_in system n chain past)
 most-slow system n chain m [] up = tt
 most-slow system n chain m (r ∷ past) up =
-    found-join m (slow_in system n chain past) (found_at r.moment r.core n (slow system chain past r)) (most-slow system n chain m past up.1)
+    found-join m (slow_in system n chain past) (found_at r.moment r.core n (slow system chain past r)) (most-slow system n chain m past (up_to-later r.moment m past up.0 up.1))
     (found-one m r.moment r.core n (slow system chain past r) up.0)
 
 module _ (system : System) where

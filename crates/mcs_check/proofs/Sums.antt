@@ -7,14 +7,14 @@ use Rattle.std.proofs.lemmas.List.Sums.{sum_by-append, sum_by-cons}
 use Rattle.mcs_ticks.specs.declared.row.Row.{Row}
 use Rattle.mcs_system.specs.System.{System}
 use Rattle.mcs_verdict.specs.declared.finding.Finding.{Finding}
-use Rattle.mcs_verdict.specs.declared.finding.Finding.TheVariants.{Miss, Overdue, Lost, Never}
+use Rattle.mcs_verdict.specs.declared.finding.Finding.TheVariants.{Miss, Overdue, Untaken, Lost, Never}
 use Rattle.mcs_verdict.specs.declared.finding.Found.{Found}
 use Rattle.mcs_verdict.specs.Findings.{finding, found_at, found_in}
 use Rattle.mcs_verdict.specs.Words.{merges}
 use Rattle.mcs_check_lines.specs.declared.counts.Counts.{Counts}
 use Rattle.mcs_ticks.specs.Capped.{one_more, capped}
 use Rattle.mcs_check_lines.specs.Counts.{added, is_allowed, no_counts, taken, with_hints}
-use Rattle.mcs_check_lines.specs.Told.{counts_with, is_lost, is_miss, is_never, is_overdue, merged_in, more, told}
+use Rattle.mcs_check_lines.specs.Told.{counts_with, is_lost, is_miss, is_never, is_overdue, is_untaken, merged_in, more, told}
 use Rattle.mcs_check.specs.stored.Rows.{counted_at, counts_found, counts_in}
 
 cap-suc : (n k : ℕ) → capped (n + (1 + k)) ≡ capped (one_more n + k)
@@ -40,6 +40,7 @@ cap-none n within = omega (arith, within)
 pub record IsWithin (c : Counts) : Type 0 where
   pub missed : c.missed ≤ 2 ^ 64 - 1
   pub overdue : c.overdue ≤ 2 ^ 64 - 1
+  pub untaken : c.untaken ≤ 2 ^ 64 - 1
   pub lost : c.lost ≤ 2 ^ 64 - 1
   pub never : c.never ≤ 2 ^ 64 - 1
   pub merged : c.merged ≤ 2 ^ 64 - 1
@@ -50,16 +51,17 @@ more-within : (n : ℕ) → one_more n ≤ 2 ^ 64 - 1
 more-within n = omega arith
 
 pub none-within : IsWithin no_counts
-none-within = record { missed = omega arith; overdue = omega arith; lost = omega arith; never = omega arith; merged = omega arith; allowed = omega arith; hints = omega arith }
+none-within = record { missed = omega arith; overdue = omega arith; untaken = omega arith; lost = omega arith; never = omega arith; merged = omega arith; allowed = omega arith; hints = omega arith }
 
 added-within : (f : Finding) (c : Counts) → IsWithin c → IsWithin (added f c)
-added-within (Miss thread number response deadline activated queued stood) c w = record { missed = more-within c.missed; overdue = w.overdue; lost = w.lost; never = w.never; merged = w.merged; allowed = w.allowed; hints = w.hints }
-added-within (Overdue thread deadline activated queued stood) c w = record { missed = w.missed; overdue = more-within c.overdue; lost = w.lost; never = w.never; merged = w.merged; allowed = w.allowed; hints = w.hints }
-added-within (Lost note word) c w = record { missed = w.missed; overdue = w.overdue; lost = more-within c.lost; never = w.never; merged = w.merged; allowed = w.allowed; hints = w.hints }
-added-within (Never thread deadline) c w = record { missed = w.missed; overdue = w.overdue; lost = w.lost; never = more-within c.never; merged = w.merged; allowed = w.allowed; hints = w.hints }
+added-within (Miss thread number response deadline activated queued stood) c w = record { missed = more-within c.missed; overdue = w.overdue; untaken = w.untaken; lost = w.lost; never = w.never; merged = w.merged; allowed = w.allowed; hints = w.hints }
+added-within (Overdue thread number age deadline activated queued stood) c w = record { missed = w.missed; overdue = more-within c.overdue; untaken = w.untaken; lost = w.lost; never = w.never; merged = w.merged; allowed = w.allowed; hints = w.hints }
+added-within (Untaken note word age deadline set) c w = record { missed = w.missed; overdue = w.overdue; untaken = more-within c.untaken; lost = w.lost; never = w.never; merged = w.merged; allowed = w.allowed; hints = w.hints }
+added-within (Lost note word) c w = record { missed = w.missed; overdue = w.overdue; untaken = w.untaken; lost = more-within c.lost; never = w.never; merged = w.merged; allowed = w.allowed; hints = w.hints }
+added-within (Never thread deadline) c w = record { missed = w.missed; overdue = w.overdue; untaken = w.untaken; lost = w.lost; never = more-within c.never; merged = w.merged; allowed = w.allowed; hints = w.hints }
 
 one-within : (allowed : List Bool) (f : Finding) (c : Counts) (b : Bool) → is_allowed allowed f ≡ b → IsWithin c → IsWithin (taken allowed (Some f) c)
-one-within allowed f c true e w = rw e (record { missed = w.missed; overdue = w.overdue; lost = w.lost; never = w.never; merged = w.merged; allowed = more-within c.allowed; hints = w.hints })
+one-within allowed f c true e w = rw e (record { missed = w.missed; overdue = w.overdue; untaken = w.untaken; lost = w.lost; never = w.never; merged = w.merged; allowed = more-within c.allowed; hints = w.hints })
 one-within allowed f c false e w = rw e (added-within f c w)
 
 pub taken-within : (allowed : List Bool) (f : Option Finding) (c : Counts) → IsWithin c → IsWithin (taken allowed f c)
@@ -67,21 +69,21 @@ taken-within allowed None c w = w
 taken-within allowed (Some f) c w = one-within allowed f c (is_allowed allowed f) refl w
 
 merged-within : (b : Bool) (c : Counts) → IsWithin c → IsWithin (if b then record c { merged = one_more c.merged } else c)
-merged-within true c w = record { missed = w.missed; overdue = w.overdue; lost = w.lost; never = w.never; merged = more-within c.merged; allowed = w.allowed; hints = w.hints }
+merged-within true c w = record { missed = w.missed; overdue = w.overdue; untaken = w.untaken; lost = w.lost; never = w.never; merged = more-within c.merged; allowed = w.allowed; hints = w.hints }
 merged-within false c w = w
 
-abbrev numbers : ℕ → ℕ → ℕ → ℕ → ℕ → ℕ → ℕ → Counts
-numbers a b c d e f g = record { missed = a; overdue = b; lost = c; never = d; merged = e; allowed = f; hints = g }
+abbrev numbers : ℕ → ℕ → ℕ → ℕ → ℕ → ℕ → ℕ → ℕ → Counts
+numbers a b c d e f g h = record { missed = a; overdue = b; untaken = c; lost = d; never = e; merged = f; allowed = g; hints = h }
 
 -- counts whose numbers are the same are the same
-same : (a a' b b' c c' d d' e e' f f' g g' : ℕ) → a ≡ a' → b ≡ b' → c ≡ c' → d ≡ d' → e ≡ e' → f ≡ f' → g ≡ g'
-    → numbers a b c d e f g ≡ numbers a' b' c' d' e' f' g'
-same a a' b b' c c' d d' e e' f f' g g' ea eb ec ed ee ef eg = rw (ea, eb, ec, ed, ee, ef, eg) refl
+same : (a a' b b' c c' d d' e e' f f' g g' h h' : ℕ) → a ≡ a' → b ≡ b' → c ≡ c' → d ≡ d' → e ≡ e' → f ≡ f' → g ≡ g' → h ≡ h'
+    → numbers a b c d e f g h ≡ numbers a' b' c' d' e' f' g' h'
+same a a' b b' c c' d d' e e' f f' g g' h h' ea eb ec ed ee ef eg eh = rw (ea, eb, ec, ed, ee, ef, eg, eh) refl
 
 with-none : (allowed : List Bool) (c : Counts) → IsWithin c → counts_with allowed [] 0 0 c ≡ c
 with-none allowed c w =
-    same _ c.missed _ c.overdue _ c.lost _ c.never _ c.merged _ c.allowed _ c.hints
-    (cap-none c.missed w.missed) (cap-none c.overdue w.overdue) (cap-none c.lost w.lost) (cap-none c.never w.never)
+    same _ c.missed _ c.overdue _ c.untaken _ c.lost _ c.never _ c.merged _ c.allowed _ c.hints
+    (cap-none c.missed w.missed) (cap-none c.overdue w.overdue) (cap-none c.untaken w.untaken) (cap-none c.lost w.lost) (cap-none c.never w.never)
     (cap-none c.merged w.merged) (cap-none c.allowed w.allowed) (cap-none c.hints w.hints)
 
 -- a finding is counted before the others, or with them
@@ -93,13 +95,15 @@ module _ (allowed : List Bool) (moment core : ℕ) (rest : List Found) (merged :
       → counts_with allowed (found_at moment core (Some f) ++ rest) merged 0 c ≡ counts_with allowed rest merged 0 (added f c)
   unfolding found
   told-first (Miss thread number response deadline activated queued stood) c e =
-      same _ _ _ _ _ _ _ _ _ _ _ _ _ _ (first-more is_miss (found (Miss thread number response deadline activated queued stood)) (told allowed rest) c.missed refl) refl refl refl refl refl refl
-  told-first (Overdue thread deadline activated queued stood) c e =
-      same _ _ _ _ _ _ _ _ _ _ _ _ _ _ refl (first-more is_overdue (found (Overdue thread deadline activated queued stood)) (told allowed rest) c.overdue refl) refl refl refl refl refl
+      same _ _ _ _ _ _ _ _ _ _ _ _ _ _ _ _ (first-more is_miss (found (Miss thread number response deadline activated queued stood)) (told allowed rest) c.missed refl) refl refl refl refl refl refl refl
+  told-first (Overdue thread number age deadline activated queued stood) c e =
+      same _ _ _ _ _ _ _ _ _ _ _ _ _ _ _ _ refl (first-more is_overdue (found (Overdue thread number age deadline activated queued stood)) (told allowed rest) c.overdue refl) refl refl refl refl refl refl
+  told-first (Untaken note word age deadline set) c e =
+      same _ _ _ _ _ _ _ _ _ _ _ _ _ _ _ _ refl refl (first-more is_untaken (found (Untaken note word age deadline set)) (told allowed rest) c.untaken refl) refl refl refl refl refl
   told-first (Lost note word) c e =
-      rw e (same _ _ _ _ _ _ _ _ _ _ _ _ _ _ refl refl (first-more is_lost (found (Lost note word)) (told allowed rest) c.lost refl) refl refl refl refl)
+      rw e (same _ _ _ _ _ _ _ _ _ _ _ _ _ _ _ _ refl refl refl (first-more is_lost (found (Lost note word)) (told allowed rest) c.lost refl) refl refl refl refl)
   told-first (Never thread deadline) c e =
-      same _ _ _ _ _ _ _ _ _ _ _ _ _ _ refl refl refl (first-more is_never (found (Never thread deadline)) (told allowed rest) c.never refl) refl refl refl
+      same _ _ _ _ _ _ _ _ _ _ _ _ _ _ _ _ refl refl refl refl (first-more is_never (found (Never thread deadline)) (told allowed rest) c.never refl) refl refl refl
 
   one-first : (f : Finding) (c : Counts) (b : Bool) → is_allowed allowed f ≡ b
       → counts_with allowed (found_at moment core (Some f) ++ rest) merged 0 c ≡ counts_with allowed rest merged 0 (taken allowed (Some f) c)
@@ -117,7 +121,7 @@ module _ (allowed : List Bool) (moment core : ℕ) (rest : List Found) (merged :
 
   with-merged : (b : Bool) (c : Counts)
       → counts_with allowed rest ((if b then 1 else 0) + merged) 0 c ≡ counts_with allowed rest merged 0 (if b then record c { merged = one_more c.merged } else c)
-  with-merged true c = same _ _ _ _ _ _ _ _ _ _ _ _ _ _ refl refl refl refl (cap-suc c.merged _) refl refl
+  with-merged true c = same _ _ _ _ _ _ _ _ _ _ _ _ _ _ _ _ refl refl refl refl refl (cap-suc c.merged _) refl refl
   with-merged false c = ap (λ many. counts_with allowed rest many 0 c) (zero-plus merged)
 
 pub sums-found : (allowed : List Bool) (found : List Found) (c : Counts) → IsWithin c → counts_found allowed found c ≡ counts_with allowed found 0 0 c
@@ -169,6 +173,7 @@ cap-hints n h = omega arith
 pub sums-all : (allowed : List Bool) (xs ys : List Found) (merged hints : ℕ) (c : Counts)
     → counts_with allowed (xs ++ ys) merged hints c ≡ with_hints hints (counts_with allowed ys 0 0 (counts_with allowed xs merged 0 c))
 sums-all allowed xs ys merged hints c =
-    same _ _ _ _ _ _ _ _ _ _ _ _ _ _
-    (sum-both allowed is_miss xs ys c.missed) (sum-both allowed is_overdue xs ys c.overdue) (sum-both allowed is_lost xs ys c.lost)
+    same _ _ _ _ _ _ _ _ _ _ _ _ _ _ _ _
+    (sum-both allowed is_miss xs ys c.missed) (sum-both allowed is_overdue xs ys c.overdue) (sum-both allowed is_untaken xs ys c.untaken)
+    (sum-both allowed is_lost xs ys c.lost)
     (sum-both allowed is_never xs ys c.never) (cap-again c.merged merged) (sum-all (is_allowed allowed) xs ys c.allowed) (cap-hints c.hints hints)

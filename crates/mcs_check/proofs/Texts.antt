@@ -3,7 +3,7 @@ use Rattle.std.proofs.Common.{◌≡◌, ◌∙◌, ◌++◌, [], ℕ, ◌+◌, 
 use Rattle.mcs_ticks.specs.Capped.{capped}
 use Rattle.mcs_system.specs.System.{System}
 use Rattle.mcs_core.specs.Clock.{schedule}
-use Rattle.mcs_verdict.specs.Findings.{InOrder, found_at_end, found_in, past_of}
+use Rattle.mcs_verdict.specs.Findings.{InOrder, all_at_end, found_in, past_of}
 use Rattle.mcs_check_words.specs.declared.asked.Format.{Format}
 use Rattle.mcs_check_words.specs.declared.asked.Show.{Show}
 use Rattle.mcs_check_words.specs.declared.asked.Show.TheVariants as show
@@ -20,7 +20,7 @@ use Rattle.mcs_check_lines.specs.declared.unjudged.Unjudged.{Unjudged}
 use Rattle.mcs_check_lines.specs.Checked.{chain_counts}
 use Rattle.mcs_check_lines.specs.Deadlines.{chain_deadlines, thread_deadlines}
 use Rattle.mcs_check_lines.specs.Unjudged.{unjudged_line}
-use Rattle.mcs_check.specs.Judged.{all_unjudged, judged_rounds, overdue_many}
+use Rattle.mcs_check.specs.Judged.{all_unjudged, judged_rounds, waiting_many}
 use Rattle.mcs_check_run.specs.Allowed.{flags_of}
 use Rattle.mcs_check.specs.Check.{check_text, counts_of, figures_lines, findings_lines, shown_lines, thread_counts_of}
 use Rattle.mcs_check_lines.specs.Counts.{no_counts, with_hints}
@@ -38,7 +38,7 @@ use Rattle.mcs_check.proofs.Sums.{none-within, rows-within, sums-all, sums-found
 abbrev pub rest_of : Format → Show → List (List ℕ) → System → ℕ → List ℕ
 rest_of how asked names system horizon =
     rest_lines how asked system (flags_of names system.notes) (all_due None 0 (chains_of system (past_of [] (schedule system horizon))).each)
-    (found_at_end system (past_of [] (schedule system horizon)) horizon 0 system.threads)
+    (all_at_end system (past_of [] (schedule system horizon)) horizon)
     (all_unanswered system (past_of [] (schedule system horizon)) horizon 0 system.chains) (all_unjudged system (past_of [] (schedule system horizon)) horizon)
     ++ tabled_lines how asked system horizon (past_of [] (schedule system horizon))
 
@@ -56,14 +56,14 @@ module _ (names : List (List ℕ)) (system : System) (horizon : ℕ) where
   module _ (order : InOrder [] (schedule system horizon)) where
     findings-are : (how : Format) → lines_of (row_lines system flags how show.Findings) [] (schedule system horizon)
         ++ ends_lines how system flags (all_due None 0 (chains_of system (past_of [] (schedule system horizon))).each)
-        (found_at_end system (past_of [] (schedule system horizon)) horizon 0 system.threads) (all_unanswered system (past_of [] (schedule system horizon)) horizon 0 system.chains)
+        (all_at_end system (past_of [] (schedule system horizon)) horizon) (all_unanswered system (past_of [] (schedule system horizon)) horizon 0 system.chains)
         (all_unjudged system (past_of [] (schedule system horizon)) horizon)
         ≡ findings_lines names system horizon how
     findings-are how =
         let past = past_of [] (schedule system horizon) in
         let lines = lines_of (row_lines system flags how show.Findings) [] (schedule system horizon) in
         let due = chain_found_lines how system (all_due None 0 (chains_of system past).each) in
-        let ends = found_lines how system flags (found_at_end system past horizon 0 system.threads) in
+        let ends = found_lines how system flags (all_at_end system past horizon) in
         let left = chain_found_lines how system (all_unanswered system past horizon 0 system.chains) in
         let open_ones = flat_map (unjudged_line how system) (all_unjudged system past horizon) in
         let hinted = flat_map (hint_line how system) (hints_of system) in
@@ -79,7 +79,7 @@ module _ (names : List (List ℕ)) (system : System) (horizon : ℕ) where
     shown-is how show.Both =
         let rows = lines_of (row_lines system flags how show.Findings) [] (schedule system horizon) in
         let past = past_of [] (schedule system horizon) in
-        let ends = ends_lines how system flags (all_due None 0 (chains_of system past).each) (found_at_end system past horizon 0 system.threads) (all_unanswered system past horizon 0 system.chains) (all_unjudged system past horizon) in
+        let ends = ends_lines how system flags (all_due None 0 (chains_of system past).each) (all_at_end system past horizon) (all_unanswered system past horizon 0 system.chains) (all_unjudged system past horizon) in
         let figures = figures_lines names system horizon how in
         ap (λ l. l ++ (ends ++ figures)) (both-rows how system flags [] (schedule system horizon))
         ∙ sym (append_assoc rows ends figures) ∙ ap (λ l. l ++ figures) (findings-are how)
@@ -96,11 +96,11 @@ module _ (names : List (List ℕ)) (system : System) (horizon : ℕ) where
       ∙ sym (append_assoc (head_text how asked system) (shown_lines names system horizon how asked) counted)
 
   pub counts-are : with_hints (length (hints_of system))
-      (counts_found flags (found_at_end system (past_of [] (schedule system horizon)) horizon 0 system.threads)
+      (counts_found flags (all_at_end system (past_of [] (schedule system horizon)) horizon)
       (counts_in system flags [] (schedule system horizon) no_counts)) ≡ thread_counts_of names system horizon
   counts-are =
       let rows = schedule system horizon in
-      let ends = found_at_end system (past_of [] rows) horizon 0 system.threads in
+      let ends = all_at_end system (past_of [] rows) horizon in
       ap (with_hints (length (hints_of system)))
       (sums-found flags ends (counts_in system flags [] rows no_counts) (rows-within system flags [] rows no_counts none-within)
       ∙ ap (λ c. counts_with flags ends 0 0 c) (sums-rows system flags [] rows no_counts none-within))
@@ -113,13 +113,13 @@ module _ (names : List (List ℕ)) (system : System) (horizon : ℕ) where
       → due ≡ all_due None 0 (chains_of system (past_of [] (schedule system horizon))).each
       → unanswered ≡ all_unanswered system (past_of [] (schedule system horizon)) horizon 0 system.chains
       → unjudged ≡ all_unjudged system (past_of [] (schedule system horizon)) horizon
-      → text ≡ before ++ rest_lines how asked own allowed due (found_at_end own (past_of [] (schedule system horizon)) horizon 0 own.threads) unanswered unjudged
+      → text ≡ before ++ rest_lines how asked own allowed due (all_at_end own (past_of [] (schedule system horizon)) horizon) unanswered unjudged
       ++ tabled_lines how asked own horizon (past_of [] (schedule system horizon)) ++ counts_line how checked
       → text ≡ before ++ rest_text how asked names system horizon (counts_of names system horizon)
   behind how asked text before allowed own checked due unanswered unjudged flags_are system_is checked_is due_are unanswered_are unjudged_are put =
       let mine = rw (flags_are, system_is, checked_is, due_are, unanswered_are, unjudged_are) at put in
       let past = past_of [] (schedule system horizon) in
-      let ends = rest_lines how asked system flags (all_due None 0 (chains_of system past).each) (found_at_end system past horizon 0 system.threads)
+      let ends = rest_lines how asked system flags (all_due None 0 (chains_of system past).each) (all_at_end system past horizon)
       (all_unanswered system past horizon 0 system.chains) (all_unjudged system past horizon) in
       let figures = tabled_lines how asked system horizon past in
       mine ∙ ap (λ l. l ++ counts_line how (counts_of names system horizon)) (append_assoc before ends figures)
@@ -128,7 +128,7 @@ module _ (names : List (List ℕ)) (system : System) (horizon : ℕ) where
   -- and how much is counted
   pub counts-put : (allowed : List Bool) (own : System) (kept counts : Counts) → allowed ≡ flags → own ≡ system
       → kept ≡ counts_in system flags [] (schedule system horizon) no_counts
-      → counts ≡ with_hints (length (hints_of own)) (counts_found allowed (found_at_end own (past_of [] (schedule system horizon)) horizon 0 own.threads) kept)
+      → counts ≡ with_hints (length (hints_of own)) (counts_found allowed (all_at_end own (past_of [] (schedule system horizon)) horizon) kept)
       → counts ≡ thread_counts_of names system horizon
   counts-put allowed own kept counts flags_are system_is kept_are put = rw (flags_are, system_is, kept_are) at put ∙ counts-are
 
@@ -136,7 +136,7 @@ module _ (names : List (List ℕ)) (system : System) (horizon : ℕ) where
   pub checked-put : (own : System) (found : AllFound) → own ≡ system → found.counts ≡ thread_counts_of names system horizon
       → found.slow ≡ all_slow_many (chains_of system (past_of [] (schedule system horizon))).each
       → found.unanswered.items ≡ all_unanswered system (past_of [] (schedule system horizon)) horizon 0 system.chains
-      → found.unended.items ≡ found_at_end system (past_of [] (schedule system horizon)) horizon 0 system.threads
+      → found.unended.items ≡ all_at_end system (past_of [] (schedule system horizon)) horizon
       → found.rounds ≡ capped (judged_rounds system (past_of [] (schedule system horizon)))
       → found.answers ≡ all_judged_many (chains_of system (past_of [] (schedule system horizon))).each
       → found.unjudged.items ≡ all_unjudged system (past_of [] (schedule system horizon)) horizon
@@ -157,4 +157,4 @@ module _ (names : List (List ℕ)) (system : System) (horizon : ℕ) where
         };
         chains = chain_counts system past horizon;
       }) (capped-sum (judged_rounds system past) (all_judged system past system.chains)
-      (overdue_many (found_at_end system past horizon 0 system.threads)) (length (all_unanswered system past horizon 0 system.chains))))
+      (waiting_many (all_at_end system past horizon)) (length (all_unanswered system past horizon 0 system.chains))))

@@ -2,7 +2,7 @@
 use Rattle.std.specs.Prelude.{◌≡◌, ◌++◌, ℕ, Bool, true, false, List, [], ◌∷◌, Some, None, codes, replicate, refl}
 use Rattle.std.specs.Fmt.{digits}
 use Rattle.serde_json.proofs.OnLiterals.{serde_json_on_literals}
-use Rattle.mcs_script.specs.declared.item.Item.TheVariants.{Compute}
+use Rattle.mcs_script.specs.declared.item.Item.TheVariants.{Compute, Wait}
 use Rattle.mcs_control.specs.declared.config.Mode.TheVariants as mode
 use Rattle.mcs_system.specs.declared.part.NotePart.{NotePart}
 use Rattle.mcs_system.specs.declared.part.ThreadPart.{ThreadPart}
@@ -50,27 +50,27 @@ found moment core finding = record { moment = moment; core = core; finding = fin
 
 -- The round runs in [0, 2), [5, 7) and [10, 11): with a deadline of 10 it misses it by one tick ..
 whole_text : check_text [] (system 10) 20 format.Text show.Findings
-    ≡ codes "11 0 miss A round 1 response 11 deadline 10 activated 0 queued 0 ready 0 running 5 throttled 6 blocked 0 woken 0\n"
-    ++ codes "missed 1 overdue 0 lost 0 never 0 merged 0 allowed 0 unjudged 0 hints 0 threads 1 deadlines 1 judged 1\n"
+    ≡ codes "11 0 miss A round 1 response 11 deadline 10 activated 0 queued 0 ready 0 running 5 throttled 6 blocked 0 server 0\n"
+    ++ codes "missed 1 overdue 0 untaken 0 lost 0 never 0 merged 0 allowed 0 unjudged 0 hints 0 threads 1 deadlines 1 judged 1\n"
 unfolding row_lines system digits
 whole_text = refl
 
 -- .. and with one of 11 it is in time
-in_time : check_text [] (system 11) 20 format.Text show.Findings ≡ codes "missed 0 overdue 0 lost 0 never 0 merged 0 allowed 0 unjudged 0 hints 0 threads 1 deadlines 1 judged 1\n"
+in_time : check_text [] (system 11) 20 format.Text show.Findings ≡ codes "missed 0 overdue 0 untaken 0 lost 0 never 0 merged 0 allowed 0 unjudged 0 hints 0 threads 1 deadlines 1 judged 1\n"
 unfolding row_lines system digits
 in_time = refl
 
 -- at horizon 10 it is not ended, its deadline ago
 not_ended : check_text [] (system 10) 10 format.Text show.Findings
-    ≡ codes "10 0 overdue A deadline 10 activated 0 queued 0 ready 0 running 4 throttled 6 blocked 0 woken 0\n"
-    ++ codes "missed 0 overdue 1 lost 0 never 0 merged 0 allowed 0 unjudged 0 hints 0 threads 1 deadlines 1 judged 1\n"
+    ≡ codes "10 0 overdue A round 1 age 10 deadline 10 activated 0 queued 0 ready 0 running 4 throttled 6 blocked 0 server 0\n"
+    ++ codes "missed 0 overdue 1 untaken 0 lost 0 never 0 merged 0 allowed 0 unjudged 0 hints 0 threads 1 deadlines 1 judged 1\n"
 unfolding row_lines system digits
 not_ended = refl
 
 -- at horizon 9 nothing is judged: it was activated at 0, and its deadline is to come
 still_open : check_text [] (system 10) 9 format.Text show.Findings
     ≡ codes "9 0 unjudged A deadline 10 activated 0\n"
-    ++ codes "missed 0 overdue 0 lost 0 never 0 merged 0 allowed 0 unjudged 1 hints 0 threads 1 deadlines 1 judged 0\n"
+    ++ codes "missed 0 overdue 0 untaken 0 lost 0 never 0 merged 0 allowed 0 unjudged 1 hints 0 threads 1 deadlines 1 judged 0\n"
 unfolding row_lines system digits
 still_open = refl
 
@@ -85,42 +85,65 @@ code_in_time = refl
 
 -- as a job the round is shown whether it is in time or not, and is counted as before
 as_a_job : check_text [] (system 10) 20 format.Text show.Jobs
-    ≡ codes "11 0 job A round 1 activated 0 begun 0 response 11 queued 0 preemptions 0 ready 0 running 5 throttled 6 blocked 0 woken 0\n"
-    ++ codes "missed 1 overdue 0 lost 0 never 0 merged 0 allowed 0 unjudged 0 hints 0 threads 1 deadlines 1 judged 1\n"
+    ≡ codes "11 0 job A round 1 activated 0 begun 0 response 11 queued 0 preemptions 0 ready 0 running 5 throttled 6 blocked 0 server 0\n"
+    ++ codes "missed 1 overdue 0 untaken 0 lost 0 never 0 merged 0 allowed 0 unjudged 0 hints 0 threads 1 deadlines 1 judged 1\n"
 unfolding system digits
 as_a_job = refl
 
 in_time_as_a_job : check_text [] (system 11) 20 format.Text show.Jobs
-    ≡ codes "11 0 job A round 1 activated 0 begun 0 response 11 queued 0 preemptions 0 ready 0 running 5 throttled 6 blocked 0 woken 0\n"
-    ++ codes "missed 0 overdue 0 lost 0 never 0 merged 0 allowed 0 unjudged 0 hints 0 threads 1 deadlines 1 judged 1\n"
+    ≡ codes "11 0 job A round 1 activated 0 begun 0 response 11 queued 0 preemptions 0 ready 0 running 5 throttled 6 blocked 0 server 0\n"
+    ++ codes "missed 0 overdue 0 untaken 0 lost 0 never 0 merged 0 allowed 0 unjudged 0 hints 0 threads 1 deadlines 1 judged 1\n"
 unfolding system digits
 in_time_as_a_job = refl
 
 -- at horizon 10 no round has ended
-no_job : check_text [] (system 10) 10 format.Text show.Jobs ≡ codes "missed 0 overdue 1 lost 0 never 0 merged 0 allowed 0 unjudged 0 hints 0 threads 1 deadlines 1 judged 1\n"
+no_job : check_text [] (system 10) 10 format.Text show.Jobs ≡ codes "missed 0 overdue 1 untaken 0 lost 0 never 0 merged 0 allowed 0 unjudged 0 hints 0 threads 1 deadlines 1 judged 1\n"
 unfolding system digits
 no_job = refl
 
 -- In CSV the values that a finding has, and nothing but rows; in JSON an object a line, the counts too.
 as_rows : check_text [] (system 10) 20 format.Csv show.Findings
-    ≡ codes "moment,core,kind,thread,note,word,number,response,deadline,activated,queued,ready,running,throttled,blocked,woken\n"
-    ++ codes "11,0,miss,A,,,1,11,10,0,0,0,5,6,0,0\n"
+    ≡ codes "moment,core,kind,thread,note,word,number,response,age,deadline,activated,set,queued,ready,running,throttled,blocked,server\n"
+    ++ codes "11,0,miss,A,,,1,11,,10,0,,0,0,5,6,0,0\n"
 unfolding row_lines system digits
 as_rows = refl
 
 job_rows : check_text [] (system 10) 20 format.Csv show.Jobs
-    ≡ codes "moment,core,kind,thread,number,activated,begun,response,queued,preemptions,ready,running,throttled,blocked,woken\n"
+    ≡ codes "moment,core,kind,thread,number,activated,begun,response,queued,preemptions,ready,running,throttled,blocked,server\n"
     ++ codes "11,0,job,A,1,0,0,11,0,0,0,5,6,0,0\n"
 unfolding system digits
 job_rows = refl
 
 as_objects : check_text [] (system 10) 10 format.Json show.Findings
-    ≡ codes "{\"moment\":10,\"core\":0,\"kind\":\"overdue\",\"thread\":\"A\",\"deadline\":10,\"activated\":0,\"queued\":0,\"ready\":0,"
-    ++ codes "\"running\":4,\"throttled\":6,\"blocked\":0,\"woken\":0}\n"
-    ++ codes "{\"kind\":\"counts\",\"missed\":0,\"overdue\":1,\"lost\":0,\"never\":0,\"merged\":0,\"allowed\":0,\"unjudged\":0,\"hints\":0,"
+    ≡ codes "{\"moment\":10,\"core\":0,\"kind\":\"overdue\",\"thread\":\"A\",\"number\":1,\"age\":10,\"deadline\":10,\"activated\":0,\"queued\":0,\"ready\":0,"
+    ++ codes "\"running\":4,\"throttled\":6,\"blocked\":0,\"server\":0}\n"
+    ++ codes "{\"kind\":\"counts\",\"missed\":0,\"overdue\":1,\"untaken\":0,\"lost\":0,\"never\":0,\"merged\":0,\"allowed\":0,\"unjudged\":0,\"hints\":0,"
     ++ codes "\"threads\":1,\"deadlines\":1,\"judged\":1}\n"
 unfolding row_lines system digits serde_json_on_literals
 as_objects = refl
+
+-- A waits for `tick`, which holds a word at first, and starts at 30: at horizon 10 nobody has taken
+-- that word, its deadline ago
+late : System
+late = record (system 5) {
+  notes = record { name = codes "tick"; core = 0; word = 1 } ∷ [];
+  threads = record (thread 5) { start = 30; script = Wait 0 ∷ Compute 5 ∷ [] } ∷ [];
+}
+
+not_taken : check_text [] late 10 format.Text show.Findings
+    ≡ codes "10 0 never A deadline 5\n10 0 untaken tick by A word 1 age 10 deadline 5 set 0\n"
+    ++ codes "hint note tick is waited on and no script signals it\n"
+    ++ codes "missed 0 overdue 0 untaken 1 lost 0 never 1 merged 0 allowed 0 unjudged 0 hints 1 threads 1 deadlines 1 judged 1\n"
+unfolding row_lines late system digits
+not_taken = refl
+
+-- a tick before its deadline it is not told
+not_taken_yet : check_text [] late 4 format.Text show.Findings
+    ≡ codes "4 0 never A deadline 5\n"
+    ++ codes "hint note tick is waited on and no script signals it\n"
+    ++ codes "missed 0 overdue 0 untaken 0 lost 0 never 1 merged 0 allowed 0 unjudged 0 hints 1 threads 1 deadlines 1 judged 0\n"
+unfolding row_lines late system digits
+not_taken_yet = refl
 
 -- There are two lost signals. The one of `tick` is allowed: it has no line, and is counted
 -- separately.

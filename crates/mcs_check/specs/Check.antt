@@ -7,7 +7,7 @@ use Rattle.mcs_core.specs.Clock.{schedule}
 use Rattle.mcs_load.specs.Memory.{no_memory}
 use Rattle.mcs_hints.specs.Hints.{hints_of}
 use Rattle.mcs_verdict.specs.declared.finding.Found.{Found}
-use Rattle.mcs_verdict.specs.Findings.{findings, found_at_end, found_in, past_of}
+use Rattle.mcs_verdict.specs.Findings.{findings, all_at_end, found_in, past_of}
 use Rattle.mcs_cli.specs.Devices.{AppendsPrefix}
 use Rattle.mcs_cli.specs.Run.{IsFaultOfInput, IsRead, IsTooLong}
 use Rattle.mcs_cli.specs.declared.fault.RunFault.TheVariants as run
@@ -60,7 +60,7 @@ module _ (names : List (List ℕ)) (system : System) (horizon : ℕ) where
   abbrev pub findings_lines : Format → List ℕ
   findings_lines how =
       rows_lines how
-      ++ found_lines how system (flags_of names system.notes) (found_at_end system all_rows horizon 0 system.threads)
+      ++ found_lines how system (flags_of names system.notes) (all_at_end system all_rows horizon)
       ++ chain_found_lines how system (all_unanswered system all_rows horizon 0 system.chains)
       ++ flat_map (unjudged_line how system) (all_unjudged system all_rows horizon)
       ++ flat_map (hint_line how system) (hints_of system)

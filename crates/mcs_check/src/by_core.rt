@@ -4,7 +4,7 @@ ghost use Rattle.std.specs.Arc.{arc_value};
 ghost use Rattle.mcs_ticks.specs.Capped.{capped};
 ghost use Rattle.mcs_system.specs.WellFormed.{IsWellFormed};
 ghost use Rattle.mcs_core.specs.Clock.{schedule};
-ghost use Rattle.mcs_verdict.specs.Findings.{found_at_end, past_of};
+ghost use Rattle.mcs_verdict.specs.Findings.{all_at_end, found_at_end, past_of, untaken_at_end};
 ghost use Rattle.mcs_check_words.specs.declared.asked.Show.TheVariants.{Findings};
 ghost use Rattle.mcs_check.specs.Judged.{all_unjudged, judged_rounds};
 ghost use Rattle.mcs_check.specs.stored.Found.{counts_so_far};
@@ -23,7 +23,7 @@ use mcs_check_run::Progress;
 use mcs_cli::Target;
 use mcs_system::{System, SystemParts};
 use mcs_team::FlowFault;
-use mcs_ticks::{NoMemory, ThreadId, Tick};
+use mcs_ticks::{NoMemory, NoteId, ThreadId, Tick};
 use mcs_verdict::{Found, cores_are_watched, keep_finding};
 use std::alloc::Global;
 use std::marker::Brand;
@@ -56,7 +56,7 @@ pub(crate) fn look<T: Target, P: Progress>(
     requires run { arc_value shared.now ≡ lines.old.system.now }
     ensures counts { IfOk result (λ found. found.counts ≡ counts_so_far lines.old.system.now allowed.now (past_of [] (schedule lines.old.system.now horizon))) }
     ensures unended { IfOk result (λ found. found.unended.items
-        ≡ found_at_end lines.old.system.now (past_of [] (schedule lines.old.system.now horizon)) horizon 0 lines.old.system.now.threads) }
+        ≡ all_at_end lines.old.system.now (past_of [] (schedule lines.old.system.now horizon)) horizon) }
     ensures rounds { IfOk result (λ found. found.rounds ≡ capped (judged_rounds lines.old.system.now (past_of [] (schedule lines.old.system.now horizon)))) }
     ensures unjudged { IfOk result (λ found. found.unjudged.items ≡ all_unjudged lines.old.system.now (past_of [] (schedule lines.old.system.now horizon)) horizon) }
     ensures put { OnOk result (PutsLines T.contents T.has_failed lines.old
@@ -104,7 +104,7 @@ fn put_together(
     requires { length watches.now ≡ system.now.cores }
     ensures counts { IfOk result (λ found. found.counts ≡ are_counted_together watches.now) }
     ensures unended { (allowed : List Bool) (from : ℕ) → AreWatched system.now allowed from (replicate system.now.cores (horizon + 1)) watches.now
-        → IfOk result (λ found. found.unended.items ≡ found_at_end system.now (past_of [] (schedule system.now horizon)) horizon 0 system.now.threads) }
+        → IfOk result (λ found. found.unended.items ≡ all_at_end system.now (past_of [] (schedule system.now horizon)) horizon) }
     ensures rounds { (allowed : List Bool) (from : ℕ) → AreWatched system.now allowed from (replicate system.now.cores (horizon + 1)) watches.now
         → IfOk result (λ found. found.rounds ≡ capped (judged_rounds system.now (past_of [] (schedule system.now horizon)))) }
     ensures unjudged { (allowed : List Bool) (from : ℕ) → AreWatched system.now allowed from (replicate system.now.cores (horizon + 1)) watches.now
@@ -114,7 +114,7 @@ fn put_together(
     let ended = ended(alloc, parts, horizon, watches)?;
     Ok(FoundByCore {
         counts: counted(watches),
-        unended: unended(alloc, parts, horizon, watches)?,
+        unended: at_end(alloc, system, horizon, watches)?,
         rounds: ended.judged(parts.threads.as_slice()),
         unjudged: unjudged_by_core(alloc, parts, horizon, watches)?,
     })
@@ -131,7 +131,51 @@ fn counted(watches: &[CoreWatch]) -> Counts
     counts
 }
 
-/// The findings at the horizon, in the order of the threads. Each thread is asked for on its core.
+/// The findings at the horizon: by thread, and then by notification.
+fn at_end(
+    alloc: Global,
+    system: &System,
+    horizon: Tick,
+    watches: &[CoreWatch],
+) -> Result<Vec<Found>, NoMemory>
+    requires { length watches.now ≡ system.now.cores }
+    ensures { (allowed : List Bool) (from : ℕ) → AreWatched system.now allowed from (replicate system.now.cores (horizon + 1)) watches.now
+        → IfOk result (λ found. found.items ≡ all_at_end system.now (past_of [] (schedule system.now horizon)) horizon) }
+{
+    let parts = system.parts();
+    let mut found = unended(alloc, parts, horizon, watches)?;
+    keep_untaken(&mut found, system, horizon, watches)?;
+    Ok(found)
+}
+
+/// Appends the words that are untaken at the horizon, in the order of the notifications. Each is
+/// asked for on its core.
+fn keep_untaken(
+    found: &mut Vec<Found>,
+    system: &System,
+    horizon: Tick,
+    watches: &[CoreWatch],
+) -> Result<(), NoMemory>
+    requires { length watches.now ≡ system.now.cores }
+    ensures { (allowed : List Bool) (from : ℕ) → AreWatched system.now allowed from (replicate system.now.cores (horizon + 1)) watches.now
+        → IfOk result (λ _. found.new.items ≡ found.old.items
+        ++ untaken_at_end system.now (past_of [] (schedule system.now horizon)) horizon 0 system.now.notes) }
+{
+    cores_are_watched();
+    let parts = system.parts();
+    for number in 0..parts.notes.len() {
+        let core = system.home_of(NoteId(number));
+        let finding = watches[core.0]
+            .watch
+            .accounts
+            .untaken(horizon, NoteId(number));
+        keep_finding(found, horizon, core, finding)?;
+    }
+    Ok(())
+}
+
+/// The findings of threads at the horizon, in the order of the threads. Each thread is asked for on
+/// its core.
 fn unended(
     alloc: Global,
     parts: &SystemParts,

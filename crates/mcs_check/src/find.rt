@@ -3,7 +3,7 @@ ghost use Rattle.std.specs.Prelude.{◌≡◌, [], List, None, false, IfErr, IfO
 ghost use Rattle.std.specs.Arc.{arc_value};
 ghost use Rattle.mcs_ticks.specs.Capped.{capped};
 ghost use Rattle.mcs_ticks.specs.declared.row.Row.{Row as TheRow};
-ghost use Rattle.mcs_verdict.specs.Findings.{found_at_end, UpTo};
+ghost use Rattle.mcs_verdict.specs.Findings.{all_at_end, UpTo};
 ghost use Rattle.mcs_chain.specs.Found.{all_unanswered};
 ghost use Rattle.mcs_chain.specs.Watch.{all_due, all_judged_many, all_slow_many, watch_of as chains_of};
 ghost use Rattle.mcs_cli.specs.Flow.{IsWriteFault};
@@ -225,7 +225,7 @@ fn all_found(
     ensures unanswered { (past : List TheRow) → seen.watch ≡ watches_of system.now past →
         IfOk result (λ found. found.unanswered.items ≡ all_unanswered system.now past horizon 0 system.now.chains) }
     ensures unended { (past : List TheRow) → seen.watch ≡ watches_of system.now past → UpTo horizon past →
-        IfOk result (λ found. found.unended.items ≡ found_at_end system.now past horizon 0 system.now.threads) }
+        IfOk result (λ found. found.unended.items ≡ all_at_end system.now past horizon) }
     ensures rounds { (past : List TheRow) → seen.watch ≡ watches_of system.now past → IfOk result (λ found. found.rounds ≡ capped (judged_rounds system.now past)) }
     ensures answers { (past : List TheRow) → seen.watch ≡ watches_of system.now past → IfOk result (λ found. found.answers ≡ all_judged_many (chains_of system.now past).each) }
     ensures unjudged { (past : List TheRow) → seen.watch ≡ watches_of system.now past → UpTo horizon past →

@@ -1,7 +1,7 @@
 //! The counts of all that was found, and how much was judged.
 ghost use Rattle.std.specs.Prelude.{◌≡◌};
 ghost use Rattle.mcs_check_lines.specs.Checked.{if_chains};
-ghost use Rattle.mcs_check.specs.Judged.{overdue_many};
+ghost use Rattle.mcs_check.specs.Judged.{waiting_many};
 ghost use Rattle.mcs_check.specs.stored.AllFound.{checked_of, scope_with};
 
 use crate::all_found::AllFound;
@@ -44,22 +44,27 @@ fn scope_with(system: &System, all: &AllFound) -> Scope
     let (threads, chains) = (&system.parts().threads, &system.parts().chains);
     let deadlines = thread_deadlines(threads.as_slice()) + chain_deadlines(chains.as_slice());
     let ended = all.rounds.saturating_add(all.answers);
-    let overdue = overdue_many(all.unended.as_slice()) as u64;
+    let waiting = waiting_many(all.unended.as_slice()) as u64;
     let unanswered = all.unanswered.len() as u64;
     Scope {
         unjudged: all.unjudged.len() as u64,
         threads: threads.len() as u64,
         deadlines: deadlines as u64,
-        judged: ended.saturating_add(overdue).saturating_add(unanswered),
+        judged: ended.saturating_add(waiting).saturating_add(unanswered),
     }
 }
 
-/// How many of these findings are overdue rounds.
-fn overdue_many(found: &[Found]) -> usize
-    ensures { result ≡ overdue_many found.now }
+/// How many of these findings are overdue rounds or untaken words.
+fn waiting_many(found: &[Found]) -> usize
+    ensures { result ≡ waiting_many found.now }
 {
     found
         .iter()
-        .filter(|one| matches!(one.finding, Finding::Overdue { .. }))
+        .filter(|one| {
+            matches!(
+                one.finding,
+                Finding::Overdue { .. } | Finding::Untaken { .. }
+            )
+        })
         .count()
 }

@@ -5,45 +5,26 @@ ghost use Rattle.mcs_ticks.specs.declared.row.Row.{Row as TheRow};
 ghost use Rattle.mcs_system.specs.System.{System as TheSystem, thread_part};
 ghost use Rattle.mcs_verdict.specs.Findings.{UpTo};
 ghost use Rattle.mcs_verdict.specs.Watch.{watch_of};
-ghost use Rattle.mcs_check.specs.Judged.{all_unjudged, earlier, first_activated, is_unjudged, unjudged};
+ghost use Rattle.mcs_check.specs.Judged.{all_unjudged, first_activated, is_unjudged, unjudged};
 ghost use Rattle.mcs_check.specs.stored.Threads.{threads_of};
 
 use crate::thread_watch::ThreadWatch;
 use mcs_check_lines::Unjudged;
-use mcs_system::SystemParts;
-use mcs_ticks::{CoreId, NoMemory, Row, ThreadId, Tick, What};
-use mcs_verdict::Watch;
+use mcs_system::{SystemParts, ThreadPart};
+use mcs_ticks::{NoMemory, ThreadId, Tick};
+use mcs_verdict::{Watch, first_wait};
 use std::alloc::Global;
 
-fn earlier(moment: Tick, other: Option<Tick>) -> Tick
-    ensures { result ≡ earlier moment other }
-{
-    match other {
-        Some(other) if other.get() < moment.get() => other,
-        _ => moment,
-    }
-}
-
-/// When the first round of the thread was activated, if none ended.
-fn first_activated(watch: &Watch, horizon: Tick, thread: ThreadId) -> Tick
+/// The tick at which the first round of the thread was activated, if none ended and it is under way.
+fn first_activated(watch: &Watch, horizon: Tick, thread: ThreadId, part: &ThreadPart) -> Option<u64>
     ensures { (system : TheSystem) (past : List TheRow) → watch.now ≡ watch_of system past → UpTo horizon past → thread < length system.threads →
-        result ≡ first_activated system past horizon thread }
+        part.now ≡ thread_part system thread → result ≡ first_activated system past horizon thread }
 {
-    // the round under way, as if it ended at the horizon
-    let end = Row {
-        moment: horizon,
-        core: CoreId(0),
-        what: What::Round {
-            thread,
-            number: 1,
-            response: 0,
-        },
-    };
-    let activated = match watch.job(&end) {
-        Some(job) => job.activated,
-        None => horizon,
-    };
-    earlier(activated, watch.word_set(thread))
+    match (watch.activated(horizon, thread), first_wait(part)) {
+        (Some(activated), _) => Some(activated.get()),
+        (None, None) => Some(horizon.get()),
+        (None, Some(_)) => None,
+    }
 }
 
 /// Whether a thread with this deadline is unjudged at the horizon.
@@ -77,7 +58,7 @@ pub(crate) fn unjudged(
         core: parts.core_of_thread(part),
         thread,
         deadline: part.deadline,
-        activated: first_activated(&watch.accounts, horizon, thread),
+        activated: first_activated(&watch.accounts, horizon, thread, part),
     })
 }
 

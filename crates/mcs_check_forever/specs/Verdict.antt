@@ -1,5 +1,5 @@
 -- The text and the verdict of a system for all time.
-use Rattle.std.specs.Prelude.{◌≡◌, ℕ, Bool, not, ◌==◌, ◌&&◌, ◌||◌, if◌then◌else◌, List, ◌++◌, length, flat_map, count_by, is_some}
+use Rattle.std.specs.Prelude.{◌≡◌, ℕ, Bool, not, ◌==◌, ◌||◌, if◌then◌else◌, List, ◌++◌, length, flat_map, count_by, is_some}
 use Rattle.std.specs.List.{sum_by}
 use Rattle.mcs_ticks.specs.Capped.{capped}
 use Rattle.mcs_system.specs.System.{System}
@@ -45,14 +45,9 @@ told_text how system told =
     flat_map (λ (t : Told). lines_text (line_format how) system t.lines.items) told
     ++ line_text (line_format how) system (Sets (totals_of system told))
 
--- the number of sets that repeat and whose threads are all settled
-abbrev pub settled : List Told → ℕ
-settled told = count_by (λ (t : Told). is_some t.period && t.unsettled == 0) told
-
--- that there is no finding says nothing if a set does not repeat, if a thread is not settled, or if
--- no thread has a deadline
+-- that there is no finding says nothing if a set does not repeat, or if no thread has a deadline
 abbrev pub says_nothing : System → List Told → Bool
-says_nothing system told = not (settled told == length told) || thread_deadlines system.threads == 0
+says_nothing system told = not (repeating told == length told) || thread_deadlines system.threads == 0
 
 -- a finding; or no finding for ever; or no finding so far
 abbrev pub verdict_of : System → List Told → Verdict

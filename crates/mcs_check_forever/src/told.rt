@@ -2,7 +2,7 @@
 ghost use Rattle.std.specs.Prelude.{◌≡◌, ◌++◌, flat_map, IfOk, OnOk};
 ghost use Rattle.mcs_ever_told.specs.Formats.{lines_text};
 ghost use Rattle.mcs_ever_told.specs.declared.outlook.told.Told.{Told as ToldSet};
-ghost use Rattle.mcs_check_forever.specs.Verdict.{findings, line_format, repeating, says_nothing, settled, told_text, totals_of, verdict_of};
+ghost use Rattle.mcs_check_forever.specs.Verdict.{findings, line_format, repeating, says_nothing, told_text, totals_of, verdict_of};
 
 use crate::Verdict;
 use mcs_check_lines::thread_deadlines;
@@ -90,21 +90,12 @@ pub(crate) fn text_of(
     Ok(text)
 }
 
-/// The number of sets that repeat and whose threads are all settled.
-fn settled(told: &[Told]) -> usize
-    ensures { result ≡ settled told.now }
-{
-    told.iter()
-        .filter(|set| set.period.is_some() && set.unsettled == 0)
-        .count()
-}
-
-/// Whether it says nothing that there is no finding: a set does not repeat, a thread is unsettled,
-/// or no thread has a deadline.
+/// Whether it says nothing that there is no finding: a set does not repeat, or no thread has a
+/// deadline.
 fn says_nothing(system: &System, told: &[Told]) -> bool
     ensures { result ≡ says_nothing system.now told.now }
 {
-    settled(told) != told.len() || thread_deadlines(system.parts().threads.as_slice()) == 0
+    repeating(told) != told.len() || thread_deadlines(system.parts().threads.as_slice()) == 0
 }
 
 /// The verdict of all sets.

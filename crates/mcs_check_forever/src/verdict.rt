@@ -7,12 +7,12 @@ use mcs_check_lines::code;
 #[derive(Clone, Copy, Debug, PartialEq, Eq)]
 pub enum Verdict {
     /// There is a thread with a deadline, and every set of cores repeats and has no finding, for
-    /// ever: each thread is settled.
+    /// ever.
     Clean,
     /// There is a finding.
     Found,
-    /// There is no finding so far, but some set of cores was not found to repeat, a thread is not
-    /// settled, or no thread has a deadline.
+    /// There is no finding so far, but some set of cores was not found to repeat, or no thread has a
+    /// deadline.
     Open,
 }
 

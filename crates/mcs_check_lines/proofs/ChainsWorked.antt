@@ -47,7 +47,7 @@ slow_text : chain_found_line format.Text system (found 12 1 (Slow 9 8 3)) ≡ co
 unfolding system digits
 slow_text = refl
 
-slow_row : chain_found_line format.Csv system (found 12 1 (Slow 9 8 3)) ≡ codes "12,1,slow,,,,,,,,,,,,,,e,9,8,3\n"
+slow_row : chain_found_line format.Csv system (found 12 1 (Slow 9 8 3)) ≡ codes "12,1,slow,,,,,,,,,,,,,,,,e,9,8,3\n"
 unfolding system digits
 slow_row = refl
 
@@ -61,7 +61,7 @@ unanswered_text : chain_found_line format.Text system (found 25 1 (Unanswered 8 
 unfolding system digits
 unanswered_text = refl
 
-unanswered_row : chain_found_line format.Csv system (found 25 1 (Unanswered 8 13)) ≡ codes "25,1,unanswered,,,,,,,,,,,,,,e,,8,13\n"
+unanswered_row : chain_found_line format.Csv system (found 25 1 (Unanswered 8 13)) ≡ codes "25,1,unanswered,,,,,,,,,,,,,,,,e,,8,13\n"
 unfolding system digits
 unanswered_row = refl
 
@@ -86,7 +86,7 @@ answering =
 
 -- the columns of findings
 columns : head_text format.Csv show.Findings system
-    ≡ codes "moment,core,kind,thread,note,word,number,response,deadline,activated,queued,ready,running,throttled,blocked,woken"
+    ≡ codes "moment,core,kind,thread,note,word,number,response,age,deadline,activated,set,queued,ready,running,throttled,blocked,server"
     ++ codes ",chain,latency,deadline,origin\n"
 unfolding system
 columns = refl
@@ -125,14 +125,14 @@ figures_object = refl
 -- the columns of the table
 table_columns : head_text format.Csv show.Table system
     ≡ codes "kind,thread,core,priority,budget,period,granted,used,rounds,greatest,p50,p90,p99,deadline,margin,missed,late,lost,merged"
-    ++ codes ",ticks_pending,ticks_ready,ticks_running,ticks_throttled,ticks_blocked,ticks_woken,ticks_done"
+    ++ codes ",ticks_pending,ticks_ready,ticks_running,ticks_throttled,ticks_blocked,ticks_server,ticks_done"
     ++ codes ",chain,interrupts,answers,least,greatest,total,p50,p90,p99,deadline,margin\n"
 unfolding system
 table_columns = refl
 
 -- the columns of jobs
 job_columns : head_text format.Csv show.Jobs system
-    ≡ codes "moment,core,kind,thread,number,activated,begun,response,queued,preemptions,ready,running,throttled,blocked,woken"
+    ≡ codes "moment,core,kind,thread,number,activated,begun,response,queued,preemptions,ready,running,throttled,blocked,server"
     ++ codes ",chain,latency,deadline,origin\n"
 unfolding system
 job_columns = refl
@@ -149,7 +149,7 @@ job =
       response = 4;
       queued = 0;
       preemptions = 1;
-      stood = record { pending = 0; ready = 1; running = 3; throttled = 0; blocked = 0; woken = 0; done = 0 };
+      stood = record { pending = 0; ready = 1; running = 3; throttled = 0; blocked = 0; server = 0; done = 0 };
     }
 
 job_row : job_line format.Csv answering job ≡ codes "12,1,job,C,2,8,8,4,0,1,1,3,0,0,0,,,,\n"
@@ -190,12 +190,12 @@ abbrev scope : Scope
 scope = record { unjudged = 4; threads = 9; deadlines = 8; judged = 50 }
 
 counts_text : counts_line format.Text (record { counts = counts; scope = scope; chains = Some (record { slow = 3; unanswered = 1 }) })
-    ≡ codes "missed 2 overdue 0 lost 0 never 0 merged 0 allowed 0 unjudged 4 hints 1 threads 9 deadlines 8 judged 50 slow 3 unanswered 1\n"
+    ≡ codes "missed 2 overdue 0 untaken 0 lost 0 never 0 merged 0 allowed 0 unjudged 4 hints 1 threads 9 deadlines 8 judged 50 slow 3 unanswered 1\n"
 unfolding digits
 counts_text = refl
 
 no_chain_text : counts_line format.Text (record { counts = counts; scope = scope; chains = None })
-    ≡ codes "missed 2 overdue 0 lost 0 never 0 merged 0 allowed 0 unjudged 4 hints 1 threads 9 deadlines 8 judged 50\n"
+    ≡ codes "missed 2 overdue 0 untaken 0 lost 0 never 0 merged 0 allowed 0 unjudged 4 hints 1 threads 9 deadlines 8 judged 50\n"
 unfolding digits
 no_chain_text = refl
 

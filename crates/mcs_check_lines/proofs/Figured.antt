@@ -46,7 +46,7 @@ came_to deadline rounds margin signals =
       deadline = deadline;
       margin = margin;
       signals = signals;
-      stood = record { pending = 0; ready = 0; running = 5; throttled = 6; blocked = 0; woken = 0; done = 9 };
+      stood = record { pending = 0; ready = 0; running = 5; throttled = 6; blocked = 0; server = 0; done = 9 };
     }
 
 -- one round, whose response is a tick above the deadline
@@ -60,7 +60,7 @@ missed = came_to 10 one_round (Some (Over 1)) None
 missed_text : thread_line format.Text system 0 missed
     ≡ codes "thread A core 0 priority 5 budget 2 period 5 granted 400000 used 250000 rounds 1 greatest 11 p50 11 p90 11 p99 11 deadline 10"
     ++ codes " margin -1 missed 1 late 1 lost - merged - ticks_pending 0 ticks_ready 0 ticks_running 5 ticks_throttled 6 ticks_blocked 0"
-    ++ codes " ticks_woken 0 ticks_done 9\n"
+    ++ codes " ticks_server 0 ticks_done 9\n"
 unfolding system digits
 missed_text = refl
 
@@ -77,7 +77,7 @@ three_rounds =
 early_text : thread_line format.Text system 0 (came_to 12 three_rounds (Some (Left 3)) (Some (record { lost = 2; merged = 1 })))
     ≡ codes "thread A core 0 priority 5 budget 2 period 5 granted 400000 used 250000 rounds 3 greatest 9 p50 4 p90 8 p99 9 deadline 12"
     ++ codes " margin 3 missed 1 late 0 lost 2 merged 1 ticks_pending 0 ticks_ready 0 ticks_running 5 ticks_throttled 6 ticks_blocked 0"
-    ++ codes " ticks_woken 0 ticks_done 9\n"
+    ++ codes " ticks_server 0 ticks_done 9\n"
 unfolding system digits
 early_text = refl
 
@@ -88,7 +88,7 @@ no_round = record { ended = 0; greatest = None; fiftieth = None; ninetieth = Non
 no_round_object : thread_line format.Json system 0 (came_to 0 no_round None None)
     ≡ codes "{\"kind\":\"thread\",\"thread\":\"A\",\"core\":0,\"priority\":5,\"budget\":2,\"period\":5,\"granted\":400000,"
     ++ codes "\"used\":250000,\"rounds\":0,\"missed\":0,\"late\":0,\"ticks_pending\":0,\"ticks_ready\":0,\"ticks_running\":5,"
-    ++ codes "\"ticks_throttled\":6,\"ticks_blocked\":0,\"ticks_woken\":0,\"ticks_done\":9}\n"
+    ++ codes "\"ticks_throttled\":6,\"ticks_blocked\":0,\"ticks_server\":0,\"ticks_done\":9}\n"
 unfolding system digits serde_json_on_literals
 no_round_object = refl
 

@@ -22,6 +22,9 @@ in_time_is_well = refl
 missed_one : status_of false (record in_time { counts = record no_counts { missed = 1 } }) ≡ 5
 missed_one = refl
 
+untaken_one : status_of false (record in_time { counts = record no_counts { untaken = 1 } }) ≡ 5
+untaken_one = refl
+
 -- what is lost is found, even if nothing is judged
 lost_one : status_of false (record nothing { counts = record no_counts { lost = 1 } }) ≡ 5
 lost_one = refl

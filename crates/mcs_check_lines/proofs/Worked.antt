@@ -1,15 +1,16 @@
 -- Lines, worked by hand.
-use Rattle.std.specs.Prelude.{◌≡◌, ℕ, List, [], ◌∷◌, codes, map, refl}
+use Rattle.std.specs.Prelude.{◌≡◌, ◌++◌, ℕ, List, [], ◌∷◌, Some, None, codes, map, refl}
 use Rattle.std.specs.Fmt.{digits}
 use Rattle.serde_json.proofs.OnLiterals.{serde_json_on_literals}
-use Rattle.mcs_script.specs.declared.item.Item.TheVariants.{Compute}
+use Rattle.mcs_script.specs.declared.item.Item.{Item}
+use Rattle.mcs_script.specs.declared.item.Item.TheVariants.{Compute, Wait}
 use Rattle.mcs_control.specs.declared.config.Mode.TheVariants as mode
 use Rattle.mcs_system.specs.declared.part.NotePart.{NotePart}
 use Rattle.mcs_system.specs.declared.part.ThreadPart.{ThreadPart}
 use Rattle.mcs_system.specs.System.{System}
 use Rattle.mcs_hints.specs.declared.hint.Hint.TheVariants.{NoThread, NoDeadline, Unsignalled, Unawaited, Unhandled, Unheard, Inverted, Unbound, Unused, Overcommitted}
 use Rattle.mcs_verdict.specs.declared.finding.Finding.{Finding}
-use Rattle.mcs_verdict.specs.declared.finding.Finding.TheVariants.{Overdue, Lost, Never}
+use Rattle.mcs_verdict.specs.declared.finding.Finding.TheVariants.{Overdue, Untaken, Lost, Never}
 use Rattle.mcs_verdict.specs.declared.finding.Found.{Found}
 use Rattle.mcs_verdict.specs.declared.job.Job.{Job}
 use Rattle.mcs_verdict.specs.declared.standing.Stood.{Stood}
@@ -47,15 +48,15 @@ system deadline =
       chains = [];
     }
 
--- ready, running, throttled, blocked, woken
+-- ready, running, throttled, blocked, at a server
 abbrev parts : ℕ → ℕ → ℕ → ℕ → ℕ → Stood
-parts ready running throttled blocked woken =
-    record { pending = 0; ready = ready; running = running; throttled = throttled; blocked = blocked; woken = woken; done = 0 }
+parts ready running throttled blocked server =
+    record { pending = 0; ready = ready; running = running; throttled = throttled; blocked = blocked; server = server; done = 0 }
 
 abbrev found : ℕ → ℕ → Finding → Found
 found moment core finding = record { moment = moment; core = core; finding = finding }
 
-lost_row : found_line format.Csv (system 0) (found 12 3 (Lost 1 6)) ≡ codes "12,3,lost,,tock,6,,,,,,,,,,\n"
+lost_row : found_line format.Csv (system 0) (found 12 3 (Lost 1 6)) ≡ codes "12,3,lost,,tock,6,,,,,,,,,,,,\n"
 unfolding system digits
 lost_row = refl
 
@@ -90,7 +91,7 @@ called = record {
 }
 
 job_line : job_text (system 0) called
-    ≡ codes "50 0 job A round 3 activated 30 begun 34 response 20 queued 4 preemptions 2 ready 1 running 2 throttled 3 blocked 10 woken 0\n"
+    ≡ codes "50 0 job A round 3 activated 30 begun 34 response 20 queued 4 preemptions 2 ready 1 running 2 throttled 3 blocked 10 server 0\n"
 unfolding system digits
 job_line = refl
 
@@ -102,11 +103,46 @@ never_line : found_text (system 0) (found 40 0 (Never 0 7)) ≡ codes "40 0 neve
 unfolding system digits
 never_line = refl
 
--- a round that was activated 4 ticks before it began, and whose thread waits for a signal or was woken
-queued_line : found_text (system 0) (found 50 1 (Overdue 0 7 30 4 (parts 1 2 3 9 1)))
-    ≡ codes "50 1 overdue A deadline 7 activated 30 queued 4 ready 1 running 2 throttled 3 blocked 9 woken 1\n"
+-- a round that was activated 4 ticks before the round before it ended, and that waited for a taken
+-- server for a tick
+queued_line : found_text (system 0) (found 50 1 (Overdue 0 3 20 7 30 4 (parts 1 2 3 9 1)))
+    ≡ codes "50 1 overdue A round 3 age 20 deadline 7 activated 30 queued 4 ready 1 running 2 throttled 3 blocked 9 server 1\n"
 unfolding system digits
 queued_line = refl
+
+queued_row : found_line format.Csv (system 0) (found 50 1 (Overdue 0 3 20 7 30 4 (parts 1 2 3 9 1)))
+    ≡ codes "50,1,overdue,A,,,3,,20,7,30,,4,1,2,3,9,1\n"
+unfolding system digits
+queued_row = refl
+
+queued_object : found_line format.Json (system 0) (found 50 1 (Overdue 0 3 20 7 30 4 (parts 1 2 3 9 1)))
+    ≡ codes "{\"moment\":50,\"core\":1,\"kind\":\"overdue\",\"thread\":\"A\",\"number\":3,\"age\":20,\"deadline\":7,\"activated\":30,"
+    ++ codes "\"queued\":4,\"ready\":1,\"running\":2,\"throttled\":3,\"blocked\":9,\"server\":1}\n"
+unfolding system digits serde_json_on_literals
+queued_object = refl
+
+-- two workers wait for the same notification, the second one not first; nobody takes the word of 10
+worker : List ℕ → List Item → ThreadPart
+worker name script = record { name = name; context = 0; priority = 5; start = 0; rounds = 0; deadline = 5; script = script }
+
+pool : System
+pool = record (system 0) {
+  threads = worker (codes "Worker") (Wait 1 ∷ Compute 9 ∷ []) ∷ worker (codes "Clock") (Compute 1 ∷ Wait 0 ∷ Compute 1 ∷ [])
+      ∷ worker (codes "Other") (Compute 1 ∷ Wait 1 ∷ Compute 1 ∷ []) ∷ [];
+}
+
+untaken_line : found_text pool (found 31 0 (Untaken 1 6 21 5 10)) ≡ codes "31 0 untaken tock by Worker,Other word 6 age 21 deadline 5 set 10\n"
+unfolding pool worker system digits
+untaken_line = refl
+
+untaken_row : found_line format.Csv pool (found 31 0 (Untaken 1 6 21 5 10)) ≡ codes "31,0,untaken,,tock,6,,,21,5,,10,,,,,,\n"
+unfolding pool worker system digits
+untaken_row = refl
+
+untaken_object : found_line format.Json pool (found 31 0 (Untaken 1 6 21 5 10))
+    ≡ codes "{\"moment\":31,\"core\":0,\"kind\":\"untaken\",\"note\":\"tock\",\"by\":[\"Worker\",\"Other\"],\"word\":6,\"age\":21,\"deadline\":5,\"set\":10}\n"
+unfolding pool worker system digits serde_json_on_literals
+untaken_object = refl
 
 unsignalled_line : hint_text (system 0) (Unsignalled 0) ≡ codes "hint note tick is waited on and no script signals it\n"
 unfolding system
@@ -172,13 +208,13 @@ unused_object = refl
 
 -- the only round of A is under way since 10, 5 ticks before its deadline
 abbrev open_round : Unjudged
-open_round = record { moment = 12; core = 0; thread = 0; deadline = 7; activated = 10 }
+open_round = record { moment = 12; core = 0; thread = 0; deadline = 7; activated = Some 10 }
 
 unjudged_in_words : unjudged_text (system 0) open_round ≡ codes "12 0 unjudged A deadline 7 activated 10\n"
 unfolding system digits
 unjudged_in_words = refl
 
-unjudged_row : unjudged_line format.Csv (system 0) open_round ≡ codes "12,0,unjudged,A,,,,,7,10,,,,,,\n"
+unjudged_row : unjudged_line format.Csv (system 0) open_round ≡ codes "12,0,unjudged,A,,,,,,7,10,,,,,,,\n"
 unfolding system digits
 unjudged_row = refl
 
@@ -186,6 +222,23 @@ unjudged_object : unjudged_line format.Json (system 0) open_round
     ≡ codes "{\"moment\":12,\"core\":0,\"kind\":\"unjudged\",\"thread\":\"A\",\"deadline\":7,\"activated\":10}\n"
 unfolding system digits serde_json_on_literals
 unjudged_object = refl
+
+-- a spare worker: no round of it is under way
+abbrev spare : Unjudged
+spare = record { moment = 12; core = 0; thread = 0; deadline = 7; activated = None }
+
+spare_in_words : unjudged_text (system 0) spare ≡ codes "12 0 unjudged A deadline 7 activated -\n"
+unfolding system digits
+spare_in_words = refl
+
+spare_row : unjudged_line format.Csv (system 0) spare ≡ codes "12,0,unjudged,A,,,,,,7,,,,,,,,\n"
+unfolding system digits
+spare_row = refl
+
+spare_object : unjudged_line format.Json (system 0) spare
+    ≡ codes "{\"moment\":12,\"core\":0,\"kind\":\"unjudged\",\"thread\":\"A\",\"deadline\":7}\n"
+unfolding system digits serde_json_on_literals
+spare_object = refl
 
 unjudged_columns : (system : System) (u : Unjudged) → map (λ field. field.0) (unjudged_fields system u) ≡ column_names show.Findings
 unjudged_columns system u = refl

@@ -33,7 +33,7 @@ answer_fields system answer =
     (codes "moment", amount answer.moment) ∷ (codes "core", amount answer.core) ∷ (codes "kind", name (codes "answer"))
     ∷ (codes "thread", name (thread_name system answer.thread)) ∷ (codes "number", amount answer.number) ∷ (codes "activated", empty)
     ∷ (codes "begun", empty) ∷ (codes "response", empty) ∷ (codes "queued", empty) ∷ (codes "preemptions", empty) ∷ (codes "ready", empty)
-    ∷ (codes "running", empty) ∷ (codes "throttled", empty) ∷ (codes "blocked", empty) ∷ (codes "woken", empty)
+    ∷ (codes "running", empty) ∷ (codes "throttled", empty) ∷ (codes "blocked", empty) ∷ (codes "server", empty)
     ∷ (codes "chain", name (chain_name system answer.chain)) ∷ (codes "latency", amount answer.latency)
     ∷ (codes "deadline", deadline_known answer.deadline) ∷ (codes "origin", amount answer.origin) ∷ []
 

@@ -55,8 +55,8 @@ abbrev pub chain_found_fields : System → Found → Fields
 chain_found_fields system found =
     (codes "moment", amount found.moment) ∷ (codes "core", amount found.core) ∷ (codes "kind", name (chain_kind found.finding))
     ∷ (codes "thread", empty) ∷ (codes "note", empty) ∷ (codes "word", empty) ∷ (codes "number", empty) ∷ (codes "response", empty)
-    ∷ (codes "deadline", empty) ∷ (codes "activated", empty) ∷ (codes "queued", empty) ∷ (codes "ready", empty) ∷ (codes "running", empty)
-    ∷ (codes "throttled", empty) ∷ (codes "blocked", empty) ∷ (codes "woken", empty)
+    ∷ (codes "age", empty) ∷ (codes "deadline", empty) ∷ (codes "activated", empty) ∷ (codes "set", empty) ∷ (codes "queued", empty) ∷ (codes "ready", empty) ∷ (codes "running", empty)
+    ∷ (codes "throttled", empty) ∷ (codes "blocked", empty) ∷ (codes "server", empty)
     ∷ (codes "chain", name (chain_name system found.chain)) ∷ (codes "latency", latency_of found.finding)
     ∷ (codes "deadline", amount (chain_deadline found.finding)) ∷ (codes "origin", amount (origin_of found.finding)) ∷ []
 

@@ -3,12 +3,12 @@ use Rattle.std.specs.Prelude.{ℕ, ◌+◌, Bool, false, if◌then◌else◌, Li
 use Rattle.mcs_ticks.specs.Capped.{capped}
 pub use Rattle.mcs_ticks.specs.Capped.{one_more}
 use Rattle.mcs_verdict.specs.declared.finding.Finding.{Finding}
-use Rattle.mcs_verdict.specs.declared.finding.Finding.TheVariants.{Miss, Overdue, Lost, Never}
+use Rattle.mcs_verdict.specs.declared.finding.Finding.TheVariants.{Miss, Overdue, Untaken, Lost, Never}
 use Rattle.mcs_check_lines.specs.declared.counts.Counts.{Counts}
 
 -- all counts are 0
 abbrev pub no_counts : Counts
-no_counts = record { missed = 0; overdue = 0; lost = 0; never = 0; merged = 0; allowed = 0; hints = 0 }
+no_counts = record { missed = 0; overdue = 0; untaken = 0; lost = 0; never = 0; merged = 0; allowed = 0; hints = 0 }
 
 -- a lost signal of a notification at which this is allowed
 abbrev pub is_allowed : List Bool → Finding → Bool
@@ -23,7 +23,8 @@ told_of allowed (Some finding) = if is_allowed allowed finding then None else So
 -- one more finding
 abbrev pub added : Finding → Counts → Counts
 added (Miss thread number response deadline activated queued stood) counts = record counts { missed = one_more counts.missed }
-added (Overdue thread deadline activated queued stood) counts = record counts { overdue = one_more counts.overdue }
+added (Overdue thread number age deadline activated queued stood) counts = record counts { overdue = one_more counts.overdue }
+added (Untaken note word age deadline set) counts = record counts { untaken = one_more counts.untaken }
 added (Lost note word) counts = record counts { lost = one_more counts.lost }
 added (Never thread deadline) counts = record counts { never = one_more counts.never }
 
@@ -39,6 +40,7 @@ together a b =
     record {
       missed = capped (a.missed + b.missed);
       overdue = capped (a.overdue + b.overdue);
+      untaken = capped (a.untaken + b.untaken);
       lost = capped (a.lost + b.lost);
       never = capped (a.never + b.never);
       merged = capped (a.merged + b.merged);

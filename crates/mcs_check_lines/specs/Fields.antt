@@ -1,12 +1,12 @@
 -- Findings, jobs, counts and hints as named values.
 use Rattle.std.specs.Prelude.{ℕ, List, [], ◌∷◌, ◌++◌, codes, Option, Some, None}
-use Rattle.mcs_fields.specs.Fields.{Text, Value, amount, empty, name}
+use Rattle.mcs_fields.specs.Fields.{Text, Value, amount, empty, listed, name}
 use Rattle.mcs_system.specs.System.{System, core_of, thread_part}
 use Rattle.mcs_text.specs.Text.{context_name, note_name, source_name, thread_name}
 use Rattle.mcs_hints.specs.declared.hint.Hint.{Hint}
 use Rattle.mcs_hints.specs.declared.hint.Hint.TheVariants.{NoThread, NoDeadline, Unsignalled, Unawaited, Unhandled, Unheard, Inverted, Unbound, Unused, Overcommitted}
 use Rattle.mcs_verdict.specs.declared.finding.Finding.{Finding}
-use Rattle.mcs_verdict.specs.declared.finding.Finding.TheVariants.{Miss, Overdue, Lost, Never}
+use Rattle.mcs_verdict.specs.declared.finding.Finding.TheVariants.{Miss, Overdue, Untaken, Lost, Never}
 use Rattle.mcs_verdict.specs.declared.finding.Found.{Found}
 use Rattle.mcs_verdict.specs.declared.job.Job.{Job}
 use Rattle.mcs_verdict.specs.declared.standing.Stood.{Stood}
@@ -14,15 +14,16 @@ use Rattle.mcs_check_lines.specs.declared.checked.ChainCounts.{ChainCounts}
 use Rattle.mcs_check_lines.specs.declared.checked.Checked.{Checked}
 use Rattle.mcs_check_lines.specs.declared.checked.Scope.{Scope}
 use Rattle.mcs_check_lines.specs.declared.counts.Counts.{Counts}
+use Rattle.mcs_check_lines.specs.Lines.{taker_names}
 
 abbrev pub Fields : Type 0
 Fields = List (Text × Value)
 
--- how a thread stood since its round began
+-- how a thread stood in the parts of its round
 abbrev pub way_fields : Stood → Fields
 way_fields stood =
     (codes "ready", amount stood.ready) ∷ (codes "running", amount stood.running) ∷ (codes "throttled", amount stood.throttled)
-    ∷ (codes "blocked", amount stood.blocked) ∷ (codes "woken", amount stood.woken) ∷ []
+    ∷ (codes "blocked", amount stood.blocked) ∷ (codes "server", amount stood.server) ∷ []
 
 -- a job, in the order of its line
 abbrev pub job_fields : System → Job → Fields
@@ -35,65 +36,96 @@ job_fields system job =
 -- the kind of a finding
 abbrev pub kind_of : Finding → Text
 kind_of (Miss thread number response deadline activated queued stood) = codes "miss"
-kind_of (Overdue thread deadline activated queued stood) = codes "overdue"
+kind_of (Overdue thread number age deadline activated queued stood) = codes "overdue"
+kind_of (Untaken note word age deadline set) = codes "untaken"
 kind_of (Lost note word) = codes "lost"
 kind_of (Never thread deadline) = codes "never"
 
 -- the values that it has
 abbrev pub thread_of : System → Finding → Value
 thread_of system (Miss thread number response deadline activated queued stood) = name (thread_name system thread)
-thread_of system (Overdue thread deadline activated queued stood) = name (thread_name system thread)
+thread_of system (Overdue thread number age deadline activated queued stood) = name (thread_name system thread)
+thread_of system (Untaken note word age deadline set) = empty
 thread_of system (Lost note word) = empty
 thread_of system (Never thread deadline) = name (thread_name system thread)
 
 abbrev pub note_of : System → Finding → Value
+note_of system (Untaken note word age deadline set) = name (note_name system note)
 note_of system (Lost note word) = name (note_name system note)
 note_of system _ = empty
 
 abbrev pub word_of : Finding → Value
+word_of (Untaken note word age deadline set) = amount word
 word_of (Lost note word) = amount word
 word_of _ = empty
 
 abbrev pub number_of : Finding → Value
 number_of (Miss thread number response deadline activated queued stood) = amount number
+number_of (Overdue thread number age deadline activated queued stood) = amount number
 number_of _ = empty
 
 abbrev pub response_of : Finding → Value
 response_of (Miss thread number response deadline activated queued stood) = amount response
 response_of _ = empty
 
+-- the ticks since a round was activated, or a word set
+abbrev pub age_of : Finding → Value
+age_of (Overdue thread number age deadline activated queued stood) = amount age
+age_of (Untaken note word age deadline set) = amount age
+age_of _ = empty
+
 abbrev pub deadline_of : Finding → Value
 deadline_of (Miss thread number response deadline activated queued stood) = amount deadline
-deadline_of (Overdue thread deadline activated queued stood) = amount deadline
+deadline_of (Overdue thread number age deadline activated queued stood) = amount deadline
+deadline_of (Untaken note word age deadline set) = amount deadline
 deadline_of (Lost note word) = empty
 deadline_of (Never thread deadline) = amount deadline
 
 -- a number that only misses and overdue rounds have
 abbrev pub of_late : (ℕ → ℕ → Stood → ℕ) → Finding → Value
 of_late number (Miss thread _ response deadline activated queued stood) = amount (number activated queued stood)
-of_late number (Overdue thread deadline activated queued stood) = amount (number activated queued stood)
+of_late number (Overdue thread _ age deadline activated queued stood) = amount (number activated queued stood)
 of_late number _ = empty
 
--- a finding
-abbrev pub found_fields : System → Found → Fields
-found_fields system found =
+-- when the word was set that nobody has taken, and the threads that may take it
+abbrev pub set_of : Finding → Value
+set_of (Untaken note word age deadline set) = amount set
+set_of _ = empty
+
+abbrev pub by_of : System → Finding → Value
+by_of system (Untaken note word age deadline set) = listed (taker_names system note)
+by_of system _ = empty
+
+-- a finding, with these values behind its notification
+abbrev pub found_with : Fields → System → Found → Fields
+found_with more system found =
     let f = found.finding in
     (codes "moment", amount found.moment) ∷ (codes "core", amount found.core) ∷ (codes "kind", name (kind_of f))
-    ∷ (codes "thread", thread_of system f) ∷ (codes "note", note_of system f) ∷ (codes "word", word_of f)
-    ∷ (codes "number", number_of f) ∷ (codes "response", response_of f) ∷ (codes "deadline", deadline_of f)
+    ∷ (codes "thread", thread_of system f) ∷ (codes "note", note_of system f) ∷ more
+    ++ (codes "word", word_of f) ∷ (codes "number", number_of f) ∷ (codes "response", response_of f) ∷ (codes "age", age_of f)
+    ∷ (codes "deadline", deadline_of f)
     ∷ (codes "activated", of_late (λ activated queued stood. activated) f)
+    ∷ (codes "set", set_of f)
     ∷ (codes "queued", of_late (λ activated queued stood. queued) f)
     ∷ (codes "ready", of_late (λ activated queued stood. stood.ready) f)
     ∷ (codes "running", of_late (λ activated queued stood. stood.running) f)
     ∷ (codes "throttled", of_late (λ activated queued stood. stood.throttled) f)
     ∷ (codes "blocked", of_late (λ activated queued stood. stood.blocked) f)
-    ∷ (codes "woken", of_late (λ activated queued stood. stood.woken) f) ∷ []
+    ∷ (codes "server", of_late (λ activated queued stood. stood.server) f) ∷ []
+
+-- a finding in a row
+abbrev pub found_fields : System → Found → Fields
+found_fields system found = found_with [] system found
+
+-- a finding as an object, which can list threads
+abbrev pub found_members : System → Found → Fields
+found_members system found = found_with ((codes "by", by_of system found.finding) ∷ []) system found
 
 -- the counts
 abbrev pub counts_fields : Counts → Scope → Fields
 counts_fields counts scope =
     (codes "kind", name (codes "counts")) ∷ (codes "missed", amount counts.missed) ∷ (codes "overdue", amount counts.overdue)
-    ∷ (codes "lost", amount counts.lost) ∷ (codes "never", amount counts.never) ∷ (codes "merged", amount counts.merged)
+    ∷ (codes "untaken", amount counts.untaken) ∷ (codes "lost", amount counts.lost) ∷ (codes "never", amount counts.never) ∷ (codes "merged", amount counts.merged)
     ∷ (codes "allowed", amount counts.allowed) ∷ (codes "unjudged", amount scope.unjudged) ∷ (codes "hints", amount counts.hints)
     ∷ (codes "threads", amount scope.threads) ∷ (codes "deadlines", amount scope.deadlines) ∷ (codes "judged", amount scope.judged) ∷ []
 

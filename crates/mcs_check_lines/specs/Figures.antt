@@ -1,7 +1,7 @@
 -- The figures of threads and contexts, as named values and as lines.
-use Rattle.std.specs.Prelude.{ℕ, ◌==◌, if◌then◌else◌, Option, Some, None, List, [], ◌∷◌, ◌++◌, flat_map, suc, codes}
+use Rattle.std.specs.Prelude.{ℕ, false, ◌==◌, if◌then◌else◌, Option, Some, None, List, [], ◌∷◌, ◌++◌, flat_map, suc, codes}
 use Rattle.mcs_ticks.specs.declared.row.Row.{Row}
-use Rattle.mcs_fields.specs.Fields.{Text, Value, amount, below, empty, name, value_text}
+use Rattle.mcs_fields.specs.Fields.{Text, Value, amount, below, empty, joined, listed, name, value_text}
 use Rattle.mcs_system.specs.declared.part.ContextPart.{ContextPart}
 use Rattle.mcs_system.specs.declared.part.ThreadPart.{ThreadPart}
 use Rattle.mcs_system.specs.System.{System}
@@ -51,7 +51,7 @@ figure_fields f =
     ∷ (codes "lost", lost_value f.signals) ∷ (codes "merged", merged_value f.signals) ∷ (codes "ticks_pending", amount f.stood.pending)
     ∷ (codes "ticks_ready", amount f.stood.ready) ∷ (codes "ticks_running", amount f.stood.running)
     ∷ (codes "ticks_throttled", amount f.stood.throttled) ∷ (codes "ticks_blocked", amount f.stood.blocked)
-    ∷ (codes "ticks_woken", amount f.stood.woken) ∷ (codes "ticks_done", amount f.stood.done) ∷ []
+    ∷ (codes "ticks_server", amount f.stood.server) ∷ (codes "ticks_done", amount f.stood.done) ∷ []
 
 abbrev pub thread_fields : System → ℕ → Figures → Fields
 thread_fields system thread f =
@@ -65,6 +65,7 @@ context_fields system context unused =
 -- a value as a word
 abbrev pub value_word : Value → Text
 value_word empty = codes "-"
+value_word (listed texts) = joined false texts
 value_word value = value_text value
 
 -- each name, followed by its value

@@ -11,7 +11,7 @@ use Rattle.mcs_check_words.specs.declared.asked.Format.TheVariants as format
 use Rattle.mcs_check_words.specs.declared.asked.Show.{Show}
 use Rattle.mcs_check_words.specs.declared.asked.Show.TheVariants as show
 use Rattle.mcs_check_lines.specs.declared.checked.Checked.{Checked}
-use Rattle.mcs_check_lines.specs.Fields.{Fields, checked_fields, found_fields, hint_fields, job_fields}
+use Rattle.mcs_check_lines.specs.Fields.{Fields, checked_fields, found_fields, found_members, hint_fields, job_fields}
 use Rattle.mcs_check_lines.specs.Lines.{checked_text, found_text, hint_text, job_text}
 
 -- words as they are, a row of values, or an object of them
@@ -36,8 +36,14 @@ empty_in columns = map (λ column. (column, empty)) columns
 abbrev pub no_columns : Fields
 no_columns = empty_in chain_columns
 
+-- a row with the columns of chains, which are empty
+abbrev pub found_row : System → Found → Text
+found_row system found = row_text (map (λ f. f.1) (found_fields system found ++ if_chains system.chains no_columns))
+
 abbrev pub found_line : Format → System → Found → Text
-found_line how system found = written how (found_text system found) (found_fields system found ++ if_chains system.chains no_columns)
+found_line format.Text system found = found_text system found
+found_line format.Csv system found = found_row system found
+found_line format.Json system found = object_text (found_members system found)
 
 abbrev pub job_line : Format → System → Job → Text
 job_line how system job = written how (job_text system job) (job_fields system job ++ if_chains system.chains no_columns)
@@ -57,16 +63,16 @@ counts_line how checked = unless_rows how (checked_text checked) (checked_fields
 abbrev pub column_names : Show → List Text
 column_names show.Findings =
     codes "moment" ∷ codes "core" ∷ codes "kind" ∷ codes "thread" ∷ codes "note" ∷ codes "word" ∷ codes "number" ∷ codes "response"
-    ∷ codes "deadline" ∷ codes "activated" ∷ codes "queued" ∷ codes "ready" ∷ codes "running" ∷ codes "throttled" ∷ codes "blocked"
-    ∷ codes "woken" ∷ []
+    ∷ codes "age" ∷ codes "deadline" ∷ codes "activated" ∷ codes "set" ∷ codes "queued" ∷ codes "ready" ∷ codes "running"
+    ∷ codes "throttled" ∷ codes "blocked" ∷ codes "server" ∷ []
 column_names show.Jobs =
     codes "moment" ∷ codes "core" ∷ codes "kind" ∷ codes "thread" ∷ codes "number" ∷ codes "activated" ∷ codes "begun" ∷ codes "response"
-    ∷ codes "queued" ∷ codes "preemptions" ∷ codes "ready" ∷ codes "running" ∷ codes "throttled" ∷ codes "blocked" ∷ codes "woken" ∷ []
+    ∷ codes "queued" ∷ codes "preemptions" ∷ codes "ready" ∷ codes "running" ∷ codes "throttled" ∷ codes "blocked" ∷ codes "server" ∷ []
 column_names show.Table =
     codes "kind" ∷ codes "thread" ∷ codes "core" ∷ codes "priority" ∷ codes "budget" ∷ codes "period" ∷ codes "granted" ∷ codes "used"
     ∷ codes "rounds" ∷ codes "greatest" ∷ codes "p50" ∷ codes "p90" ∷ codes "p99" ∷ codes "deadline" ∷ codes "margin" ∷ codes "missed"
     ∷ codes "late" ∷ codes "lost" ∷ codes "merged" ∷ codes "ticks_pending" ∷ codes "ticks_ready" ∷ codes "ticks_running"
-    ∷ codes "ticks_throttled" ∷ codes "ticks_blocked" ∷ codes "ticks_woken" ∷ codes "ticks_done" ∷ []
+    ∷ codes "ticks_throttled" ∷ codes "ticks_blocked" ∷ codes "ticks_server" ∷ codes "ticks_done" ∷ []
 column_names show.Both = []
 
 -- findings and figures have different values, which CSV cannot show together

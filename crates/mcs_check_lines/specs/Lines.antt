@@ -1,24 +1,26 @@
 -- The lines of findings, jobs, counts and hints, as text.
-use Rattle.std.specs.Prelude.{ℕ, List, [], ◌∷◌, ◌++◌, codes, decimal, Option, Some, None}
+use Rattle.std.specs.Prelude.{ℕ, false, List, [], ◌∷◌, ◌++◌, codes, decimal, map, Option, Some, None}
+use Rattle.mcs_fields.specs.Fields.{joined}
 use Rattle.mcs_system.specs.System.{System, core_of, thread_part}
 use Rattle.mcs_text.specs.Text.{context_name, counted, line, note_name, source_name, thread_name}
 use Rattle.mcs_hints.specs.declared.hint.Hint.{Hint}
 use Rattle.mcs_hints.specs.declared.hint.Hint.TheVariants.{NoThread, NoDeadline, Unsignalled, Unawaited, Unhandled, Unheard, Inverted, Unbound, Unused, Overcommitted}
 use Rattle.mcs_verdict.specs.declared.finding.Finding.{Finding}
-use Rattle.mcs_verdict.specs.declared.finding.Finding.TheVariants.{Miss, Overdue, Lost, Never}
+use Rattle.mcs_verdict.specs.declared.finding.Finding.TheVariants.{Miss, Overdue, Untaken, Lost, Never}
 use Rattle.mcs_verdict.specs.declared.finding.Found.{Found}
 use Rattle.mcs_verdict.specs.declared.job.Job.{Job}
 use Rattle.mcs_verdict.specs.declared.standing.Stood.{Stood}
+use Rattle.mcs_verdict.specs.Takers.{takers}
 use Rattle.mcs_check_lines.specs.declared.checked.ChainCounts.{ChainCounts}
 use Rattle.mcs_check_lines.specs.declared.checked.Checked.{Checked}
 use Rattle.mcs_check_lines.specs.declared.checked.Scope.{Scope}
 use Rattle.mcs_check_lines.specs.declared.counts.Counts.{Counts}
 
--- how a thread stood since its round began
+-- how a thread stood in the parts of its round
 abbrev pub ways : Stood → List (List ℕ × ℕ)
 ways stood =
     (codes "ready", stood.ready) ∷ (codes "running", stood.running) ∷ (codes "throttled", stood.throttled)
-    ∷ (codes "blocked", stood.blocked) ∷ (codes "woken", stood.woken) ∷ []
+    ∷ (codes "blocked", stood.blocked) ∷ (codes "server", stood.server) ∷ []
 
 -- a round's deadline, its activation and its parts: how long it was queued, and how the thread
 -- stood
@@ -30,12 +32,27 @@ late_words deadline activated queued stood =
 abbrev pub response_words : ℕ → ℕ → List (List ℕ)
 response_words number response = counted ((codes "round", number) ∷ (codes "response", response) ∷ [])
 
+-- the number of a round under way, and the ticks since its activation
+abbrev pub age_words : ℕ → ℕ → List (List ℕ)
+age_words number age = counted ((codes "round", number) ∷ (codes "age", age) ∷ [])
+
+-- the names of the threads that may take a word of the notification, in the order of the file
+abbrev pub taker_names : System → ℕ → List (List ℕ)
+taker_names system note = map (λ part. part.name) (takers note system.threads)
+
+-- a word, the ticks since it was set, its deadline, and when it was set
+abbrev pub held_words : ℕ → ℕ → ℕ → ℕ → List (List ℕ)
+held_words word age deadline set =
+    counted ((codes "word", word) ∷ (codes "age", age) ∷ (codes "deadline", deadline) ∷ (codes "set", set) ∷ [])
+
 -- a finding and its numbers
 abbrev pub found_words : System → Finding → List (List ℕ)
 found_words system (Miss thread number response deadline activated queued stood) =
     codes "miss" ∷ thread_name system thread ∷ response_words number response ++ late_words deadline activated queued stood
-found_words system (Overdue thread deadline activated queued stood) =
-    codes "overdue" ∷ thread_name system thread ∷ late_words deadline activated queued stood
+found_words system (Overdue thread number age deadline activated queued stood) =
+    codes "overdue" ∷ thread_name system thread ∷ age_words number age ++ late_words deadline activated queued stood
+found_words system (Untaken note word age deadline set) =
+    codes "untaken" ∷ note_name system note ∷ codes "by" ∷ joined false (taker_names system note) ∷ held_words word age deadline set
 found_words system (Lost note word) = codes "lost" ∷ note_name system note ∷ counted ((codes "word", word) ∷ [])
 found_words system (Never thread deadline) = codes "never" ∷ thread_name system thread ∷ counted ((codes "deadline", deadline) ∷ [])
 
@@ -60,7 +77,7 @@ job_text system job = line (decimal job.ended) (decimal (core_of system (thread_
 -- the counts behind the first word, and those of chains, if the file has a chain
 abbrev pub counts_words : Counts → Scope → List (List ℕ)
 counts_words counts scope =
-    decimal counts.missed ∷ counted ((codes "overdue", counts.overdue) ∷ (codes "lost", counts.lost)
+    decimal counts.missed ∷ counted ((codes "overdue", counts.overdue) ∷ (codes "untaken", counts.untaken) ∷ (codes "lost", counts.lost)
     ∷ (codes "never", counts.never) ∷ (codes "merged", counts.merged) ∷ (codes "allowed", counts.allowed)
     ∷ (codes "unjudged", scope.unjudged) ∷ (codes "hints", counts.hints) ∷ (codes "threads", scope.threads)
     ∷ (codes "deadlines", scope.deadlines) ∷ (codes "judged", scope.judged) ∷ [])

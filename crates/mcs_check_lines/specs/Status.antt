@@ -6,7 +6,7 @@ use Rattle.mcs_check_lines.specs.declared.counts.Counts.{Counts}
 
 -- merged signals and allowed lost signals are no findings
 abbrev pub is_found_of_threads : Counts → Bool
-is_found_of_threads counts = not (counts.missed + counts.overdue + counts.lost + counts.never == 0)
+is_found_of_threads counts = not (counts.missed + counts.overdue + counts.untaken + counts.lost + counts.never == 0)
 
 abbrev pub is_found_of_chains : Option ChainCounts → Bool
 is_found_of_chains None = false

@@ -4,7 +4,7 @@ use Rattle.mcs_ticks.specs.Capped.{capped}
 use Rattle.mcs_ticks.specs.declared.row.Row.{Row}
 use Rattle.mcs_system.specs.System.{System}
 use Rattle.mcs_verdict.specs.declared.finding.Finding.{Finding}
-use Rattle.mcs_verdict.specs.declared.finding.Finding.TheVariants.{Miss, Overdue, Lost, Never}
+use Rattle.mcs_verdict.specs.declared.finding.Finding.TheVariants.{Miss, Overdue, Untaken, Lost, Never}
 use Rattle.mcs_verdict.specs.declared.finding.Found.{Found}
 use Rattle.mcs_verdict.specs.declared.job.Job.{Job}
 use Rattle.mcs_verdict.specs.Jobs.{job_of}
@@ -43,8 +43,12 @@ is_miss (Miss thread number response deadline activated queued stood) = true
 is_miss _ = false
 
 abbrev pub is_overdue : Finding → Bool
-is_overdue (Overdue thread deadline activated queued stood) = true
+is_overdue (Overdue thread number age deadline activated queued stood) = true
 is_overdue _ = false
+
+abbrev pub is_untaken : Finding → Bool
+is_untaken (Untaken note word age deadline set) = true
+is_untaken _ = false
 
 abbrev pub is_never : Finding → Bool
 is_never (Never thread deadline) = true
@@ -68,6 +72,7 @@ abbrev pub counts_with : List Bool → List Found → ℕ → ℕ → Counts →
 counts_with allowed found merged hints counts = record {
   missed = more is_miss (told allowed found) counts.missed;
   overdue = more is_overdue (told allowed found) counts.overdue;
+  untaken = more is_untaken (told allowed found) counts.untaken;
   lost = more is_lost (told allowed found) counts.lost;
   never = more is_never (told allowed found) counts.never;
   merged = capped (counts.merged + merged);

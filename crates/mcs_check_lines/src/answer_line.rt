@@ -94,7 +94,7 @@ fn answer_fields<'s>(system: &'s System, answer: &Answer) -> [Field<'s>; 19]
         ("running", Cell::Empty),
         ("throttled", Cell::Empty),
         ("blocked", Cell::Empty),
-        ("woken", Cell::Empty),
+        ("server", Cell::Empty),
         ("chain", Cell::Name(chain_name(system, answer.chain))),
         ("latency", Cell::Number(answer.latency)),
         ("deadline", deadline(answer.deadline)),

@@ -61,7 +61,7 @@ fn no_thread() -> [Field<'static>; 26]
         ("ticks_running", Cell::Empty),
         ("ticks_throttled", Cell::Empty),
         ("ticks_blocked", Cell::Empty),
-        ("ticks_woken", Cell::Empty),
+        ("ticks_server", Cell::Empty),
         ("ticks_done", Cell::Empty),
     ]
 }

@@ -137,7 +137,7 @@ fn origin(finding: &Finding) -> Tick
 }
 
 /// The values of a finding; those of other findings are empty.
-fn chain_found_fields<'s>(system: &'s System, found: &Found) -> [Field<'s>; 20]
+fn chain_found_fields<'s>(system: &'s System, found: &Found) -> [Field<'s>; 22]
     ensures { map field_of result ≡ chain_found_fields system.now found.now }
 {
     let finding = &found.finding;
@@ -150,14 +150,16 @@ fn chain_found_fields<'s>(system: &'s System, found: &Found) -> [Field<'s>; 20]
         ("word", Cell::Empty),
         ("number", Cell::Empty),
         ("response", Cell::Empty),
+        ("age", Cell::Empty),
         ("deadline", Cell::Empty),
         ("activated", Cell::Empty),
+        ("set", Cell::Empty),
         ("queued", Cell::Empty),
         ("ready", Cell::Empty),
         ("running", Cell::Empty),
         ("throttled", Cell::Empty),
         ("blocked", Cell::Empty),
-        ("woken", Cell::Empty),
+        ("server", Cell::Empty),
         ("chain", Cell::Name(chain_name(system, found.chain))),
         ("latency", latency(finding)),
         ("deadline", Cell::Number(deadline_of(finding))),

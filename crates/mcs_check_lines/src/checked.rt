@@ -15,14 +15,15 @@ pub struct ChainCounts {
 /// How much a check judges.
 #[derive(Clone, Copy, Debug, PartialEq, Eq)]
 pub struct Scope {
-    /// Threads with a deadline that were activated and ended no round, without a finding.
+    /// Threads with a deadline that ended no round and have no finding, though one of the words for
+    /// which they wait first was taken, or they were ready or running.
     pub unjudged: u64,
     /// Threads of the file.
     pub threads: u64,
     /// Threads and chains with a deadline.
     pub deadlines: u64,
-    /// Rounds of threads with a deadline that ended, overdue rounds, answers of chains with a
-    /// deadline, and unanswered chains; at most 2^64 - 1.
+    /// Rounds of threads with a deadline that ended, overdue rounds, untaken words, answers of
+    /// chains with a deadline, and unanswered chains; at most 2^64 - 1.
     pub judged: u64,
 }
 
@@ -59,7 +60,8 @@ pub fn code(wrong: bool, nothing: bool) -> u8
 fn is_found_of_threads(counts: &Counts) -> bool
     ensures { result ≡ is_found_of_threads counts.now }
 {
-    counts.missed != 0 || counts.overdue != 0 || counts.lost != 0 || counts.never != 0
+    let late = counts.missed != 0 || counts.overdue != 0 || counts.untaken != 0;
+    late || counts.lost != 0 || counts.never != 0
 }
 
 fn is_found_of_chains(chains: Option<ChainCounts>) -> bool

@@ -8,7 +8,7 @@ use mcs_fields::put_names;
 use mcs_system::System;
 use mcs_ticks::NoMemory;
 
-static FINDINGS: [&str; 16] = [
+static FINDINGS: [&str; 18] = [
     "moment",
     "core",
     "kind",
@@ -17,18 +17,20 @@ static FINDINGS: [&str; 16] = [
     "word",
     "number",
     "response",
+    "age",
     "deadline",
     "activated",
+    "set",
     "queued",
     "ready",
     "running",
     "throttled",
     "blocked",
-    "woken",
+    "server",
 ];
 
 /// The columns of findings in a file with a chain.
-static WIDE_FINDINGS: [&str; 20] = [
+static WIDE_FINDINGS: [&str; 22] = [
     "moment",
     "core",
     "kind",
@@ -37,14 +39,16 @@ static WIDE_FINDINGS: [&str; 20] = [
     "word",
     "number",
     "response",
+    "age",
     "deadline",
     "activated",
+    "set",
     "queued",
     "ready",
     "running",
     "throttled",
     "blocked",
-    "woken",
+    "server",
     "chain",
     "latency",
     "deadline",
@@ -66,7 +70,7 @@ static JOBS: [&str; 15] = [
     "running",
     "throttled",
     "blocked",
-    "woken",
+    "server",
 ];
 
 /// The columns of jobs in a file with a chain.
@@ -85,7 +89,7 @@ static WIDE_JOBS: [&str; 19] = [
     "running",
     "throttled",
     "blocked",
-    "woken",
+    "server",
     "chain",
     "latency",
     "deadline",
@@ -117,7 +121,7 @@ static TABLE: [&str; 26] = [
     "ticks_running",
     "ticks_throttled",
     "ticks_blocked",
-    "ticks_woken",
+    "ticks_server",
     "ticks_done",
 ];
 
@@ -147,7 +151,7 @@ static WIDE_TABLE: [&str; 37] = [
     "ticks_running",
     "ticks_throttled",
     "ticks_blocked",
-    "ticks_woken",
+    "ticks_server",
     "ticks_done",
     "chain",
     "interrupts",

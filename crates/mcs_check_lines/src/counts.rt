@@ -10,6 +10,8 @@ pub struct Counts {
     pub missed: u64,
     /// Overdue rounds, which can only end with a miss.
     pub overdue: u64,
+    /// Words that nobody has taken for so long that whoever takes one misses its deadline.
+    pub untaken: u64,
     /// Lost activations: signals that did not change the word.
     pub lost: u64,
     /// Threads with a deadline that were never activated.
@@ -30,6 +32,7 @@ impl Counts {
         Counts {
             missed: 0,
             overdue: 0,
+            untaken: 0,
             lost: 0,
             never: 0,
             merged: 0,
@@ -58,6 +61,7 @@ impl Counts {
     {
         self.missed = self.missed.saturating_add(more.missed);
         self.overdue = self.overdue.saturating_add(more.overdue);
+        self.untaken = self.untaken.saturating_add(more.untaken);
         self.lost = self.lost.saturating_add(more.lost);
         self.never = self.never.saturating_add(more.never);
         self.merged = self.merged.saturating_add(more.merged);
@@ -72,6 +76,7 @@ impl Counts {
         match finding {
             Finding::Miss { .. } => self.missed = self.missed.saturating_add(1),
             Finding::Overdue { .. } => self.overdue = self.overdue.saturating_add(1),
+            Finding::Untaken { .. } => self.untaken = self.untaken.saturating_add(1),
             Finding::Lost { .. } => self.lost = self.lost.saturating_add(1),
             Finding::Never { .. } => self.never = self.never.saturating_add(1),
         }

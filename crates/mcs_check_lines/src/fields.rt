@@ -1,15 +1,17 @@
 //! Findings, jobs and counts as named values.
-ghost use Rattle.std.specs.Prelude.{◌≡◌, ◌++◌, Some, map};
-ghost use Rattle.mcs_fields.specs.Fields.{field_of, value_of};
+ghost use Rattle.std.specs.Prelude.{◌≡◌, ◌++◌, Some, OnOk, OnErr, map};
+ghost use Rattle.mcs_fields.specs.Fields.{field_of, object_text, value_of};
 ghost use Rattle.mcs_check_lines.specs.Formats.{no_columns};
-ghost use Rattle.mcs_check_lines.specs.Fields.{chain_count_fields, counts_fields, deadline_of, found_fields, job_fields, kind_of, note_of, number_of, of_late, response_of, thread_of, word_of};
+ghost use Rattle.mcs_check_lines.specs.Fields.{age_of, by_of, chain_count_fields, counts_fields, deadline_of, found_fields, found_members, job_fields, kind_of, note_of, number_of, of_late, response_of, set_of, thread_of, word_of};
 
 use crate::line::core_of;
 use crate::{ChainCounts, Counts, Scope};
-use mcs_fields::{Cell, Field};
+use mcs_fields::{Cell, Field, put_object};
 use mcs_system::System;
 use mcs_text::{note_name, thread_name};
+use mcs_ticks::NoMemory;
 use mcs_verdict::{Finding, Found, Job};
+use std::alloc::Global;
 
 /// The values of a job.
 pub(crate) fn job_fields<'s>(system: &'s System, job: &Job) -> [Field<'s>; 15]
@@ -30,12 +32,12 @@ pub(crate) fn job_fields<'s>(system: &'s System, job: &Job) -> [Field<'s>; 15]
         ("running", Cell::Number(job.stood.running)),
         ("throttled", Cell::Number(job.stood.throttled)),
         ("blocked", Cell::Number(job.stood.blocked)),
-        ("woken", Cell::Number(job.stood.woken)),
+        ("server", Cell::Number(job.stood.server)),
     ]
 }
 
 /// The values of a finding.
-pub(crate) fn found_fields<'s>(system: &'s System, found: &Found) -> [Field<'s>; 16]
+pub(crate) fn found_fields<'s>(system: &'s System, found: &Found) -> [Field<'s>; 18]
     ensures { map field_of result ≡ found_fields system.now found.now }
 {
     let finding = &found.finding;
@@ -49,19 +51,21 @@ pub(crate) fn found_fields<'s>(system: &'s System, found: &Found) -> [Field<'s>;
         ("word", word(finding)),
         ("number", number(finding)),
         ("response", response(finding)),
+        ("age", age(finding)),
         ("deadline", deadline(finding)),
         ("activated", late.activated),
+        ("set", set(finding)),
         ("queued", late.queued),
         ("ready", late.ready),
         ("running", late.running),
         ("throttled", late.throttled),
         ("blocked", late.blocked),
-        ("woken", late.woken),
+        ("server", late.server),
     ]
 }
 
 /// The values of a finding, behind which those of chains are empty.
-pub(crate) fn wide_found_fields<'s>(system: &'s System, found: &Found) -> [Field<'s>; 20]
+pub(crate) fn wide_found_fields<'s>(system: &'s System, found: &Found) -> [Field<'s>; 22]
     ensures { map field_of result ≡ found_fields system.now found.now ++ no_columns }
 {
     let finding = &found.finding;
@@ -75,19 +79,67 @@ pub(crate) fn wide_found_fields<'s>(system: &'s System, found: &Found) -> [Field
         ("word", word(finding)),
         ("number", number(finding)),
         ("response", response(finding)),
+        ("age", age(finding)),
         ("deadline", deadline(finding)),
         ("activated", late.activated),
+        ("set", set(finding)),
         ("queued", late.queued),
         ("ready", late.ready),
         ("running", late.running),
         ("throttled", late.throttled),
         ("blocked", late.blocked),
-        ("woken", late.woken),
+        ("server", late.server),
         ("chain", Cell::Empty),
         ("latency", Cell::Empty),
         ("deadline", Cell::Empty),
         ("origin", Cell::Empty),
     ]
+}
+
+/// The values of a finding in an object. `by` lists the threads that may take a word.
+fn found_members<'s>(system: &'s System, found: &Found, by: Cell<'s>) -> [Field<'s>; 19]
+    requires { value_of by ≡ by_of system.now found.now.finding }
+    ensures { map field_of result ≡ found_members system.now found.now }
+{
+    let finding = &found.finding;
+    let late = late_values(finding);
+    [
+        ("moment", Cell::Number(found.moment.get())),
+        ("core", Cell::Number(found.core.0 as u64)),
+        ("kind", Cell::Name(kind(finding))),
+        ("thread", thread(system, finding)),
+        ("note", note(system, finding)),
+        ("by", by),
+        ("word", word(finding)),
+        ("number", number(finding)),
+        ("response", response(finding)),
+        ("age", age(finding)),
+        ("deadline", deadline(finding)),
+        ("activated", late.activated),
+        ("set", set(finding)),
+        ("queued", late.queued),
+        ("ready", late.ready),
+        ("running", late.running),
+        ("throttled", late.throttled),
+        ("blocked", late.blocked),
+        ("server", late.server),
+    ]
+}
+
+/// Appends a finding as a JSON object. `by` lists the threads that may take a word. If memory runs
+/// out the text is unchanged.
+pub(crate) fn put_members(
+    alloc: Global,
+    text: &mut Vec<u8>,
+    system: &System,
+    found: &Found,
+    by: Cell<'_>,
+) -> Result<(), NoMemory>
+    requires { value_of by ≡ by_of system.now found.now.finding }
+    ensures ok { OnOk result (text.new.items ≡ text.old.items ++ object_text (found_members system.now found.now)) }
+    ensures err { OnErr result (text.new.items ≡ text.old.items) }
+{
+    put_object(alloc, text, found_members(system, found, by).as_slice())
 }
 
 fn kind(finding: &Finding) -> &'static str
@@ -96,6 +148,7 @@ fn kind(finding: &Finding) -> &'static str
     match finding {
         Finding::Miss { .. } => "miss",
         Finding::Overdue { .. } => "overdue",
+        Finding::Untaken { .. } => "untaken",
         Finding::Lost { .. } => "lost",
         Finding::Never { .. } => "never",
     }
@@ -108,7 +161,7 @@ fn thread<'s>(system: &'s System, finding: &Finding) -> Cell<'s>
         Finding::Miss { thread, .. }
         | Finding::Overdue { thread, .. }
         | Finding::Never { thread, .. } => Cell::Name(thread_name(system, thread)),
-        Finding::Lost { .. } => Cell::Empty,
+        Finding::Untaken { .. } | Finding::Lost { .. } => Cell::Empty,
     }
 }
 
@@ -116,7 +169,9 @@ fn note<'s>(system: &'s System, finding: &Finding) -> Cell<'s>
     ensures { value_of result ≡ note_of system.now finding.now }
 {
     match *finding {
-        Finding::Lost { note, .. } => Cell::Name(note_name(system, note)),
+        Finding::Untaken { note, .. } | Finding::Lost { note, .. } => {
+            Cell::Name(note_name(system, note))
+        }
         _ => Cell::Empty,
     }
 }
@@ -125,7 +180,9 @@ fn word<'s>(finding: &Finding) -> Cell<'s>
     ensures { value_of result ≡ word_of finding.now }
 {
     match *finding {
-        Finding::Lost { word, .. } => Cell::Number(u64::from(word)),
+        Finding::Untaken { word, .. } | Finding::Lost { word, .. } => {
+            Cell::Number(u64::from(word))
+        }
         _ => Cell::Empty,
     }
 }
@@ -134,7 +191,7 @@ fn number<'s>(finding: &Finding) -> Cell<'s>
     ensures { value_of result ≡ number_of finding.now }
 {
     match *finding {
-        Finding::Miss { number, .. } => Cell::Number(number),
+        Finding::Miss { number, .. } | Finding::Overdue { number, .. } => Cell::Number(number),
         _ => Cell::Empty,
     }
 }
@@ -148,12 +205,33 @@ fn response<'s>(finding: &Finding) -> Cell<'s>
     }
 }
 
+/// The ticks since a round was activated, or a word set.
+fn age<'s>(finding: &Finding) -> Cell<'s>
+    ensures { value_of result ≡ age_of finding.now }
+{
+    match *finding {
+        Finding::Overdue { age, .. } | Finding::Untaken { age, .. } => Cell::Number(age),
+        _ => Cell::Empty,
+    }
+}
+
+/// When the word was set that nobody has taken.
+fn set<'s>(finding: &Finding) -> Cell<'s>
+    ensures { value_of result ≡ set_of finding.now }
+{
+    match *finding {
+        Finding::Untaken { set, .. } => Cell::Number(set.get()),
+        _ => Cell::Empty,
+    }
+}
+
 fn deadline<'s>(finding: &Finding) -> Cell<'s>
     ensures { value_of result ≡ deadline_of finding.now }
 {
     match *finding {
         Finding::Miss { deadline, .. }
         | Finding::Overdue { deadline, .. }
+        | Finding::Untaken { deadline, .. }
         | Finding::Never { deadline, .. } => Cell::Number(deadline),
         Finding::Lost { .. } => Cell::Empty,
     }
@@ -168,7 +246,7 @@ struct Late<'s> {
     running: Cell<'s>,
     throttled: Cell<'s>,
     blocked: Cell<'s>,
-    woken: Cell<'s>,
+    server: Cell<'s>,
 }
 
 fn late_values<'s>(finding: &Finding) -> Late<'s>
@@ -178,7 +256,7 @@ fn late_values<'s>(finding: &Finding) -> Late<'s>
     ensures running { value_of result.running ≡ of_late (λ activated queued stood. stood.running) finding.now }
     ensures throttled { value_of result.throttled ≡ of_late (λ activated queued stood. stood.throttled) finding.now }
     ensures blocked { value_of result.blocked ≡ of_late (λ activated queued stood. stood.blocked) finding.now }
-    ensures woken { value_of result.woken ≡ of_late (λ activated queued stood. stood.woken) finding.now }
+    ensures server { value_of result.server ≡ of_late (λ activated queued stood. stood.server) finding.now }
 {
     match *finding {
         Finding::Miss {
@@ -199,7 +277,7 @@ fn late_values<'s>(finding: &Finding) -> Late<'s>
             running: Cell::Number(stood.running),
             throttled: Cell::Number(stood.throttled),
             blocked: Cell::Number(stood.blocked),
-            woken: Cell::Number(stood.woken),
+            server: Cell::Number(stood.server),
         },
         _ => Late {
             activated: Cell::Empty,
@@ -208,7 +286,7 @@ fn late_values<'s>(finding: &Finding) -> Late<'s>
             running: Cell::Empty,
             throttled: Cell::Empty,
             blocked: Cell::Empty,
-            woken: Cell::Empty,
+            server: Cell::Empty,
         },
     }
 }
@@ -218,13 +296,14 @@ pub(crate) fn checked_fields(
     counts: &Counts,
     scope: &Scope,
     chains: &ChainCounts,
-) -> [Field<'static>; 14]
+) -> [Field<'static>; 15]
     ensures { map field_of result ≡ counts_fields counts.now scope.now ++ chain_count_fields (Some chains.now) }
 {
     [
         ("kind", Cell::Name("counts")),
         ("missed", Cell::Number(counts.missed)),
         ("overdue", Cell::Number(counts.overdue)),
+        ("untaken", Cell::Number(counts.untaken)),
         ("lost", Cell::Number(counts.lost)),
         ("never", Cell::Number(counts.never)),
         ("merged", Cell::Number(counts.merged)),
@@ -240,13 +319,14 @@ pub(crate) fn checked_fields(
 }
 
 /// The values of the counts.
-pub(crate) fn counts_fields(counts: &Counts, scope: &Scope) -> [Field<'static>; 12]
+pub(crate) fn counts_fields(counts: &Counts, scope: &Scope) -> [Field<'static>; 13]
     ensures { map field_of result ≡ counts_fields counts.now scope.now }
 {
     [
         ("kind", Cell::Name("counts")),
         ("missed", Cell::Number(counts.missed)),
         ("overdue", Cell::Number(counts.overdue)),
+        ("untaken", Cell::Number(counts.untaken)),
         ("lost", Cell::Number(counts.lost)),
         ("never", Cell::Number(counts.never)),
         ("merged", Cell::Number(counts.merged)),

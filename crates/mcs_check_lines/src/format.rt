@@ -2,21 +2,21 @@
 //! unchanged.
 ghost use Rattle.std.specs.Prelude.{◌≡◌, ◌++◌, Some, OnOk, OnErr};
 ghost use Rattle.mcs_fields.specs.Fields.{object_text};
-ghost use Rattle.mcs_check_lines.specs.Fields.{chain_count_fields, checked_fields, counts_fields, found_fields};
-ghost use Rattle.mcs_check_lines.specs.Formats.{counts_line, found_line, is_mixed, no_columns, written};
-ghost use Rattle.mcs_check_lines.specs.Lines.{found_text};
+ghost use Rattle.mcs_check_lines.specs.Fields.{chain_count_fields, checked_fields, counts_fields, found_members};
+ghost use Rattle.mcs_check_lines.specs.Formats.{counts_line, found_line, found_row, is_mixed};
 ghost use Rattle.mcs_check_lines.specs.Shown.{shown_text};
 
-use crate::fields::{checked_fields, counts_fields, found_fields, wide_found_fields};
+use crate::fields::{checked_fields, counts_fields, found_fields, put_members, wide_found_fields};
 use crate::job_line::put_job_as;
 use crate::line::{put_counts, put_found};
 use crate::shown::Shown;
+use crate::untaken_line::put_untaken_object;
 use crate::{ChainCounts, Checked, Counts, Scope};
 use mcs_check_words::{Format, Show};
-use mcs_fields::{put_object, put_row};
+use mcs_fields::{Cell, put_object, put_row};
 use mcs_system::System;
 use mcs_ticks::NoMemory;
-use mcs_verdict::Found;
+use mcs_verdict::{Finding, Found};
 use std::alloc::Global;
 
 /// Whether rows of two kinds are asked for as CSV.
@@ -54,48 +54,38 @@ pub fn put_found_as(
     ensures ok { OnOk result (text.new.items ≡ text.old.items ++ found_line format system.now found.now) }
     ensures err { OnErr result (text.new.items ≡ text.old.items) }
 {
+    match format {
+        Format::Text => put_found(alloc, text, system, found),
+        Format::Csv => put_found_row(text, system, found),
+        Format::Json => put_found_object(alloc, text, system, found),
+    }
+}
+
+/// Appends the row of a finding. In a file with a chain the columns of chains follow, empty.
+fn put_found_row(text: &mut Vec<u8>, system: &System, found: &Found) -> Result<(), NoMemory>
+    ensures ok { OnOk result (text.new.items ≡ text.old.items ++ found_row system.now found.now) }
+    ensures err { OnErr result (text.new.items ≡ text.old.items) }
+{
     if system.parts().chains.is_empty() {
-        put_narrow(alloc, text, format, system, found)
+        put_row(text, found_fields(system, found).as_slice())
     } else {
-        put_wide(alloc, text, format, system, found)
+        put_row(text, wide_found_fields(system, found).as_slice())
     }
 }
 
-/// Appends the line of a finding in a file without chains.
-fn put_narrow(
+/// Appends the object of a finding.
+fn put_found_object(
     alloc: Global,
     text: &mut Vec<u8>,
-    format: Format,
     system: &System,
     found: &Found,
 ) -> Result<(), NoMemory>
-    ensures ok { OnOk result (text.new.items ≡ text.old.items
-        ++ written format (found_text system.now found.now) (found_fields system.now found.now)) }
+    ensures ok { OnOk result (text.new.items ≡ text.old.items ++ object_text (found_members system.now found.now)) }
     ensures err { OnErr result (text.new.items ≡ text.old.items) }
 {
-    match format {
-        Format::Text => put_found(text, system, found),
-        Format::Csv => put_row(text, found_fields(system, found).as_slice()),
-        Format::Json => put_object(alloc, text, found_fields(system, found).as_slice()),
-    }
-}
-
-/// Appends the line of a finding in a file with a chain.
-fn put_wide(
-    alloc: Global,
-    text: &mut Vec<u8>,
-    format: Format,
-    system: &System,
-    found: &Found,
-) -> Result<(), NoMemory>
-    ensures ok { OnOk result (text.new.items ≡ text.old.items
-        ++ written format (found_text system.now found.now) (found_fields system.now found.now ++ no_columns)) }
-    ensures err { OnErr result (text.new.items ≡ text.old.items) }
-{
-    match format {
-        Format::Text => put_found(text, system, found),
-        Format::Csv => put_row(text, wide_found_fields(system, found).as_slice()),
-        Format::Json => put_object(alloc, text, wide_found_fields(system, found).as_slice()),
+    match found.finding {
+        Finding::Untaken { note, .. } => put_untaken_object(alloc, text, system, found, note),
+        _ => put_members(alloc, text, system, found, Cell::Empty),
     }
 }
 

@@ -19,6 +19,7 @@ mod pairs;
 mod shown;
 mod thread_line;
 mod unjudged;
+mod untaken_line;
 
 pub use answer_line::put_answers;
 pub use chain_figures::put_chains;

@@ -1,10 +1,12 @@
 //! The lines of findings, jobs, counts and hints, as text.
-ghost use Rattle.std.specs.Prelude.{◌≡◌, ◌≤◌, ◌+◌, ◌++◌, ◌∷◌, [], OnOk, OnErr, decimal, length, take};
+ghost use Rattle.std.specs.Prelude.{◌≡◌, ◌≤◌, ◌+◌, ◌++◌, ◌∷◌, [], false, OnOk, OnErr, decimal, length, take};
 ghost use Rattle.std.specs.Io.{StartsWith};
 ghost use Rattle.mcs_system.specs.System.{core_of, thread_part};
 ghost use Rattle.mcs_text.specs.Text.{after, counted};
-ghost use Rattle.mcs_check_lines.specs.Lines.{chain_count_words, checked_text, counts_words, found_text, found_words, job_text, job_times, job_words, late_words, response_words, ways};
+ghost use Rattle.mcs_check_lines.specs.Lines.{age_words, chain_count_words, checked_text, counts_words, found_text, found_words, job_text, job_times, job_words, late_words, response_words, ways};
+ghost use Rattle.mcs_check_lines.specs.Told.{is_untaken};
 
+use crate::untaken_line::put_untaken;
 use crate::{ChainCounts, Checked, Counts, Scope};
 use itoa::Buffer;
 use mcs_system::System;
@@ -14,14 +16,33 @@ use mcs_text::{
 };
 use mcs_ticks::{ContextId, CoreId, NoMemory, ThreadId, Tick};
 use mcs_verdict::{Finding, Found, Job, Stood};
+use std::alloc::Global;
 
-/// Bytes of the longest line of a finding: twelve numbers of 20 digits, a name of 32 bytes, its
-/// words, spaces and line feed.
-const FOUND: usize = 369;
+/// Bytes of the longest line of a finding of a thread or a lost signal: twelve numbers of 20 digits,
+/// a name of 32 bytes, its words, spaces and line feed.
+const FOUND: usize = 370;
 
-/// Appends the line of a finding: `<moment> <core>` and the finding, with the system's names. If
-/// memory runs out the text is unchanged.
-pub fn put_found(text: &mut Vec<u8>, system: &System, found: &Found) -> Result<(), NoMemory>
+/// Appends the line of a finding: `<moment> <core>` and the finding, with the system's names. Only
+/// an untaken word allocates beside the text. If memory runs out the text is unchanged.
+pub fn put_found(
+    alloc: Global,
+    text: &mut Vec<u8>,
+    system: &System,
+    found: &Found,
+) -> Result<(), NoMemory>
+    ensures ok { OnOk result (text.new.items ≡ text.old.items ++ found_text system.now found.now) }
+    ensures err { OnErr result (text.new.items ≡ text.old.items) }
+{
+    if let Finding::Untaken { .. } = found.finding {
+        put_untaken(alloc, text, system, found)
+    } else {
+        put_short(text, system, found)
+    }
+}
+
+/// Appends the line of a finding that is no untaken word. If memory runs out the text is unchanged.
+fn put_short(text: &mut Vec<u8>, system: &System, found: &Found) -> Result<(), NoMemory>
+    requires { is_untaken found.now.finding ≡ false }
     ensures ok { OnOk result (text.new.items ≡ text.old.items ++ found_text system.now found.now) }
     ensures err { OnErr result (text.new.items ≡ text.old.items) }
 {
@@ -33,8 +54,9 @@ pub fn put_found(text: &mut Vec<u8>, system: &System, found: &Found) -> Result<(
 
 /// Writes the line of a finding and returns its end.
 fn write_found(line: &mut [u8], system: &System, found: &Found) -> usize
-    requires { 369 ≤ length line.old }
-    ensures short { result ≤ 369 }
+    requires fits { 370 ≤ length line.old }
+    requires bounded { is_untaken found.now.finding ≡ false }
+    ensures short { result ≤ 370 }
     ensures written { take result line.new ≡ found_text system.now found.now }
 {
     let core = write_decimal(line, 0, found.moment.get());
@@ -56,8 +78,9 @@ pub(crate) fn append_digits(text: &mut Vec<u8>, number: u64) -> Result<(), NoMem
 
 /// Writes a finding from `at` on, without its time and core, and returns its end.
 fn write_finding(line: &mut [u8], at: usize, system: &System, finding: &Finding) -> usize
-    requires { at + 327 ≤ length line.old }
-    ensures short { result ≤ at + 327 }
+    requires fits { at + 328 ≤ length line.old }
+    requires bounded { is_untaken finding.now ≡ false }
+    ensures short { result ≤ at + 328 }
     ensures written { take result line.new ≡ take at line.old ++ after (found_words system.now finding.now) }
 {
     match *finding {
@@ -76,14 +99,18 @@ fn write_finding(line: &mut [u8], at: usize, system: &System, finding: &Finding)
         }
         Finding::Overdue {
             thread,
+            number,
+            age,
             deadline,
             activated,
             queued,
             stood,
         } => {
-            let times = write_named(line, at, "overdue", thread_name(system, thread));
+            let name = write_named(line, at, "overdue", thread_name(system, thread));
+            let times = write_age(line, name, number, age);
             write_late(line, times, deadline, activated, queued, &stood)
         }
+        Finding::Untaken { .. } => unreachable!(),
         Finding::Lost { note, word } => {
             let bits = write_named(line, at, "lost", note_name(system, note));
             write_counted(line, bits, "word", u64::from(word))
@@ -117,6 +144,17 @@ fn write_response(line: &mut [u8], at: usize, number: u64, response: u64) -> usi
     write_counted(line, end, "response", response)
 }
 
+/// Writes the number of a round under way, and the ticks since its activation.
+#[inline(always)]
+fn write_age(line: &mut [u8], at: usize, number: u64, age: u64) -> usize
+    requires { at + 52 ≤ length line.old }
+    ensures short { result ≤ at + 52 }
+    ensures written { take result line.new ≡ take at line.old ++ after (age_words number age) }
+{
+    let end = write_counted(line, at, "round", number);
+    write_counted(line, end, "age", age)
+}
+
 /// Writes the deadline of a round, when it was activated, and its parts.
 fn write_late(
     line: &mut [u8],
@@ -126,8 +164,8 @@ fn write_late(
     queued: u64,
     stood: &Stood,
 ) -> usize
-    requires { at + 232 ≤ length line.old }
-    ensures short { result ≤ at + 232 }
+    requires { at + 233 ≤ length line.old }
+    ensures short { result ≤ at + 233 }
     ensures written { take result line.new ≡ take at line.old ++ after (late_words deadline activated queued stood.now) }
 {
     let first = write_counted(line, at, "deadline", deadline);
@@ -139,15 +177,15 @@ fn write_late(
 /// Writes the ticks in which a thread stood in each way.
 #[inline(always)]
 fn write_ways(line: &mut [u8], at: usize, stood: &Stood) -> usize
-    requires { at + 143 ≤ length line.old }
-    ensures short { result ≤ at + 143 }
+    requires { at + 144 ≤ length line.old }
+    ensures short { result ≤ at + 144 }
     ensures written { take result line.new ≡ take at line.old ++ after (counted (ways stood.now)) }
 {
     let running = write_counted(line, at, "ready", stood.ready);
     let throttled = write_counted(line, running, "running", stood.running);
     let blocked = write_counted(line, throttled, "throttled", stood.throttled);
-    let woken = write_counted(line, blocked, "blocked", stood.blocked);
-    write_counted(line, woken, "woken", stood.woken)
+    let server = write_counted(line, blocked, "blocked", stood.blocked);
+    write_counted(line, server, "server", stood.server)
 }
 
 /// Appends a word and a name, each after a space.
@@ -215,7 +253,7 @@ fn append_times(text: &mut Vec<u8>, job: &Job) -> Result<(), NoMemory>
         running,
         throttled,
         blocked,
-        woken,
+        server,
         ..
     } = job.stood;
     let numbers = [
@@ -229,7 +267,7 @@ fn append_times(text: &mut Vec<u8>, job: &Job) -> Result<(), NoMemory>
         ("running", running),
         ("throttled", throttled),
         ("blocked", blocked),
-        ("woken", woken),
+        ("server", server),
     ];
     append_counts(text, &numbers)
 }
@@ -279,6 +317,7 @@ fn append_totals(text: &mut Vec<u8>, counts: &Counts, scope: &Scope) -> Result<(
 {
     let numbers = [
         ("overdue", counts.overdue),
+        ("untaken", counts.untaken),
         ("lost", counts.lost),
         ("never", counts.never),
         ("merged", counts.merged),

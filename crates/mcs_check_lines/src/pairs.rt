@@ -5,7 +5,7 @@ ghost use Rattle.mcs_fields.specs.Fields.{field_of, object_text, row_text, value
 ghost use Rattle.mcs_text.specs.Text.{after, line};
 ghost use Rattle.mcs_check_lines.specs.Figures.{pair_words, value_word};
 
-use mcs_fields::{Cell, Field, append_below, put_object, put_row};
+use mcs_fields::{Cell, Field, append_below, append_joined, put_object, put_row};
 use mcs_text::{append_number, append_word};
 use mcs_ticks::NoMemory;
 use std::alloc::Global;
@@ -22,6 +22,10 @@ fn append_value(text: &mut Vec<u8>, cell: &Cell<'_>) -> Result<(), NoMemory>
             append_below(text, number)
         }
         Cell::Name(name) => append_word(text, name),
+        Cell::Names(names) => {
+            text.push(b' ')?;
+            append_joined(text, names)
+        }
         Cell::Empty => append_word(text, "-"),
     }
 }

@@ -60,7 +60,7 @@ fn thread_fields<'s>(system: &'s System, thread: ThreadId, figures: &Figures) ->
         ("ticks_running", Cell::Number(figures.stood.running)),
         ("ticks_throttled", Cell::Number(figures.stood.throttled)),
         ("ticks_blocked", Cell::Number(figures.stood.blocked)),
-        ("ticks_woken", Cell::Number(figures.stood.woken)),
+        ("ticks_server", Cell::Number(figures.stood.server)),
         ("ticks_done", Cell::Number(figures.stood.done)),
     ]
 }

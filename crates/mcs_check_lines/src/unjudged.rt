@@ -1,20 +1,22 @@
 //! The lines of unjudged threads.
-ghost use Rattle.std.specs.Prelude.{◌≡◌, ◌++◌, OnOk, OnErr, map};
+ghost use Rattle.std.specs.Prelude.{◌≡◌, ◌++◌, ◌∷◌, [], OnOk, OnErr, codes, map};
 ghost use Rattle.std.specs.Io.{StartsWith};
 ghost use Rattle.mcs_fields.specs.Fields.{field_of};
 ghost use Rattle.mcs_text.specs.Text.{after};
+ghost use Rattle.mcs_check_lines.specs.Figures.{known, value_word};
 ghost use Rattle.mcs_check_lines.specs.Formats.{no_columns, written};
 ghost use Rattle.mcs_check_lines.specs.Unjudged.{time_words, unjudged_fields, unjudged_line, unjudged_text, unjudged_words};
 
+use crate::figures::known;
 use crate::line::{append_digits, append_named};
 use mcs_check_words::Format;
 use mcs_fields::{Cell, Field, put_object, put_row};
 use mcs_system::System;
-use mcs_text::{append_counts, append_number, thread_name};
+use mcs_text::{append_counts, append_number, append_word, thread_name};
 use mcs_ticks::{CoreId, NoMemory, ThreadId, Tick};
 use std::alloc::Global;
 
-/// A thread with a deadline that was activated and ended no round, without a finding.
+/// A thread with a deadline that ended no round, and of which nothing is found at the horizon.
 #[derive(Clone, Copy, Debug, PartialEq, Eq)]
 pub struct Unjudged {
     /// The horizon.
@@ -24,8 +26,8 @@ pub struct Unjudged {
     pub thread: ThreadId,
     /// The thread's deadline in ticks.
     pub deadline: u64,
-    /// When its first round was activated.
-    pub activated: Tick,
+    /// The tick at which its first round was activated, if that has begun.
+    pub activated: Option<u64>,
 }
 
 /// Appends the line as text. If memory runs out the text is unchanged.
@@ -62,18 +64,28 @@ fn append_words(text: &mut Vec<u8>, system: &System, unjudged: &Unjudged) -> Res
 }
 
 /// Appends the deadline and the activation.
-fn append_times(text: &mut Vec<u8>, deadline: u64, activated: Tick) -> Result<(), NoMemory>
+fn append_times(text: &mut Vec<u8>, deadline: u64, activated: Option<u64>) -> Result<(), NoMemory>
     ensures ok { OnOk result (text.new.items ≡ text.old.items ++ after (time_words deadline activated)) }
     ensures kept { StartsWith text.new.items text.old.items }
 {
-    append_counts(
-        text,
-        &[("deadline", deadline), ("activated", activated.get())],
-    )
+    append_counts(text, &[("deadline", deadline)])?;
+    append_activation(text, activated)
+}
+
+/// Appends the activation, or `-`.
+fn append_activation(text: &mut Vec<u8>, activated: Option<u64>) -> Result<(), NoMemory>
+    ensures ok { OnOk result (text.new.items ≡ text.old.items ++ after (codes "activated" ∷ value_word (known activated) ∷ [])) }
+    ensures kept { StartsWith text.new.items text.old.items }
+{
+    append_word(text, "activated")?;
+    match activated {
+        Some(activated) => append_number(text, activated),
+        None => append_word(text, "-"),
+    }
 }
 
 /// The values of the line.
-fn unjudged_fields<'s>(system: &'s System, unjudged: &Unjudged) -> [Field<'s>; 16]
+fn unjudged_fields<'s>(system: &'s System, unjudged: &Unjudged) -> [Field<'s>; 18]
     ensures { map field_of result ≡ unjudged_fields system.now unjudged.now }
 {
     [
@@ -85,19 +97,21 @@ fn unjudged_fields<'s>(system: &'s System, unjudged: &Unjudged) -> [Field<'s>; 1
         ("word", Cell::Empty),
         ("number", Cell::Empty),
         ("response", Cell::Empty),
+        ("age", Cell::Empty),
         ("deadline", Cell::Number(unjudged.deadline)),
-        ("activated", Cell::Number(unjudged.activated.get())),
+        ("activated", known(unjudged.activated)),
+        ("set", Cell::Empty),
         ("queued", Cell::Empty),
         ("ready", Cell::Empty),
         ("running", Cell::Empty),
         ("throttled", Cell::Empty),
         ("blocked", Cell::Empty),
-        ("woken", Cell::Empty),
+        ("server", Cell::Empty),
     ]
 }
 
 /// The values of the line, behind which those of chains are empty.
-fn wide_fields<'s>(system: &'s System, unjudged: &Unjudged) -> [Field<'s>; 20]
+fn wide_fields<'s>(system: &'s System, unjudged: &Unjudged) -> [Field<'s>; 22]
     ensures { map field_of result ≡ unjudged_fields system.now unjudged.now ++ no_columns }
 {
     [
@@ -109,14 +123,16 @@ fn wide_fields<'s>(system: &'s System, unjudged: &Unjudged) -> [Field<'s>; 20]
         ("word", Cell::Empty),
         ("number", Cell::Empty),
         ("response", Cell::Empty),
+        ("age", Cell::Empty),
         ("deadline", Cell::Number(unjudged.deadline)),
-        ("activated", Cell::Number(unjudged.activated.get())),
+        ("activated", known(unjudged.activated)),
+        ("set", Cell::Empty),
         ("queued", Cell::Empty),
         ("ready", Cell::Empty),
         ("running", Cell::Empty),
         ("throttled", Cell::Empty),
         ("blocked", Cell::Empty),
-        ("woken", Cell::Empty),
+        ("server", Cell::Empty),
         ("chain", Cell::Empty),
         ("latency", Cell::Empty),
         ("deadline", Cell::Empty),

@@ -49,16 +49,16 @@ chain = [{ name = "c", source = "s", thread = "L", deadline = 20 }]
 "#;
 
 const TWO_CORES_FOUND: &str = "\
-12 1 miss C round 1 response 4 deadline 3 activated 8 queued 0 ready 0 running 4 throttled 0 blocked 0 woken 0
+12 1 miss C round 1 response 4 deadline 3 activated 8 queued 0 ready 0 running 4 throttled 0 blocked 0 server 0
 12 1 slow f latency 9 deadline 7 origin 3
 12 1 slow e latency 9 deadline 8 origin 3
-22 1 miss C round 2 response 4 deadline 3 activated 18 queued 0 ready 0 running 4 throttled 0 blocked 0 woken 0
+22 1 miss C round 2 response 4 deadline 3 activated 18 queued 0 ready 0 running 4 throttled 0 blocked 0 server 0
 22 1 slow f latency 9 deadline 7 origin 13
 22 1 slow e latency 9 deadline 8 origin 13
 22 0 never Z deadline 5
 22 0 unanswered z deadline 19 origin 3
 hint note q is waited on and no script signals it
-missed 2 overdue 0 lost 0 never 1 merged 0 allowed 0 unjudged 0 hints 1 threads 3 deadlines 6 judged 9 slow 4 unanswered 1
+missed 2 overdue 0 untaken 0 lost 0 never 1 merged 0 allowed 0 unjudged 0 hints 1 threads 3 deadlines 6 judged 9 slow 4 unanswered 1
 ";
 
 #[test]
@@ -76,15 +76,15 @@ const LOOP_FOUND: &str = "\
 42 0 lost n word 1
 43 0 slow c latency 31 deadline 20 origin 12
 52 0 unanswered c deadline 20 origin 32
-missed 0 overdue 0 lost 2 never 0 merged 0 allowed 0 unjudged 0 hints 0 threads 1 deadlines 1 judged 4 slow 1 unanswered 1
+missed 0 overdue 0 untaken 0 lost 2 never 0 merged 0 allowed 0 unjudged 0 hints 0 threads 1 deadlines 1 judged 4 slow 1 unanswered 1
 ";
 
 const LOOP_ROWS: &str = "\
-moment,core,kind,thread,note,word,number,response,deadline,activated,queued,ready,running,throttled,blocked,woken,chain,latency,deadline,origin
-22,0,lost,,n,1,,,,,,,,,,,,,,
-42,0,lost,,n,1,,,,,,,,,,,,,,
-43,0,slow,,,,,,,,,,,,,,c,31,20,12
-52,0,unanswered,,,,,,,,,,,,,,c,,20,32
+moment,core,kind,thread,note,word,number,response,age,deadline,activated,set,queued,ready,running,throttled,blocked,server,chain,latency,deadline,origin
+22,0,lost,,n,1,,,,,,,,,,,,,,,,
+42,0,lost,,n,1,,,,,,,,,,,,,,,,
+43,0,slow,,,,,,,,,,,,,,,,c,31,20,12
+52,0,unanswered,,,,,,,,,,,,,,,,c,,20,32
 ";
 
 const LOOP_OBJECTS: &str = "\
@@ -92,7 +92,7 @@ const LOOP_OBJECTS: &str = "\
 {\"moment\":42,\"core\":0,\"kind\":\"lost\",\"note\":\"n\",\"word\":1}
 {\"moment\":43,\"core\":0,\"kind\":\"slow\",\"chain\":\"c\",\"latency\":31,\"deadline\":20,\"origin\":12}
 {\"moment\":52,\"core\":0,\"kind\":\"unanswered\",\"chain\":\"c\",\"deadline\":20,\"origin\":32}
-{\"kind\":\"counts\",\"missed\":0,\"overdue\":0,\"lost\":2,\"never\":0,\"merged\":0,\"allowed\":0,\"unjudged\":0,\"hints\":0,\
+{\"kind\":\"counts\",\"missed\":0,\"overdue\":0,\"untaken\":0,\"lost\":2,\"never\":0,\"merged\":0,\"allowed\":0,\"unjudged\":0,\"hints\":0,\
 \"threads\":1,\"deadlines\":1,\"judged\":4,\"slow\":1,\"unanswered\":1}
 ";
 
@@ -100,59 +100,59 @@ const LOOP_OBJECTS: &str = "\
 /// 31.
 const LOOP_TABLE: &str = "\
 thread L core 0 priority 5 budget 100 period 100 granted 1000000 used 980769 rounds 2 greatest 31 p50 20 p90 31 p99 31 deadline - margin - \
-missed 0 late 0 lost 2 merged 0 ticks_pending 0 ticks_ready 0 ticks_running 51 ticks_throttled 0 ticks_blocked 1 ticks_woken 0 ticks_done 0
+missed 0 late 0 lost 2 merged 0 ticks_pending 0 ticks_ready 0 ticks_running 51 ticks_throttled 0 ticks_blocked 1 ticks_server 0 ticks_done 0
 context l unused 1
 chain c interrupts 6 answers 3 least 20 greatest 31 total 72 p50 21 p90 31 p99 31 deadline 20 margin -11
-missed 0 overdue 0 lost 2 never 0 merged 0 allowed 0 unjudged 0 hints 0 threads 1 deadlines 1 judged 4 slow 1 unanswered 1
+missed 0 overdue 0 untaken 0 lost 2 never 0 merged 0 allowed 0 unjudged 0 hints 0 threads 1 deadlines 1 judged 4 slow 1 unanswered 1
 ";
 
 const LOOP_TABLE_ROWS: &str = "\
 kind,thread,core,priority,budget,period,granted,used,rounds,greatest,p50,p90,p99,deadline,margin,missed,late,lost,merged,\
-ticks_pending,ticks_ready,ticks_running,ticks_throttled,ticks_blocked,ticks_woken,ticks_done,\
+ticks_pending,ticks_ready,ticks_running,ticks_throttled,ticks_blocked,ticks_server,ticks_done,\
 chain,interrupts,answers,least,greatest,total,p50,p90,p99,deadline,margin
 thread,L,0,5,100,100,1000000,980769,2,31,20,31,31,,,0,0,2,0,0,0,51,0,1,0,0,,,,,,,,,,,
 chain,,,,,,,,,,,,,,,,,,,,,,,,,,c,6,3,20,31,72,21,31,31,20,-11
 ";
 
 const LOOP_JOBS: &str = "\
-22 0 job L round 1 activated 2 begun 2 response 20 queued 0 preemptions 0 ready 0 running 20 throttled 0 blocked 0 woken 0
+22 0 job L round 1 activated 2 begun 2 response 20 queued 0 preemptions 0 ready 0 running 20 throttled 0 blocked 0 server 0
 22 0 answer c round 1 origin 2 latency 20 deadline 20
-43 0 job L round 2 activated 12 begun 23 response 31 queued 11 preemptions 0 ready 0 running 20 throttled 0 blocked 0 woken 0
+43 0 job L round 2 activated 12 begun 23 response 31 queued 10 preemptions 0 ready 0 running 21 throttled 0 blocked 0 server 0
 43 0 answer c round 2 origin 12 latency 31 deadline 20
 43 0 answer c round 2 origin 22 latency 21 deadline 20
-missed 0 overdue 0 lost 2 never 0 merged 0 allowed 0 unjudged 0 hints 0 threads 1 deadlines 1 judged 4 slow 1 unanswered 1
+missed 0 overdue 0 untaken 0 lost 2 never 0 merged 0 allowed 0 unjudged 0 hints 0 threads 1 deadlines 1 judged 4 slow 1 unanswered 1
 ";
 
 const LOOP_JOB_ROWS: &str = "\
-moment,core,kind,thread,number,activated,begun,response,queued,preemptions,ready,running,throttled,blocked,woken,chain,latency,deadline,origin
+moment,core,kind,thread,number,activated,begun,response,queued,preemptions,ready,running,throttled,blocked,server,chain,latency,deadline,origin
 22,0,job,L,1,2,2,20,0,0,0,20,0,0,0,,,,
 22,0,answer,L,1,,,,,,,,,,,c,20,20,2
-43,0,job,L,2,12,23,31,11,0,0,20,0,0,0,,,,
+43,0,job,L,2,12,23,31,10,0,0,21,0,0,0,,,,
 43,0,answer,L,2,,,,,,,,,,,c,31,20,12
 43,0,answer,L,2,,,,,,,,,,,c,21,20,22
 ";
 
 const LOOP_JOB_OBJECTS: &str = "\
 {\"moment\":22,\"core\":0,\"kind\":\"job\",\"thread\":\"L\",\"number\":1,\"activated\":2,\"begun\":2,\"response\":20,\"queued\":0,\
-\"preemptions\":0,\"ready\":0,\"running\":20,\"throttled\":0,\"blocked\":0,\"woken\":0}
+\"preemptions\":0,\"ready\":0,\"running\":20,\"throttled\":0,\"blocked\":0,\"server\":0}
 {\"moment\":22,\"core\":0,\"kind\":\"answer\",\"thread\":\"L\",\"number\":1,\"chain\":\"c\",\"latency\":20,\"deadline\":20,\"origin\":2}
-{\"moment\":43,\"core\":0,\"kind\":\"job\",\"thread\":\"L\",\"number\":2,\"activated\":12,\"begun\":23,\"response\":31,\"queued\":11,\
-\"preemptions\":0,\"ready\":0,\"running\":20,\"throttled\":0,\"blocked\":0,\"woken\":0}
+{\"moment\":43,\"core\":0,\"kind\":\"job\",\"thread\":\"L\",\"number\":2,\"activated\":12,\"begun\":23,\"response\":31,\"queued\":10,\
+\"preemptions\":0,\"ready\":0,\"running\":21,\"throttled\":0,\"blocked\":0,\"server\":0}
 {\"moment\":43,\"core\":0,\"kind\":\"answer\",\"thread\":\"L\",\"number\":2,\"chain\":\"c\",\"latency\":31,\"deadline\":20,\"origin\":12}
 {\"moment\":43,\"core\":0,\"kind\":\"answer\",\"thread\":\"L\",\"number\":2,\"chain\":\"c\",\"latency\":21,\"deadline\":20,\"origin\":22}
-{\"kind\":\"counts\",\"missed\":0,\"overdue\":0,\"lost\":2,\"never\":0,\"merged\":0,\"allowed\":0,\"unjudged\":0,\"hints\":0,\"threads\":1,\
+{\"kind\":\"counts\",\"missed\":0,\"overdue\":0,\"untaken\":0,\"lost\":2,\"never\":0,\"merged\":0,\"allowed\":0,\"unjudged\":0,\"hints\":0,\"threads\":1,\
 \"deadlines\":1,\"judged\":4,\"slow\":1,\"unanswered\":1}
 ";
 
 /// The jobs of D answer the chain near, which has no deadline; those of C answer three chains.
 const TWO_CORES_JOBS: &str = "\
-6 0 job D round 1 activated 3 begun 3 response 3 queued 0 preemptions 0 ready 0 running 3 throttled 0 blocked 0 woken 0
+6 0 job D round 1 activated 3 begun 3 response 3 queued 0 preemptions 0 ready 0 running 3 throttled 0 blocked 0 server 0
 6 0 answer near round 1 origin 3 latency 3
-12 1 job C round 1 activated 8 begun 8 response 4 queued 0 preemptions 0 ready 0 running 4 throttled 0 blocked 0 woken 0
+12 1 job C round 1 activated 8 begun 8 response 4 queued 0 preemptions 0 ready 0 running 4 throttled 0 blocked 0 server 0
 12 1 answer f round 1 origin 3 latency 9 deadline 7
 12 1 answer e round 1 origin 3 latency 9 deadline 8
 12 1 answer g round 1 origin 3 latency 9 deadline 9
-missed 1 overdue 0 lost 0 never 1 merged 0 allowed 0 unjudged 0 hints 1 threads 3 deadlines 6 judged 4 slow 2 unanswered 0
+missed 1 overdue 0 untaken 0 lost 0 never 1 merged 0 allowed 0 unjudged 0 hints 1 threads 3 deadlines 6 judged 4 slow 2 unanswered 0
 ";
 
 #[test]
@@ -188,10 +188,10 @@ fn chains_in_each_format(rt: HostRuntime) -> Result<(), Fail> {
 /// The first interrupt comes at 2: before, there are no latencies.
 const NONE_TABLE: &str = "\
 thread L core 0 priority 5 budget 100 period 100 granted 1000000 used 1000000 rounds 0 greatest - p50 - p90 - p99 - deadline - margin - \
-missed 0 late 0 lost 0 merged 0 ticks_pending 0 ticks_ready 0 ticks_running 1 ticks_throttled 0 ticks_blocked 0 ticks_woken 0 ticks_done 0
+missed 0 late 0 lost 0 merged 0 ticks_pending 0 ticks_ready 0 ticks_running 1 ticks_throttled 0 ticks_blocked 0 ticks_server 0 ticks_done 0
 context l unused 0
 chain c interrupts 0 answers 0 least - greatest - total 0 p50 - p90 - p99 - deadline 20 margin -
-missed 0 overdue 0 lost 0 never 0 merged 0 allowed 0 unjudged 0 hints 0 threads 1 deadlines 1 judged 0 slow 0 unanswered 0
+missed 0 overdue 0 untaken 0 lost 0 never 0 merged 0 allowed 0 unjudged 0 hints 0 threads 1 deadlines 1 judged 0 slow 0 unanswered 0
 ";
 
 #[test]

@@ -6,33 +6,33 @@ use std::test::Fail;
 
 /// The thread of `LATE` runs in [0, 2), [5, 7) and [10, 11).
 const WHAT_IS_LATE: &str = "\
-11 0 miss A round 1 response 11 deadline 10 activated 0 queued 0 ready 0 running 5 throttled 6 blocked 0 woken 0
-missed 1 overdue 0 lost 0 never 0 merged 0 allowed 0 unjudged 0 hints 0 threads 1 deadlines 1 judged 1
+11 0 miss A round 1 response 11 deadline 10 activated 0 queued 0 ready 0 running 5 throttled 6 blocked 0 server 0
+missed 1 overdue 0 untaken 0 lost 0 never 0 merged 0 allowed 0 unjudged 0 hints 0 threads 1 deadlines 1 judged 1
 ";
 
 const WHAT_IS_LOST: &str = "\
 3 0 lost tick word 1
 5 0 lost tick word 1
 hint no thread has a deadline
-missed 0 overdue 0 lost 2 never 0 merged 0 allowed 0 unjudged 0 hints 1 threads 1 deadlines 0 judged 0
+missed 0 overdue 0 untaken 0 lost 2 never 0 merged 0 allowed 0 unjudged 0 hints 1 threads 1 deadlines 0 judged 0
 ";
 
 /// The one job of `LATE`. `SIGNAL_JOBS` has the two of `SIGNALS` up to 5; the second begins when
 /// the first ends.
 const LATE_JOBS: &str = "\
-11 0 job A round 1 activated 0 begun 0 response 11 queued 0 preemptions 0 ready 0 running 5 throttled 6 blocked 0 woken 0
-missed 1 overdue 0 lost 0 never 0 merged 0 allowed 0 unjudged 0 hints 0 threads 1 deadlines 1 judged 1
+11 0 job A round 1 activated 0 begun 0 response 11 queued 0 preemptions 0 ready 0 running 5 throttled 6 blocked 0 server 0
+missed 1 overdue 0 untaken 0 lost 0 never 0 merged 0 allowed 0 unjudged 0 hints 0 threads 1 deadlines 1 judged 1
 ";
 
 const SIGNAL_JOBS: &str = "\
-2 0 job A round 1 activated 0 begun 0 response 2 queued 0 preemptions 0 ready 0 running 2 throttled 0 blocked 0 woken 0
-4 0 job A round 2 activated 2 begun 2 response 2 queued 0 preemptions 0 ready 0 running 2 throttled 0 blocked 0 woken 0
-missed 0 overdue 0 lost 2 never 0 merged 0 allowed 0 unjudged 0 hints 1 threads 1 deadlines 0 judged 0
+2 0 job A round 1 activated 0 begun 0 response 2 queued 0 preemptions 0 ready 0 running 2 throttled 0 blocked 0 server 0
+4 0 job A round 2 activated 2 begun 2 response 2 queued 0 preemptions 0 ready 0 running 2 throttled 0 blocked 0 server 0
+missed 0 overdue 0 untaken 0 lost 2 never 0 merged 0 allowed 0 unjudged 0 hints 1 threads 1 deadlines 0 judged 0
 ";
 
 const WHAT_IS_ALLOWED: &str = "\
 hint no thread has a deadline
-missed 0 overdue 0 lost 0 never 0 merged 0 allowed 2 unjudged 0 hints 1 threads 1 deadlines 0 judged 0
+missed 0 overdue 0 untaken 0 lost 0 never 0 merged 0 allowed 2 unjudged 0 hints 1 threads 1 deadlines 0 judged 0
 ";
 
 #[test]

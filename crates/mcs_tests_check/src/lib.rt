@@ -18,4 +18,6 @@ mod progress;
 #[cfg(test)]
 mod runs;
 #[cfg(test)]
+mod shared;
+#[cfg(test)]
 mod streams;

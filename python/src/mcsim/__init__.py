@@ -1,15 +1,15 @@
 """mcsim: a simulator of seL4 MCS scheduling, proved. Build a `System`, or read one, and simulate, check or view it."""
 from .explained import Explanation, Leg, Way
 from .faults import Fault
-from .forever import CoreSet, EndsNever, EndsOverdue, EverFinding, Losses, Misses, Outlook, Response, Sets
+from .forever import CoreSet, EndsNever, EndsOverdue, EndsUntaken, EverFinding, Losses, Misses, Outlook, Response, Sets
 from .parts import Chain, Context, Link, Note, Order, Server, Source, Thread
 from .system import System
-from .verdict import Answer, Counts, Figures, Finding, Hint, Job, Lost, Miss, Never, Other, Overdue, Slow, Unanswered, Unjudged, Verdict
+from .verdict import Answer, Counts, Figures, Finding, Hint, Job, Lost, Miss, Never, Other, Overdue, Slow, Unanswered, Unjudged, Untaken, Verdict
 from .views import View
 
-__version__ = '1.2'
+__version__ = '1.3'
 __all__ = [
-    'Answer', 'Chain', 'Context', 'CoreSet', 'Counts', 'EndsNever', 'EndsOverdue', 'EverFinding', 'Explanation', 'Fault', 'Figures', 'Finding', 'Hint',
+    'Answer', 'Chain', 'Context', 'CoreSet', 'Counts', 'EndsNever', 'EndsOverdue', 'EndsUntaken', 'EverFinding', 'Explanation', 'Fault', 'Figures', 'Finding', 'Hint',
     'Job', 'Leg', 'Link', 'Losses', 'Lost', 'Miss', 'Misses', 'Never', 'Note', 'Order', 'Other', 'Outlook', 'Overdue', 'Response', 'Server', 'Sets', 'Slow',
-    'Source', 'System', 'Thread', 'Unanswered', 'Unjudged', 'Verdict', 'View', 'Way',
+    'Source', 'System', 'Thread', 'Unanswered', 'Unjudged', 'Untaken', 'Verdict', 'View', 'Way',
 ]

@@ -30,18 +30,32 @@ class Losses:
 
 @dataclass(frozen=True)
 class EndsOverdue:
-    """A job of the thread is overdue at the last time of the first period, or at the horizon."""
+    """The job of this number, activated then, is overdue for ever: it never ends. With `moment`, a job of the thread is overdue at that horizon, and no
+    repetition was found."""
 
     thread: str
-    moment: int
+    number: Optional[int] = None
+    activated: Optional[int] = None
+    moment: Optional[int] = None
 
 
 @dataclass(frozen=True)
 class EndsNever:
-    """The thread has a deadline, and no job of it was activated up to that time."""
+    """The thread has a deadline, and no job of it can ever begin; with `moment` none could up to that horizon."""
 
     thread: str
-    moment: int
+    moment: Optional[int] = None
+
+
+@dataclass(frozen=True)
+class EndsUntaken:
+    """The notification holds this word since `set` for ever, and none of `by` ever takes it; with `moment` it is untaken at that horizon."""
+
+    note: str
+    by: Sequence[str] = ()
+    word: Optional[int] = None
+    set: Optional[int] = None
+    moment: Optional[int] = None
 
 
 @dataclass(frozen=True)
@@ -57,8 +71,10 @@ class Response:
     is_so_far: bool = False
 
 
-EverFinding = Union[Misses, Losses, EndsOverdue, EndsNever]
-FINDINGS: Mapping[str, type[EverFinding]] = {'miss': Misses, 'lost': Losses, 'overdue': EndsOverdue, 'never': EndsNever}
+EverFinding = Union[Misses, Losses, EndsOverdue, EndsNever, EndsUntaken]
+FINDINGS: Mapping[str, type[EverFinding]] = {
+    'miss': Misses, 'lost': Losses, 'overdue': EndsOverdue, 'never': EndsNever, 'untaken': EndsUntaken,
+}
 
 
 @dataclass(frozen=True)
@@ -120,11 +136,18 @@ def response_of(kind: str, values: dict[str, Any]) -> Response:
     return Response(values['thread'], values.get('greatest'), values.get('throttled'), values.get('ends_no_round_from'), kind == 'thread_so_far')
 
 
+def finding_of(kind: str, values: dict[str, Any]) -> EverFinding:
+    if 'by' in values:
+        values['by'] = tuple(values['by'])
+    found: EverFinding = made(FINDINGS[kind], values)
+    return found
+
+
 def set_of(values: dict[str, Any], told: Sequence[tuple[str, dict[str, Any]]]) -> CoreSet:
     """A set of cores, of the object that begins it and those that follow."""
     return CoreSet(
         tuple(map(int, values['cores'].split())), values.get('from'), values.get('period'),
-        tuple(made(FINDINGS[kind], found) for kind, found in told if kind in FINDINGS),
+        tuple(finding_of(kind, found) for kind, found in told if kind in FINDINGS),
         tuple(response_of(kind, found) for kind, found in told if kind in ('thread', 'thread_so_far')),
         tuple(found['thread'] for kind, found in told if kind == 'unsettled'),
         any(kind == 'clean' for kind, _ in told),

@@ -10,7 +10,7 @@ from typing import Any, Optional, Union
 
 @dataclass(frozen=True)
 class Miss:
-    """A job that ended after its deadline, with the ticks for which it waited and ran."""
+    """A job that ended after its deadline. The ticks sum to the response: `queued` until the job before it ended, then by how the thread stood."""
 
     moment: int
     core: int
@@ -24,16 +24,18 @@ class Miss:
     running: int
     throttled: int
     blocked: int
-    woken: int
+    server: int
 
 
 @dataclass(frozen=True)
 class Overdue:
-    """A job that has not ended at the horizon, and whose deadline has passed."""
+    """A job that is under way at the horizon, and whose deadline has passed: it ends with a miss, or never. The ticks sum to its age."""
 
     moment: int
     core: int
     thread: str
+    number: int
+    age: int
     deadline: int
     activated: int
     queued: int
@@ -41,7 +43,22 @@ class Overdue:
     running: int
     throttled: int
     blocked: int
-    woken: int
+    server: int
+
+
+@dataclass(frozen=True)
+class Untaken:
+    """A word that was set `age` ticks before the horizon and that no thread took: whoever of `by` takes it misses its deadline, the greatest of which is
+    `deadline`."""
+
+    moment: int
+    core: int
+    note: str
+    by: Sequence[str]
+    word: int
+    age: int
+    deadline: int
+    set: int
 
 
 @dataclass(frozen=True)
@@ -56,7 +73,7 @@ class Lost:
 
 @dataclass(frozen=True)
 class Never:
-    """A thread with a deadline, of which no job was activated."""
+    """A thread with a deadline of which no job could begin up to the horizon."""
 
     moment: int
     core: int
@@ -66,13 +83,14 @@ class Never:
 
 @dataclass(frozen=True)
 class Unjudged:
-    """A thread with a deadline whose first job was activated, has not ended at the horizon, and still has time. It is no finding."""
+    """A thread with a deadline of which no job has ended at the horizon, and none is overdue. `activated` is of its job under way, if one is. It is no
+    finding."""
 
     moment: int
     core: int
     thread: str
     deadline: int
-    activated: int
+    activated: Optional[int] = None
 
 
 @dataclass(frozen=True)
@@ -108,7 +126,7 @@ class Other:
     values: Mapping[str, Union[int, str]]
 
 
-Finding = Union[Miss, Overdue, Lost, Never, Slow, Unanswered, Other]
+Finding = Union[Miss, Overdue, Untaken, Lost, Never, Slow, Unanswered, Other]
 
 
 @dataclass(frozen=True)
@@ -134,10 +152,12 @@ class Hint:
 @dataclass(frozen=True)
 class Counts:
     """How many findings there are of each kind. Merged and allowed ones are none, nor are unjudged threads and hints. Then how many threads and deadlines
-    the file has, and how many jobs and answers with a deadline ended or are overdue. The last two are 0 in a file without a chain."""
+    the file has, and how many jobs and answers with a deadline ended or are overdue, and words are untaken. The last two are 0 in a file without a
+    chain."""
 
     missed: int
     overdue: int
+    untaken: int
     lost: int
     never: int
     merged: int
@@ -167,7 +187,7 @@ class Verdict:
 
     @property
     def is_judged(self) -> bool:
-        """Whether any job or answer with a deadline ended or is overdue."""
+        """Whether any job or answer with a deadline ended or is overdue, or a word is untaken."""
         return self.counts.judged > 0
 
     def __iter__(self) -> Iterator[Finding]:
@@ -194,7 +214,7 @@ class Job:
     running: int
     throttled: int
     blocked: int
-    woken: int
+    server: int
 
 
 @dataclass(frozen=True)
@@ -238,13 +258,14 @@ class Figures:
     ticks_running: int = 0
     ticks_throttled: int = 0
     ticks_blocked: int = 0
-    ticks_woken: int = 0
+    ticks_server: int = 0
     ticks_done: int = 0
 
 
-FINDINGS: Mapping[str, type[Union[Miss, Overdue, Lost, Never, Slow, Unanswered]]] = {
-    'miss': Miss, 'overdue': Overdue, 'lost': Lost, 'never': Never, 'slow': Slow, 'unanswered': Unanswered,
+FINDINGS: Mapping[str, type[Union[Miss, Overdue, Untaken, Lost, Never, Slow, Unanswered]]] = {
+    'miss': Miss, 'overdue': Overdue, 'untaken': Untaken, 'lost': Lost, 'never': Never, 'slow': Slow, 'unanswered': Unanswered,
 }
+
 
 def objects_of(lines: bytes) -> Iterator[tuple[str, dict[str, Any]]]:
     """The objects of the lines that mcscheck writes: the kind of each, and its other values. No object has a line feed in it."""
@@ -271,6 +292,8 @@ def made(of: type[Any], values: dict[str, Any]) -> Any:
 
 
 def finding_of(kind: str, values: dict[str, Any]) -> Finding:
+    if kind == 'untaken':
+        values['by'] = tuple(values['by'])
     if kind in FINDINGS:
         found: Finding = made(FINDINGS[kind], values)
         return found

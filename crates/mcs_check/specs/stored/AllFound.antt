@@ -4,7 +4,7 @@ use Rattle.mcs_ticks.specs.Capped.{capped}
 use Rattle.mcs_ticks.specs.declared.row.Row.{Row}
 use Rattle.mcs_system.specs.System.{System}
 use Rattle.mcs_core.specs.Clock.{schedule}
-use Rattle.mcs_verdict.specs.Findings.{UpTo, found_at_end, past_of}
+use Rattle.mcs_verdict.specs.Findings.{UpTo, all_at_end, past_of}
 use Rattle.mcs_verdict.specs.Watch.{Watch, watch_of}
 use Rattle.mcs_chain.specs.Found.{all_unanswered}
 use Rattle.mcs_chain.specs.Watch.{all_due, all_judged_many, all_slow_many, watch_of as chains_of}
@@ -18,7 +18,7 @@ use Rattle.mcs_check.specs.declared.seen.Tables.{Tables}
 use Rattle.mcs_check_lines.specs.declared.checked.Checked.{Checked}
 use Rattle.mcs_check_lines.specs.declared.checked.Scope.{Scope}
 use Rattle.mcs_check_lines.specs.Deadlines.{chain_deadlines, thread_deadlines}
-use Rattle.mcs_check.specs.Judged.{all_unjudged, judged_rounds, overdue_many}
+use Rattle.mcs_check.specs.Judged.{all_unjudged, judged_rounds, waiting_many}
 use Rattle.mcs_check_lines.specs.Checked.{if_chains}
 use Rattle.mcs_check_lines.specs.Counts.{no_counts}
 use Rattle.mcs_check.specs.stored.Rows.{counts_in, kept_table, rows_text}
@@ -43,7 +43,7 @@ scope_with system found =
       unjudged = length found.unjudged.items;
       threads = length system.threads;
       deadlines = thread_deadlines system.threads + chain_deadlines system.chains;
-      judged = capped (found.rounds + found.answers + overdue_many found.unended.items + length found.unanswered.items);
+      judged = capped (found.rounds + found.answers + waiting_many found.unended.items + length found.unanswered.items);
     }
 
 abbrev pub checked_of : System → AllFound → Checked
@@ -73,7 +73,7 @@ module _ (system : System) (allowed : List Bool) (options : Options) where
   pub record IsAllFound (old new : Option (List ℕ)) (found : AllFound) : Type 0 where
     pub text : AppendsBefore old new text_of_rows found.text.items
     pub counts : found.counts ≡ counts_in system allowed [] rows_of_run no_counts
-    pub unended : found.unended.items ≡ found_at_end system (past_of [] rows_of_run) options.horizon 0 system.threads
+    pub unended : found.unended.items ≡ all_at_end system (past_of [] rows_of_run) options.horizon
     pub due : found.due.items ≡ all_due None 0 (chains_of system (past_of [] rows_of_run)).each
     pub slow : found.slow ≡ all_slow_many (chains_of system (past_of [] rows_of_run)).each
     pub unanswered : found.unanswered.items ≡ all_unanswered system (past_of [] rows_of_run) options.horizon 0 system.chains

@@ -4,7 +4,7 @@ use Rattle.mcs_ticks.specs.declared.sink.FlowFault.TheVariants as fault
 use Rattle.mcs_ticks.specs.Capped.{capped}
 use Rattle.mcs_core.specs.Clock.{schedule}
 use Rattle.mcs_system.specs.System.{System}
-use Rattle.mcs_verdict.specs.Findings.{UpTo, found_at_end, past_of}
+use Rattle.mcs_verdict.specs.Findings.{UpTo, all_at_end, past_of}
 use Rattle.mcs_cli.specs.Devices.{AppendsPrefix}
 use Rattle.mcs_cli.specs.Flow.{AppendsBefore, IsWriteFault}
 use Rattle.mcs_cli.proofs.Flow.{before-none, prefix-before}
@@ -56,7 +56,7 @@ returns-in-Ok-look-clause-ok g c =
           last.lines.target.now _ last.text.now.items _ (search rules) (ap (λ t. t.items) c.found_with.ensures.text ∙ search rules) told;
       counts = c.found_with.ensures.counts ∙ c.in-Ok-look.ensures.counts ∙ counted;
       unended = ap (λ v. v.items) c.found_with.ensures.unended ∙ c.in-Ok-look.ensures.unended
-          ∙ ap (λ (s : System). found_at_end s (past_of [] (schedule s horizon)) horizon 0 s.threads) system_is;
+          ∙ ap (λ (s : System). all_at_end s (past_of [] (schedule s horizon)) horizon) system_is;
       rounds = c.found_with.ensures.judged.0 ∙ c.in-Ok-look.ensures.rounds
           ∙ ap (λ s. capped (judged_rounds s (past_of [] (schedule s horizon)))) system_is;
       answers = c.found_with.ensures.judged.1 ∙ sym (no-answers system (past_of [] (schedule system horizon)) none);

@@ -6,7 +6,7 @@ use Rattle.mcs_ticks.specs.Capped.{capped}
 use Rattle.mcs_system.specs.System.{System}
 use Rattle.mcs_core.specs.Clock.{schedule}
 use Rattle.mcs_hints.specs.Hints.{hints_of}
-use Rattle.mcs_verdict.specs.Findings.{InOrder, UpTo, found_at_end, past_of}
+use Rattle.mcs_verdict.specs.Findings.{InOrder, UpTo, all_at_end, past_of}
 use Rattle.mcs_cli.specs.Devices.{AppendsPrefix}
 use Rattle.mcs_cli.specs.Flow.{AppendsBefore, IsWriteFault}
 use Rattle.mcs_cli.proofs.Flow.{before-all, before-longer, before-none, fault-longer, fault-then, prefix-before, prefix-longer}
@@ -90,10 +90,10 @@ returns-in_err-write_text-clause-fault g c =
     let rounds_are = c.in_ok-all.ensures.ok.rounds ∙ ap (λ s. capped (judged_rounds s (past_of [] (schedule s horizon)))) system_is in
     let answers_are = c.in_ok-all.ensures.ok.answers ∙ ap (λ s. all_judged_many (chains_of s (past_of [] (schedule s horizon))).each) system_is in
     let unjudged_are = c.in_ok-all.ensures.ok.unjudged ∙ ap (λ s. all_unjudged s (past_of [] (schedule s horizon)) horizon) system_is in
-    let ended_are = c.in_ok-all.ensures.ok.unended ∙ ap (λ (s : System). found_at_end s (past_of [] (schedule s horizon)) horizon 0 s.threads) system_is in
+    let ended_are = c.in_ok-all.ensures.ok.unended ∙ ap (λ (s : System). all_at_end s (past_of [] (schedule s horizon)) horizon) system_is in
     let others = c.put_rest.ensures.others in
-    let unended = c.in_ok-all.ensures.ok.unended ∙ ap (λ (s : System). found_at_end s (past_of [] (schedule s horizon)) horizon 0 s.threads) system_is
-    ∙ ap (λ (s : System). found_at_end s (past_of [] (schedule system horizon)) horizon 0 s.threads) (sym own_is) in
+    let unended = c.in_ok-all.ensures.ok.unended ∙ ap (λ (s : System). all_at_end s (past_of [] (schedule s horizon)) horizon) system_is
+    ∙ ap (λ (s : System). all_at_end s (past_of [] (schedule system horizon)) horizon) (sym own_is) in
     let counted = subst (λ found. c.put_rest.new.all.counts ≡ with_hints (length (hints_of c.deref-2.result.now)) (counts_found c.as_slice-allowed.result.now found c.in_ok-all.all.counts)) unended
     (ok-holds c.put_rest.result done c.put_rest.ensures.counts) in
     let counts_are = counts-put names system horizon _ _ _ _ flags_are own_is counted_are counted in
@@ -141,10 +141,10 @@ returns-clause-ok g c =
     let rounds_are = c.in_ok-all.ensures.ok.rounds ∙ ap (λ s. capped (judged_rounds s (past_of [] (schedule s horizon)))) system_is in
     let answers_are = c.in_ok-all.ensures.ok.answers ∙ ap (λ s. all_judged_many (chains_of s (past_of [] (schedule s horizon))).each) system_is in
     let unjudged_are = c.in_ok-all.ensures.ok.unjudged ∙ ap (λ s. all_unjudged s (past_of [] (schedule s horizon)) horizon) system_is in
-    let ended_are = c.in_ok-all.ensures.ok.unended ∙ ap (λ (s : System). found_at_end s (past_of [] (schedule s horizon)) horizon 0 s.threads) system_is in
+    let ended_are = c.in_ok-all.ensures.ok.unended ∙ ap (λ (s : System). all_at_end s (past_of [] (schedule s horizon)) horizon) system_is in
     let others = c.put_rest.ensures.others in
-    let unended = c.in_ok-all.ensures.ok.unended ∙ ap (λ (s : System). found_at_end s (past_of [] (schedule s horizon)) horizon 0 s.threads) system_is
-    ∙ ap (λ (s : System). found_at_end s (past_of [] (schedule system horizon)) horizon 0 s.threads) (sym own_is) in
+    let unended = c.in_ok-all.ensures.ok.unended ∙ ap (λ (s : System). all_at_end s (past_of [] (schedule s horizon)) horizon) system_is
+    ∙ ap (λ (s : System). all_at_end s (past_of [] (schedule system horizon)) horizon) (sym own_is) in
     let counted = subst (λ found. c.put_rest.new.all.counts ≡ with_hints (length (hints_of c.deref-2.result.now)) (counts_found c.as_slice-allowed.result.now found c.in_ok-all.all.counts)) unended
     (ok-holds c.put_rest.result done c.put_rest.ensures.counts) in
     let counts_are = counts-put names system horizon _ _ _ _ flags_are own_is counted_are counted in
@@ -185,10 +185,10 @@ returns-clause-counted g c =
     let rounds_are = c.in_ok-all.ensures.ok.rounds ∙ ap (λ s. capped (judged_rounds s (past_of [] (schedule s horizon)))) system_is in
     let answers_are = c.in_ok-all.ensures.ok.answers ∙ ap (λ s. all_judged_many (chains_of s (past_of [] (schedule s horizon))).each) system_is in
     let unjudged_are = c.in_ok-all.ensures.ok.unjudged ∙ ap (λ s. all_unjudged s (past_of [] (schedule s horizon)) horizon) system_is in
-    let ended_are = c.in_ok-all.ensures.ok.unended ∙ ap (λ (s : System). found_at_end s (past_of [] (schedule s horizon)) horizon 0 s.threads) system_is in
+    let ended_are = c.in_ok-all.ensures.ok.unended ∙ ap (λ (s : System). all_at_end s (past_of [] (schedule s horizon)) horizon) system_is in
     let others = c.put_rest.ensures.others in
-    let unended = c.in_ok-all.ensures.ok.unended ∙ ap (λ (s : System). found_at_end s (past_of [] (schedule s horizon)) horizon 0 s.threads) system_is
-    ∙ ap (λ (s : System). found_at_end s (past_of [] (schedule system horizon)) horizon 0 s.threads) (sym own_is) in
+    let unended = c.in_ok-all.ensures.ok.unended ∙ ap (λ (s : System). all_at_end s (past_of [] (schedule s horizon)) horizon) system_is
+    ∙ ap (λ (s : System). all_at_end s (past_of [] (schedule system horizon)) horizon) (sym own_is) in
     let counted = subst (λ found. c.put_rest.new.all.counts ≡ with_hints (length (hints_of c.deref-2.result.now)) (counts_found c.as_slice-allowed.result.now found c.in_ok-all.all.counts)) unended
     (ok-holds c.put_rest.result done c.put_rest.ensures.counts) in
     let counts_are = counts-put names system horizon _ _ _ _ flags_are own_is counted_are counted in

@@ -1,6 +1,6 @@
 use Rattle.std.proofs.Common.{◌∷◌, [], codes}
 use Rattle.mcs_text.specs.Text.{thread_name}
-use Rattle.mcs_check_lines.specs.Lines.{late_words, response_words}
+use Rattle.mcs_check_lines.specs.Lines.{age_words, late_words, response_words}
 use Rattle.mcs_check_lines.proofs.Words.{then-words}
 use Rattle.mcs_check_lines.proofs.line.write_finding.Goals as goal
 
@@ -16,6 +16,9 @@ returns-in-Miss-clause-written c =
 pub returns-in-Overdue-clause-written : goal.returns-in-Overdue-clause-written
 returns-in-Overdue-clause-written c =
     let o = c.in-Overdue in
-    let named = rw (c.thread_name-in-Overdue.ensures.name) at c.write_named-times.ensures.written in
-    rw o.is (then-words _ _ _ (codes "overdue" ∷ thread_name c.args.system.now o.thread ∷ []) (late_words o.deadline o.activated o.queued o.stood) named
+    let name = thread_name c.args.system.now o.thread in
+    let named = rw (c.thread_name-in-Overdue.ensures.name) at c.write_named-name-in-Overdue.ensures.written in
+    let round = age_words o.number o.age in
+    let aged = then-words _ _ _ (codes "overdue" ∷ name ∷ []) round named c.write_age-times.ensures.written in
+    rw o.is (then-words _ _ _ (codes "overdue" ∷ name ∷ round) (late_words o.deadline o.activated o.queued o.stood) aged
     c.write_late-in-Overdue.ensures.written)

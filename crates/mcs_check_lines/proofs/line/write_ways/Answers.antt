@@ -11,5 +11,5 @@ returns-clause-written c =
     let blocked = codes "blocked" ∷ decimal stood.blocked ∷ [] in
     let two = then-words _ _ _ ready running c.write_counted-running.ensures.written c.write_counted-throttled.ensures.written in
     let three = then-words _ _ _ (ready ++ running) throttled two c.write_counted-blocked.ensures.written in
-    let four = then-words _ _ _ (ready ++ running ++ throttled) blocked three c.write_counted-woken.ensures.written in
-    then-words _ _ _ (ready ++ running ++ throttled ++ blocked) (codes "woken" ∷ decimal stood.woken ∷ []) four c.write_counted.ensures.written
+    let four = then-words _ _ _ (ready ++ running ++ throttled) blocked three c.write_counted-server.ensures.written in
+    then-words _ _ _ (ready ++ running ++ throttled ++ blocked) (codes "server" ∷ decimal stood.server ∷ []) four c.write_counted.ensures.written
