@@ -29,6 +29,7 @@ def verdict_of(packed: Packed, unit: Unit) -> Verdict:
             found[name] = int(many), f'{int(many):,}'
     for note, lost in packed.lost.items():
         found[f'lost at {note}'] = lost, f'{lost:,}'
+    found |= {f'untaken at {note}': (1, '1') for note in packed.notes_untaken}
     return found
 
 

@@ -19,7 +19,7 @@ ANSWER, SUM = 'answer', 'sum'
 IN_DOUBT = (HINT, 'unjudged')
 # what a kind of finding says of whom it names, of one and of several
 SAID = {
-    'overdue': ('job overdue', 'jobs overdue'), 'lost': ('signal lost', 'signals lost'), 'never': ('thread never activated', 'threads never activated'),
+    'overdue': ('job overdue', 'jobs overdue'), 'untaken': ('word untaken', 'words untaken'), 'lost': ('signal lost', 'signals lost'), 'never': ('thread never activated', 'threads never activated'),
     'slow': ('answer late', 'answers late'), 'unanswered': ('interrupt unanswered', 'interrupts unanswered'), 'unjudged': ('thread unjudged', 'threads unjudged'),
     'hints': ('hint', 'hints'),
 }

@@ -2,9 +2,11 @@
 
 Words are those of mcscheck. A round is *activated* where its script's first wait has its word: when that word was first set since it was 0,
 or at the wake; without a first wait, in the first tick in which the thread is ready or runs. Only bits count for which a handler has something to do: a
-word without such a bit activates nothing, given or held. A *miss* is a round that ended more than its deadline after its
-activation; *overdue* is one that is activated and not ended at the horizon, a deadline later or more. A signal is *lost* where it leaves a
-held word as it was, and *merged* where it adds bits to one; so is an interrupt. A thread that waits for a server is *blocked*, from its stop until it enters.
+word without such a bit activates nothing. A *miss* is a round that ended more than its deadline after its activation; *overdue* is one under way at the
+horizon that was activated a deadline before or earlier. A word that is held is no round's. It is *untaken* once it is as old as the greatest deadline of all
+that may take it, if each of them has a deadline and waits for it by the first item of its script alone. A signal is *lost* where it leaves a held word as
+it was, and *merged* where it adds bits to one; so is an interrupt. A thread that waits for a server is *blocked*, from its stop until it enters; mcscheck
+counts these ticks apart, as `server`.
 
 Of a row nothing is kept but what is open: a record for each thread, the signals under way, the words of notifications, and what each context
 holds, which tells at a wake whether the thread is ready or throttled."""
@@ -81,6 +83,17 @@ class Post(NamedTuple):
     source: str = ''
 
 
+class Untaken(NamedTuple):
+    """A word of a notification that is too old at the end for all who may take it, and since when it is set."""
+
+    note: str
+    by: Sequence[Thread]
+    word: int
+    since: int
+    deadline: int
+    end: int
+
+
 class UnderWay(NamedTuple):
     """A signal that has not arrived, or has not taken effect yet."""
 
@@ -137,8 +150,11 @@ class Listener:
 
     def holds(self, holding: Holding) -> None: ...
 
+    def untaken(self, untaken: Untaken) -> None:
+        """A word is held at the horizon, and whoever takes it misses the deadline."""
+
     def never(self, thread: Thread, horizon: int) -> None:
-        """The thread has a deadline, and was not activated once."""
+        """The thread has a deadline, and nobody was given a word for which it waits first; or else it was not ready and did not run once."""
 
     def answered(self, answer: Answer) -> None:
         """An interrupt of a chain has its first answer. Of a round with many answers only the first ones are told."""
@@ -160,7 +176,6 @@ class Account:
 
     def begin(self, moment: int, activated: Optional[int]) -> None:
         self.begun, self.activated = moment, activated
-        self.was_activated = self.was_activated or self.activated_by is not None
 
     def pass_ticks(self) -> None:
         """Some ticks have passed as it stands: a thread without a first wait that was ready or ran in one was activated."""
@@ -189,6 +204,10 @@ class Reading:
         self.system, self.listener = system, listener
         self.accounts = {name: Account(thread) for name, thread in system.threads.items()}
         self.words: dict[str, int] = dict(system.words)
+        # for each notification the threads that wait for it first and had no word so far, given to anybody, with something to do for them
+        self.idle: dict[str, list[Account]] = {
+            note: [self.accounts[thread.name] for thread in waiters if thread.activated_by == note] for note, waiters in system.waiters.items()
+        }
         # since when a word has a bit that leaves something to do
         self.first_set: dict[str, int] = dict.fromkeys(system.home_of, 0)
         self.taken_by: dict[str, Optional[str]] = dict.fromkeys(system.servers)
@@ -211,6 +230,7 @@ class Reading:
         other.listener = listener
         other.accounts = {name: copy.copy(account) for name, account in self.accounts.items()}
         other.words, other.first_set = dict(self.words), dict(self.first_set)
+        other.idle = {note: [other.accounts[account.thread.name] for account in own] for note, own in self.idle.items()}
         other.taken_by, other.taken_since = dict(self.taken_by), dict(self.taken_since)
         other.signals = collections.defaultdict(collections.deque)
         for key, queue in self.signals.items():
@@ -330,6 +350,7 @@ class Reading:
             step = place.take(words[4], int(words[5]))
             if self.chains:
                 self.chains.wake(place, step, words[4], signal.badge, signal.brought(moment), moment)
+        self.given(words[4], int(words[5]))
         if account.is_activated_by(int(words[5])):
             account.begin(moment, moment)
         self.resume(account, moment)
@@ -368,6 +389,7 @@ class Reading:
         account, note = self.accounts[words[3]], words[4]
         self.words[note] = 0
         self.listener.word(note, moment, 0)
+        self.given(note, int(words[5]))
         if account.is_activated_by(int(words[5])):
             account.begin(moment, self.first_set[note])
         if self.follows_steps:
@@ -388,6 +410,13 @@ class Reading:
             self.tell_held(thread.name, moment, False)
 
     # ---- what rows come to
+
+    def given(self, note: str, word: int) -> None:
+        """Somebody is given a word: those that wait first for the notification have had one, if it left them something to do."""
+        if idle := self.idle[note]:
+            for account in idle:
+                account.was_activated = account.was_activated or account.thread.has_work_for(word)
+            self.idle[note] = [account for account in idle if not account.was_activated]
 
     def place(self, thread: str) -> Place:
         """At which step a thread is."""
@@ -446,22 +475,27 @@ class Reading:
                 self.listener.at_server(server, account.thread, account.since, self.end)
         for server in self.taken_by:
             self.leave(server, self.end)
+        for note in self.system.due:
+            self.close_word(note)
         for (_, note), queue in self.signals.items():
             for signal in queue:
                 self.listener.under_way(note, signal)
 
     def close_round(self, account: Account) -> None:
-        """A round under way, or the word that is held for the next one."""
-        activated, note, was_activated = account.activated, account.activated_by, account.was_activated
-        if account.begun is None and note and account.standing != DONE and account.thread.has_work_for(self.words[note]):
-            activated, was_activated = self.first_set[note], True
+        """A round under way."""
+        is_active = account.activated_by is None and account.standing in (READY, RUNNING)
         # no tick follows the horizon, in which the thread could be ready or run
-        is_too_late = note is None and activated == self.end
-        if activated is not None and was_activated and not is_too_late:
-            begun = self.end if account.begun is None else account.begun
-            self.listener.round_open(Round(account.thread, 0, activated, begun, self.end))
-        elif account.thread.deadline and not was_activated:
+        is_too_late = account.activated_by is None and account.activated == self.end
+        if account.activated is not None and account.begun is not None and not is_too_late:
+            self.listener.round_open(Round(account.thread, 0, account.activated, account.begun, self.end))
+        elif account.thread.deadline and not account.was_activated and not is_active:
             self.listener.never(account.thread, self.end)
+
+    def close_word(self, note: str) -> None:
+        """A word that is held, of a notification with a deadline."""
+        word, since, deadline, by = self.words[note], self.first_set[note], self.system.due[note], self.system.waiters[note]
+        if word and self.end - since >= deadline and all(thread.has_work_for(word) for thread in by):
+            self.listener.untaken(Untaken(note, by, word, since, deadline, self.end))
 
 
 def read(told: Told, listener: Listener) -> Reading:

@@ -4,7 +4,7 @@ sweep SYSTEM --greatest PLACE=A:B --horizon N [--of NAME ..]
 sweep SYSTEM --set PLACE=VALUES .. --horizon N --emit DIR; sweep --run FILE ..; sweep --collect DIR
 
 Runs a system with each combination of settings, and writes one CSV: the settings, the exit code of mcscheck and its fault, what was missed, lost,
-overdue and never activated, with chains also what was slow and unanswered, and the greatest response of each thread with a deadline, empty where it ended no round. A combination that is refused is
+overdue, untaken and never activated, with chains also what was slow and unanswered, and the greatest response of each thread with a deadline, empty where it ended no round. A combination that is refused is
 a line with the exit code 1 and the fault; one with the exit code 6 judged no deadline, so it says nothing. A run that fails in another way ends the sweep: it is no answer about the system.
 
 A PLACE is context.NAME.KEY, thread.NAME.KEY, note.NAME.KEY, thread.NAME.script.K (the number of item K, from 1), order.K.KEY (the K-th order),

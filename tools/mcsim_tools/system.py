@@ -66,6 +66,8 @@ class Thread:
     # the bits of which such a word has to have one, where nothing but handlers follows that wait; None: each word will do
     bits: Optional[int] = None
     script: Sequence[Item] = ()
+    # whether no other wait, here or in a server that it calls, is for that notification
+    waits_alone: bool = True
 
     @property
     def core(self) -> int:
@@ -117,6 +119,8 @@ class System:
     waiters: dict[str, list[Thread]] = field(init=False)
     # for each notification the bits that leave something to do to a thread whose script begins with a wait for it
     heard: dict[str, Optional[int]] = field(init=False)
+    # the deadlines of notifications that have one: the greatest of those that may take its word, where each begins with it a round that has one
+    due: dict[str, int] = field(init=False)
 
     def __post_init__(self) -> None:
         waiters: dict[str, list[Thread]] = {note: [] for note in self.home_of}
@@ -125,6 +129,9 @@ class System:
                 waiters[note].append(thread)
         object.__setattr__(self, 'thread_of', {thread.context.name: thread for thread in self.threads.values()})
         object.__setattr__(self, 'waiters', waiters)
+        object.__setattr__(self, 'due', {
+            note: max(thread.deadline for thread in own) for note, own in waiters.items() if own and all(begins_due(thread, note) for thread in own)
+        })
         object.__setattr__(self, 'heard', {note: bits_of_all([thread for thread in own if thread.activated_by == note]) for note, own in waiters.items()})
 
     def is_set(self, note: str, word: int) -> bool:
@@ -137,6 +144,11 @@ class System:
         for thread in sorted(self.threads.values(), key=lambda thread: (thread.core, -thread.priority, thread.number)):
             found.setdefault(thread.core, []).append(thread)
         return found
+
+
+def begins_due(thread: Thread, note: str) -> bool:
+    """Whether a thread begins with any word that it takes of a notification a round that has a deadline."""
+    return thread.deadline > 0 and thread.activated_by == note and thread.waits_alone
 
 
 def bits_of_all(threads: Iterable[Thread]) -> Optional[int]:
@@ -238,7 +250,8 @@ def thread_of(number: int, table: Tables, contexts: Mapping[str, Context], waits
     first = items[0][1] if items[0][0] == 'wait' else None
     start, deadline = whole(table, 'start', 0), whole(table, 'deadline', 0)
     bits = None if first is None else bits_of(items)
-    return Thread(number, name_of(table), contexts[table['context']], whole(table, 'priority'), start, deadline, waits.of(items), first, bits, items)
+    alone = first is None or first not in waits.of(items[1:])
+    return Thread(number, name_of(table), contexts[table['context']], whole(table, 'priority'), start, deadline, waits.of(items), first, bits, items, alone)
 
 
 def chain_of(table: Tables, sources: Mapping[str, object], threads: Mapping[str, object]) -> Chain:

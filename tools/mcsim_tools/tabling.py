@@ -19,9 +19,9 @@ Object = Mapping[str, Any]
 KIND = 'kind'
 # the keys of times; others that begin with `ticks_` are times too
 TIMES = frozenset((
-    'moment', 'response', 'deadline', 'activated', 'begun', 'ended', 'queued', 'ready', 'running', 'throttled', 'blocked', 'woken', 'budget', 'period',
+    'moment', 'response', 'deadline', 'activated', 'begun', 'ended', 'queued', 'ready', 'running', 'throttled', 'blocked', 'budget', 'period',
     'greatest', 'least', 'p50', 'p90', 'p99', 'margin', 'unused', 'from', 'to', 'waited', 'ticks', 'until', 'charged', 'horizon', 'ends_no_round_from',
-    'latency', 'origin', 'total', 'held', 'delay',
+    'latency', 'origin', 'total', 'held', 'delay', 'age', 'set', 'server',
 ))
 TICKS = 'ticks_'
 # shares in millionths
@@ -30,7 +30,7 @@ MILLIONTHS = decimal.Decimal(10_000)
 # what of a row names it beside its texts
 NUMBER = 'number'
 # keys whose values say that something is wrong if they are above 0, or below it
-WRONG_ABOVE = frozenset(('missed', 'overdue', 'lost', 'never', 'slow', 'unanswered', 'each_period', 'so_far'))
+WRONG_ABOVE = frozenset(('missed', 'overdue', 'untaken', 'lost', 'never', 'slow', 'unanswered', 'each_period', 'so_far'))
 WRONG_BELOW = frozenset(('margin',))
 # spaces between columns: two, or one if that makes fewer parts
 APART = (2, 1)
@@ -62,7 +62,7 @@ def text_of(key: str, value: object, unit: scale.Unit) -> str:
         return f'{value / MILLIONTHS:.4f}'.rstrip('0').rstrip('.')
     if isinstance(value, int) and is_time(key) and unit.tick is not None:
         return scale.plain(value * unit.tick).replace(',', '')
-    return printable(value)
+    return printable(', '.join(map(str, value)) if isinstance(value, list) else value)
 
 
 def unit_of(key: str, unit: scale.Unit) -> str:
@@ -106,9 +106,10 @@ def aligned(texts: Sequence[str]) -> tuple[str, ...]:
 
 def column_of(key: str, rows: Sequence[Object], unit: scale.Unit) -> Column:
     values = [row.get(key) for row in rows]
-    is_text = any(isinstance(value, str) for value in values)
+    is_text = any(isinstance(value, (str, list)) for value in values)
     texts = tuple(text_of(key, value, unit) for value in values)
-    head = (*key.split('_'), *filter(None, [unit_of(key, unit)]))
+    # a server is named by some lines, and others count the ticks before it
+    head = (*key.split('_'), *filter(None, ['' if is_text else unit_of(key, unit)]))
     return Column(key, head, texts if is_text else aligned(texts), tuple(is_wrong(key, value) for value in values), is_text)
 
 

@@ -4,11 +4,11 @@ from __future__ import annotations
 import collections
 from typing import NamedTuple, Optional
 
-from .reading import LOST, MERGED, STANDINGS, Listener, Post, Round, Stood
+from .reading import LOST, MERGED, STANDINGS, Listener, Post, Round, Stood, Untaken
 from .scale import TICKS, Unit
 from .system import System, Thread
 
-MISS, OVERDUE, LOSS, NEVER = 'miss', 'overdue', 'lost', 'never'
+MISS, OVERDUE, UNTAKEN, LOSS, NEVER = 'miss', 'overdue', 'untaken', 'lost', 'never'
 # findings that are kept; all are counted
 KEPT = 500
 
@@ -51,6 +51,8 @@ class Tally(Listener):
         self.of = {name: Counts() for name in system.threads}
         self.lost: collections.Counter[str] = collections.Counter()
         self.merged: collections.Counter[str] = collections.Counter()
+        # notifications whose word is untaken
+        self.notes_untaken: list[str] = []
         self.found: collections.Counter[str] = collections.Counter()
         self.findings: list[Finding] = []
 
@@ -66,8 +68,9 @@ class Tally(Listener):
 
     def summary(self) -> str:
         """The findings in one line."""
-        told = [f'{self.found[kind]:,} {word}' for kind, word in ((MISS, 'missed'), (OVERDUE, 'overdue'), (LOSS, 'lost'), (NEVER, 'never activated'))]
-        return ', '.join(told[:3] + told[3:] * (self.found[NEVER] > 0))
+        always = [f'{self.found[kind]:,} {word}' for kind, word in ((MISS, 'missed'), (OVERDUE, 'overdue'), (LOSS, 'lost'))]
+        seldom = [f'{self.found[kind]:,} {word}' for kind, word in ((UNTAKEN, 'untaken'), (NEVER, 'never activated')) if self.found[kind]]
+        return ', '.join(always + seldom)
 
     def stood(self, stood: Stood) -> None:
         self.of[stood.thread.name].stood[stood.standing] += stood.end - stood.begin
@@ -98,6 +101,12 @@ class Tally(Listener):
             self.find(Finding(LOSS, self.system.home_of[post.note], post.arrived, post.arrived, post.note, post.thread, said))
         elif post.outcome == MERGED:
             self.merged[post.note] += 1
+
+    def untaken(self, untaken: Untaken) -> None:
+        note, by, word, since, deadline, end = untaken
+        self.notes_untaken.append(note)
+        said = f'word {word} set at {{}} and not taken {{}} later by {" or ".join(thread.name for thread in by)}, deadline {{}}'
+        self.find(Finding(UNTAKEN, self.system.home_of[note], since, end, note, by[0], said, (since, end - since, deadline)))
 
     def never(self, thread: Thread, horizon: int) -> None:
         self.of[thread.name].is_never = True

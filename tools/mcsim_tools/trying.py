@@ -150,11 +150,16 @@ class Responses(Question):
         if row is None:
             raise Fault(f'{self.checker} has no line of {self.name}')
         ended: Value = row.get('greatest')
-        overdue = self.row_of(lines, 'overdue')
-        age = None if overdue is None else self.horizon - int(overdue['activated'])
+        age = max((end - begin for begin, end in self.open_spans(lines)), default=None)
         if age is not None and (ended is None or age > ended):
             return Seen(age, is_open=True)
         return Seen(ended)
+
+    def open_spans(self, lines: Sequence[str]) -> Iterator[tuple[int, int]]:
+        """From when to when a job that has not ended is open, or a word is pending that nobody else may take."""
+        yield from ((int(row['activated']), int(row['moment'])) for row in self.rows_of(lines, 'overdue'))
+        untaken = (json.loads(line) for line in lines if '"kind":"untaken"' in line)
+        yield from ((int(row['set']), int(row['moment'])) for row in untaken if row['by'] == [self.name])
 
     def found(self, tables: Tables) -> tuple[int, list[str], str]:
         """What mcscheck finds, and its figures."""
@@ -172,8 +177,7 @@ class Responses(Question):
 
     def span(self, tables: Tables) -> Optional[Span]:
         _, lines, _ = replace(self, least=1).found(tables)
-        spans = [(int(row['activated']), int(row['moment'])) for kind in ('miss', 'overdue') for row in self.rows_of(lines, kind)]
-        return longest(spans)
+        return longest([*((int(row['activated']), int(row['moment'])) for row in self.rows_of(lines, 'miss')), *self.open_spans(lines)])
 
     def case(self, tables: Tables, seen: Seen) -> Case:
         """The first job of the thread with this response, as mcscheck confirms it."""

@@ -18,7 +18,7 @@ from .printable import printable
 from .reading import Listener, Reading, Round
 from .system import System
 
-KINDS = ('missed', 'lost', 'overdue', 'never')
+KINDS = ('missed', 'lost', 'overdue', 'untaken', 'never')
 # what is found of chains, in a system that has one
 OF_CHAINS = ('slow', 'unanswered')
 # the word of a finding, and what it counts as
@@ -187,12 +187,12 @@ def kinds_of(system: System) -> tuple[str, ...]:
 
 
 def counted(lines: Sequence[str], system: System, of: Collection[str]) -> dict[str, int]:
-    """How much was found of each kind; of threads and chains if some are named. A thread has the signals that were lost at notifications for which it waits,
-    and the chains that end with it."""
+    """How much was found of each kind; of threads and chains if some are named. A thread has the signals that were lost, and the words that are untaken, at
+    notifications for which it waits, and the chains that end with it."""
     threads = [name for name in of if name in system.threads]
     notes = {note for name in threads for note in system.threads[name].waits}
     chains = chains_of(system, of)
-    wanted = {'lost': notes, **dict.fromkeys(OF_CHAINS, chains)}
+    wanted = {'lost': notes, 'untaken': notes, **dict.fromkeys(OF_CHAINS, chains)}
     counts: collections.Counter[str] = collections.Counter()
     for line in lines:
         words = line.split()

@@ -32,7 +32,7 @@ cat <<'ROWS'
 {ONE_ROWS.strip()}
 ROWS
 """
-CHECKER = '#!/bin/sh\ncat >/dev/null\necho missed 0 overdue 0 lost 0 never 0 merged 0 allowed 0 hints 0\n'
+CHECKER = '#!/bin/sh\ncat >/dev/null\necho missed 0 overdue 0 untaken 0 lost 0 never 0 merged 0 allowed 0 hints 0\n'
 Path = Union[str, bytes, pathlib.Path]
 Item = TypeVar('Item')
 Done = TypeVar('Done')

@@ -20,7 +20,7 @@ MISS = {'moment': 11, 'core': 0, 'kind': 'miss', 'thread': 'Loop', 'number': 1, 
 LOST = {'moment': 20, 'core': 0, 'kind': 'lost', 'note': 'tick', 'word': 1}
 # 12 jobs of one of three threads end in time
 NOTHING = {
-    'kind': 'counts', 'missed': 0, 'overdue': 0, 'lost': 0, 'never': 0, 'merged': 0, 'allowed': 0, 'unjudged': 0, 'hints': 0, 'threads': 3, 'deadlines': 1,
+    'kind': 'counts', 'missed': 0, 'overdue': 0, 'untaken': 0, 'lost': 0, 'never': 0, 'merged': 0, 'allowed': 0, 'unjudged': 0, 'hints': 0, 'threads': 3, 'deadlines': 1,
     'judged': 12,
 }
 SETS = {'kind': 'sets', 'sets': 3, 'repeating': 3, 'findings': 0, 'threads': 3, 'deadlines': 2}
@@ -85,10 +85,10 @@ class Tables(unittest.TestCase):
         self.assertEqual(found, ['thread  greatest  deadline', 'A              -         5', 'B             17         9'])
 
     def test_columns_of_zeros_are_named_below_if_the_table_is_too_wide(self) -> None:
-        rows = ({'thread': 'A', 'ready': 0, 'woken': 0, 'n': 0}, {'thread': 'B', 'ready': 0, 'woken': 0, 'n': 1})
-        self.assertEqual(table(*rows, width=22), ['thread  n', 'A       0', 'B       1', '0 in each: ready,', '  woken'])
-        # 6 + 2 + 5 + 2 + 5 + 2 + 1
-        self.assertEqual(table(*rows, width=23)[0], 'thread  ready  woken  n')
+        rows = ({'thread': 'A', 'ready': 0, 'server': 0, 'n': 0}, {'thread': 'B', 'ready': 0, 'server': 0, 'n': 1})
+        self.assertEqual(table(*rows, width=22), ['thread  n', 'A       0', 'B       1', '0 in each: ready,', '  server'])
+        # 6 + 2 + 5 + 2 + 6 + 2 + 1
+        self.assertEqual(table(*rows, width=24)[0], 'thread  ready  server  n')
         self.assertEqual(table({'thread': 'A', 'ready': 0, 'n': 4}, width=15), ['thread  n', 'A       4', '0: ready'])
 
     def test_a_wide_table_goes_on_below_with_the_names_of_its_rows(self) -> None:

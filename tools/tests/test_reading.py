@@ -212,18 +212,30 @@ class Rounds(unittest.TestCase):
             listener, _ = heard(STARVED, STARVED_ROWS, horizon)
             self.assertEqual([one.is_overdue for one in listener.open if one.thread.name == 'Ctl'], [wanted])
 
-    def test_a_word_that_nobody_takes_is_open(self) -> None:
-        # up to 6 the word of 4 is held, and no round has taken it
-        listener, _ = heard(PAIR, PAIR_ROWS, 6)
-        self.assertEqual([(one.thread.name, one.activated) for one in listener.open], [('W', 4)])
+    def test_a_word_that_nobody_takes(self) -> None:
+        # up to 6 the word of 4 is held, and no round has taken it; the deadline of W is 4
+        rows = ''.join(f'{line}\n' for line in PAIR_ROWS.split('\n') if line and int(line.split()[0]) <= 6)
+        for horizon, wanted in ((7, []), (8, [('n', ['W'], 3, 4)])):
+            listener, _ = heard(PAIR, rows, horizon)
+            self.assertEqual((listener.open, listener.nevers, listener.words), ([], [], wanted))
+        # without its deadline, or with a wait more, nothing is due
+        for text in (PAIR.replace('deadline = 4, ', ''), PAIR.replace('"compute 3"', '"compute 2", "wait n", "compute 1"')):
+            self.assertEqual(heard(text, rows, 8)[0].words, [])
+
+    def test_others_that_take_words_leave_a_thread_idle(self) -> None:
+        # V waits for the words of W and is given none
+        text = PAIR.replace('{ name = "d",', '{ name = "v", core = 0, budget = 1, period = 9 }, { name = "d",').replace(
+            '    { name = "D"', '    { name = "V", context = "v", priority = 4, deadline = 9, script = ["wait n", "compute 1"] },\n    { name = "D"')
+        self.assertEqual(heard(text, PAIR_ROWS, 11)[0].nevers, [])
+        self.assertEqual(heard(text, '', 2)[0].nevers, ['W', 'V'])
 
     def test_never(self) -> None:
         self.assertEqual(heard(WAITS, WAITS_ROWS, 9)[0].nevers, ['W'])
         self.assertEqual(heard(STARVED, STARVED_ROWS, 9)[0].nevers, [])
         self.assertEqual(heard(STARVED, STARVED_ROWS.rpartition('\n')[0], 1)[0].nevers, ['Ctl'])
-        # released at the horizon itself, it is ready in no tick
+        # released at the horizon itself, it is ready then, and in no tick
         listener, _ = heard(STARVED, STARVED_ROWS, 2)
-        self.assertEqual((listener.nevers, [one.thread.name for one in listener.open]), (['Ctl'], ['Hog']))
+        self.assertEqual((listener.nevers, [one.thread.name for one in listener.open]), ([], ['Hog']))
 
     def test_a_handler_s_round_is_activated_by_its_word(self) -> None:
         # the second word was held at 2, and taken at 5
@@ -233,7 +245,7 @@ class Rounds(unittest.TestCase):
     def test_bits_that_no_handler_takes_activate_nothing(self) -> None:
         # from 3 on the word has the bit of k alone; that of s is set at 4
         self.assertEqual(self.rounds(BUSY, BUSY_ROWS, 13), [('D', 1, 2, 5, False), ('D', 2, 4, 9, True)])
-        self.assertEqual([(one.activated, one.begun) for one in heard(BUSY, BUSY_ROWS, 13)[0].open], [(8, 13)])
+        self.assertEqual(heard(BUSY, BUSY_ROWS, 13)[0].open, [])
 
     def test_words_that_no_handler_takes_begin_no_round(self) -> None:
         self.assertEqual(self.rounds(NOBODY, NOBODY_ROWS, 9), [('D', 1, 6, 2, False)])
@@ -241,13 +253,14 @@ class Rounds(unittest.TestCase):
         listener, _ = heard(NOBODY, up_to_5, 5)
         self.assertEqual((listener.rounds, listener.open, listener.nevers), ([], [], ['D']))
 
-    def test_a_held_word_that_no_handler_takes_activates_no_round(self) -> None:
+    def test_a_held_word_activates_no_round(self) -> None:
         later = NOBODY.replace('priority = 5', 'start = 20, priority = 5')
         listener, _ = heard(later, HELD_ROWS[:HELD_ROWS.index('6 0')], 5)
         self.assertEqual((listener.open, listener.nevers), ([], ['D']))
+        # the word of 6 is for D, which has a deadline and has not come to its wait
         listener, _ = heard(later, HELD_ROWS, 12)
-        self.assertEqual([(one.activated, one.is_overdue) for one in listener.open], [(6, True)])
-        self.assertEqual(listener.nevers, [])
+        self.assertEqual((listener.open, listener.nevers), ([], ['D']))
+        self.assertEqual([since for *_, since in listener.words], [6])
 
     def test_a_word_is_set_by_the_first_bit_that_any_waiter_has_something_to_do_for(self) -> None:
         text = '''
@@ -272,7 +285,7 @@ source = [{ name = "s", note = "n", badge = 2, period = 50, start = 3 }, { name 
         self.assertEqual(self.rounds(FIRST_WORD, FIRST_WORD_ROWS, 9), [('W', 1, 0, 3, True)])
         # the bit 4 alone is nobody's
         self.assertEqual(heard(FIRST_WORD.replace('word = 6', 'word = 4'), '', 3)[0].nevers, ['W'])
-        self.assertEqual([one.activated for one in heard(FIRST_WORD, '', 3)[0].open], [0])
+        self.assertEqual(heard(FIRST_WORD, '', 3)[0].open, [])
 
     def test_which_bits_leave_something_to_do(self) -> None:
         for script, wanted in (

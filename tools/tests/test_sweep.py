@@ -51,10 +51,11 @@ chain = [{ name = "e", source = "s", thread = "A", deadline = 8 }, { name = "f",
 '''
 # what is found of chains: the earliest origin of an answer that came late, and one that has none
 CHAINED = ['12 0 slow e latency 9 deadline 8 origin 3', '22 0 slow e latency 9 deadline 8 origin 13', '30 0 unanswered f deadline 8 origin 4']
-MISS = '11 0 miss A round 1 response 11 deadline 10 activated 0 queued 0 ready 0 running 5 throttled 6 blocked 0 woken 0'
+MISS = '11 0 miss A round 1 response 11 deadline 10 activated 0 queued 0 ready 0 running 5 throttled 6 blocked 0 server 0'
 LOST = '12 0 lost n word 1'
-OTHER = '20 1 overdue B deadline 5 activated 0 queued 0 ready 20 running 0 throttled 0 blocked 0 woken 0'
-COUNTS = 'missed 0 overdue 0 lost 0 never 0 merged 0 allowed 0 unjudged 0 hints 1 threads 2 deadlines 1 judged 1'
+UNTAKEN = '30 0 untaken n by A word 1 age 18 deadline 10 set 12'
+OTHER = '20 1 overdue B round 1 age 20 deadline 5 activated 0 queued 0 ready 20 running 0 throttled 0 blocked 0 server 0'
+COUNTS = 'missed 0 overdue 0 untaken 0 lost 0 never 0 merged 0 allowed 0 unjudged 0 hints 1 threads 2 deadlines 1 judged 1'
 NOTHING_JUDGED = COUNTS.replace('judged 1', 'judged 0')
 # A ended a job and has a deadline, B ended three and has none
 FIGURES = ['thread A core 0 rounds 1 greatest 7 deadline 10', 'thread B core 1 rounds 3 greatest 5 deadline -']
@@ -148,14 +149,14 @@ class Case(unittest.TestCase):
 class Lines(Case):
     def test_a_line_for_each_combination(self) -> None:
         told = self.ran(self.file, '--set', 'context.a.budget=1,6,4', '--set', 'context.b.core=1')
-        self.assertEqual((told.status, told.stdout), (0, """context.a.budget,context.b.core,status,fault,missed,lost,overdue,never,greatest A
-1,1,5,,1,2,0,0,7
-6,1,1,control: budget over period at context 1 budget,,,,,
-4,1,0,,0,0,0,0,7
+        self.assertEqual((told.status, told.stdout), (0, """context.a.budget,context.b.core,status,fault,missed,lost,overdue,untaken,never,greatest A
+1,1,5,,1,2,0,0,0,7
+6,1,1,control: budget over period at context 1 budget,,,,,,
+4,1,0,,0,0,0,0,0,7
 """))
 
     def test_a_thread_that_ended_no_round_has_no_response(self) -> None:
-        self.assertEqual(self.ran(self.file, '--set', 'context.a.budget=5').stdout.splitlines()[1], '5,5,,0,0,0,1,')
+        self.assertEqual(self.ran(self.file, '--set', 'context.a.budget=5').stdout.splitlines()[1], '5,5,,0,0,0,0,1,')
 
     def test_some_threads_alone(self) -> None:
         # B is overdue under 2 and 3; what is lost at n is lost to A
@@ -169,7 +170,7 @@ class Lines(Case):
     def test_nothing_is_judged(self) -> None:
         self.answers(3, 6, [*UNJUDGED, NOTHING_JUDGED])
         told = self.ran(self.file, '--set', 'context.a.budget=3:4')
-        self.assertEqual((told.status, told.stdout.splitlines()[1:]), (0, ['3,6,,0,0,0,0,7', '4,0,,0,0,0,0,7']))
+        self.assertEqual((told.status, told.stdout.splitlines()[1:]), (0, ['3,6,,0,0,0,0,0,7', '4,0,,0,0,0,0,0,7']))
         # no job of A ended, though one of another thread with a deadline did
         self.answers(3, 0, [*UNJUDGED, COUNTS])
         for of, wanted in ((['A'], '6'), (['A', 'B'], '6'), ([], '0')):
@@ -183,21 +184,21 @@ class Lines(Case):
         (self.programs / '3.out').write_text(f'{COUNTS} slow 0 unanswered 0\n')
         # under a budget of 4 nothing is told of chains
         told = self.ran(self.file, '--set', 'context.a.budget=1,3,4,6')
-        self.assertEqual((told.status, told.stdout), (0, """context.a.budget,status,fault,missed,lost,overdue,never,slow,unanswered,greatest A
-1,5,,0,0,0,0,2,1,7
-3,0,,0,0,0,0,0,0,7
-4,0,,0,0,0,0,,,7
-6,1,control: budget over period at context 1 budget,,,,,,,
+        self.assertEqual((told.status, told.stdout), (0, """context.a.budget,status,fault,missed,lost,overdue,untaken,never,slow,unanswered,greatest A
+1,5,,0,0,0,0,0,2,1,7
+3,0,,0,0,0,0,0,0,0,7
+4,0,,0,0,0,0,0,,,7
+6,1,control: budget over period at context 1 budget,,,,,,,,
 """))
-        for name, wanted in (('A', '1,5,,0,0,0,0,2,0,7'), ('B', '1,5,,0,0,0,0,0,1,7')):
+        for name, wanted in (('A', '1,5,,0,0,0,0,0,2,0,7'), ('B', '1,5,,0,0,0,0,0,0,1,7')):
             self.assertEqual(self.ran(self.file, '--set', 'context.a.budget=1', '--of', name).stdout.splitlines()[1], wanted)
 
     def test_some_chains_alone(self) -> None:
         self.file.write_text(NEW_SYSTEM.replace('thread = "B"', 'thread = "A", deadline = 8'))
-        (self.programs / '1.out').write_text(''.join(f'{line}\n' for line in [MISS, LOST, *CHAINED, f'{COUNTS} slow 2 unanswered 1']))
-        # a miss of A, a signal lost to A, 2 slow answers of e, and an interrupt that f has not answered
-        for names, wanted in ((['e'], '1,5,,0,0,0,0,2,0,7'), (['f'], '1,5,,0,0,0,0,0,1,7'), (['e', 'f'], '1,5,,0,0,0,0,2,1,7'),
-                              (['B'], '1,6,,0,0,0,0,0,0,7'), (['B', 'f'], '1,5,,0,0,0,0,0,1,7'), (['A'], '1,5,,1,1,0,0,2,1,7')):
+        (self.programs / '1.out').write_text(''.join(f'{line}\n' for line in [MISS, LOST, UNTAKEN, *CHAINED, f'{COUNTS} slow 2 unanswered 1']))
+        # a miss of A, a signal lost to A, a word that A does not take, 2 slow answers of e, and an interrupt that f has not answered
+        for names, wanted in ((['e'], '1,5,,0,0,0,0,0,2,0,7'), (['f'], '1,5,,0,0,0,0,0,0,1,7'), (['e', 'f'], '1,5,,0,0,0,0,0,2,1,7'),
+                              (['B'], '1,6,,0,0,0,0,0,0,0,7'), (['B', 'f'], '1,5,,0,0,0,0,0,0,1,7'), (['A'], '1,5,,1,1,0,1,0,2,1,7')):
             self.assertEqual(self.ran(self.file, '--set', 'context.a.budget=1', '--of', *names).stdout.splitlines()[1], wanted)
 
     def test_a_name_of_a_thread_and_of_a_chain_means_both(self) -> None:
@@ -205,7 +206,7 @@ class Lines(Case):
         lines = ['12 0 slow B latency 9 deadline 8 origin 3', CHAINED[2], f'{COUNTS} slow 1 unanswered 1']
         (self.programs / '1.out').write_text(''.join(f'{line}\n' for line in lines))
         # the chain B ends with A, and f with the thread B
-        self.assertEqual(self.ran(self.file, '--set', 'context.a.budget=1', '--of', 'B').stdout.splitlines()[1], '1,5,,0,0,0,0,1,1,7')
+        self.assertEqual(self.ran(self.file, '--set', 'context.a.budget=1', '--of', 'B').stdout.splitlines()[1], '1,5,,0,0,0,0,0,1,1,7')
 
     def test_a_checker_that_reports_no_chains_is_no_answer_about_one(self) -> None:
         self.file.write_text(NEW_SYSTEM)
@@ -548,7 +549,7 @@ class Words(Case):
         self.assertEqual(self.asked(), [])
         (self.programs / '2.out').write_text(f'{CHAINED[2]}\n{COUNTS} slow 0 unanswered 1\n')
         told = self.ran(self.file, '--set', 'chain.f.deadline=8', '--of', 'f')
-        self.assertEqual((told.status, told.stdout.splitlines()[1]), (0, '8,5,,0,0,0,0,0,1,7'))
+        self.assertEqual((told.status, told.stdout.splitlines()[1]), (0, '8,5,,0,0,0,0,0,0,1,7'))
 
     def test_without_mcscheck(self) -> None:
         with mock.patch.object(verdict, 'default_checker', lambda program: None):

@@ -16,7 +16,7 @@ sys.path.append(str(TOOLS.parent))
 from checks import forked
 from mcsim_tools import frame
 from mcsim_tools import system as systems
-from mcsim_tools.reading import Holding, Listener, Post, Reading, Round, Stood, read
+from mcsim_tools.reading import Holding, Listener, Post, Reading, Round, Stood, Untaken, read
 from mcsim_tools.source import Told
 from mcsim_tools.system import Context, System, Thread
 
@@ -216,6 +216,7 @@ class Heard(Listener):
         self.holdings: list[tuple[int, list[list[int]], bool]] = []
         self.nevers: list[str] = []
         self.signals: list[str] = []
+        self.words: list[tuple[str, list[str], int, int]] = []
 
     def stood(self, stood: Stood) -> None:
         self.stands.append(stood)
@@ -237,6 +238,9 @@ class Heard(Listener):
 
     def holds(self, holding: Holding) -> None:
         self.holdings.append((holding.moment, [list(refill) for refill in holding.refills], holding.is_used))
+
+    def untaken(self, untaken: Untaken) -> None:
+        self.words.append((untaken.note, [thread.name for thread in untaken.by], untaken.word, untaken.since))
 
     def never(self, thread: Thread, horizon: int) -> None:
         self.nevers.append(thread.name)
