@@ -28,14 +28,14 @@ from checks.common import DATA, TOP, Count
 from checks.measure import forever_rows
 from checks.measure.measured import run_measured
 from checks.program import analyses, forever_reading as forever, verdicts
-from checks.program.forever import pool_of
+from checks.random_pools import pool_of
 from checks.random_systems import text_of
 
 sys.path.insert(0, str(TOP / 'tools'))
 from mcsim_tools import writing
 
 PAGE = TOP / 'docs' / 'FOREVER.md'
-FOUND_HEAD = ['Systems', 'Sets', 'Repeat', 'Within', 'End of the first period', 'Rows up to then', 'Nothing ever found', 'Unsettled', 'Perhaps missed']
+FOUND_HEAD = ['Systems', 'Sets', 'Repeat', 'Within', 'End of the first period', 'Rows up to then', 'Nothing ever found', 'Perhaps missed']
 COST_HEAD = ['Systems', 'Runs', 'Reports: {}', 'Forever: {}', 'Together', 'Median', '9 of 10', 'Greatest']
 WITHIN = (100, 1000, 10_000)
 STATUSES = (0, 5, 6)
@@ -59,12 +59,11 @@ def texts(many: int, seed: int) -> Iterator[tuple[str, str, str]]:
 
 
 class Set(NamedTuple):
-    """A set of a system, where its first period ends if it repeats, its rows up to then, whether a thread is unsettled, and whether a repetition may have been missed."""
+    """A set of a system, where its first period ends if it repeats, its rows up to then, whether nothing is ever found, and whether a repetition may have been missed."""
 
     end: Optional[int]
     rows: int
     is_clean: bool
-    is_unsettled: bool
     may_be_missed: bool
 
 
@@ -122,8 +121,8 @@ class Table:
     def set_of(self, claim: forever.Claim, lines: Sequence[str]) -> Set:
         own = self.own(claim, lines)
         if claim.end is None:
-            return Set(None, len(own), False, False, forever_rows.period_of(own, self.words.horizon) is not None)
-        return Set(claim.end, sum(forever.moment_of(line) <= claim.end for line in own), claim.is_clean, bool(claim.unsettled), False)
+            return Set(None, len(own), False, forever_rows.period_of(own, self.words.horizon) is not None)
+        return Set(claim.end, sum(forever.moment_of(line) <= claim.end for line in own), claim.is_clean, False)
 
     # ---- what it takes
 
@@ -147,8 +146,8 @@ class Table:
             ends = [each.end for each in repeating if each.end is not None]
             within = ' / '.join(share(sum(end <= most for end in ends), len(sets)) for most in WITHIN)
             numbers = quartiles(ends), quartiles([each.rows for each in repeating])
-            clean, unsettled, missed = (sum(flags) for flags in zip(*((each.is_clean, each.is_unsettled, each.may_be_missed) for each in sets)))
-            yield [kind, f'{len(sets):,}', share(len(repeating), len(sets)), within, *numbers, share(clean, len(sets)), f'{unsettled:,}', f'{missed:,}']
+            clean, missed = (sum(flags) for flags in zip(*((each.is_clean, each.may_be_missed) for each in sets)))
+            yield [kind, f'{len(sets):,}', share(len(repeating), len(sets)), within, *numbers, share(clean, len(sets)), f'{missed:,}']
 
     def cost_rows(self) -> Iterator[list[str]]:
         unit = 1e6 if self.words.instructions else 1

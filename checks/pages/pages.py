@@ -54,10 +54,8 @@ WITHOUT_COUNTS = (' --format csv', ' --format pretty')
 # options that the launcher reads, and no program
 TYPED = (' --format pretty', ' --tick-us ')
 COUNTS = re.compile(
-    r'missed (\d+) overdue (\d+) lost (\d+) never (\d+) merged \d+ allowed \d+ unjudged (\d+) hints (\d+) threads \d+ deadlines \d+ judged (\d+)'
+    r'missed (\d+) overdue (\d+) untaken (\d+) lost (\d+) never (\d+) merged \d+ allowed \d+ unjudged (\d+) hints (\d+) threads \d+ deadlines \d+ judged (\d+)'
     r'(?: slow (\d+) unanswered (\d+))?')
-# how a line begins, as text or as an object, by which the verdict for all time is not one of each thread
-UNSETTLED = ('unsettled ', '{"kind":"unsettled"')
 # a block that ends with the status of any of its verdicts
 EXITS = 'exit $status'
 NONE_WILL_DO = re.compile(r'.*: under none of .*')
@@ -130,12 +128,11 @@ def status_of(block: str, written: Sequence[str]) -> int:
 
 
 def status_for_ever(written: Sequence[str]) -> int:
-    """That of a verdict for all time, by its last line, and by whether a thread is unsettled."""
+    """That of a verdict for all time, by its last line."""
     told = SETS.fullmatch(plain(written[-1]))
     if told is None or told[3] != '0':
         return FOUND
-    is_unsettled = any(line.startswith(UNSETTLED) for line in written)
-    return 0 if told[1] == told[2] and told[4] != '0' and not is_unsettled else UNJUDGED
+    return 0 if told[1] == told[2] and told[4] != '0' else UNJUDGED
 
 
 def plain(line: str) -> str:
@@ -146,8 +143,8 @@ def plain(line: str) -> str:
 def status_of_line(line: str, block: str) -> int:
     """The status of the verdict whose last line this is; 0 if it is another line."""
     if counts := COUNTS.fullmatch(plain(line)):
-        missed, overdue, lost, never, unjudged, hints, judged, slow, unanswered = map(int, counts.groups(default='0'))
-        is_found = any((missed, overdue, lost, never, slow, unanswered)) or ('--strict' in block and any((unjudged, hints)))
+        missed, overdue, untaken, lost, never, unjudged, hints, judged, slow, unanswered = map(int, counts.groups(default='0'))
+        is_found = any((missed, overdue, untaken, lost, never, slow, unanswered)) or ('--strict' in block and any((unjudged, hints)))
         return FOUND if is_found else 0 if judged else UNJUDGED
     return FOUND if NONE_WILL_DO.fullmatch(line) else 0
 

@@ -16,7 +16,7 @@ import argparse
 import pathlib
 import re
 import sys
-from collections.abc import Callable, Iterable, Iterator
+from collections.abc import Callable, Iterable, Iterator, Mapping
 from typing import NamedTuple
 
 sys.dont_write_bytecode = True
@@ -36,8 +36,11 @@ EACH = 2
 LONG_SHARE = 0.02
 LONG_WORDS = 30
 COLUMNS = 100
-# wide lines that wait for the next change of their crate, since a comment there has five crates proved again
-WIDE = {'mcs_ever_found: comments': 1}
+# comments that wait for the next change of their crate, since one there has the crates above proved again
+WAITING: Mapping[str, Mapping[str, int]] = {
+    'mcs_check: comments': {'wide': 1}, 'mcs_check_forever: comments': {'wide': 1}, 'mcs_check_lines: comments': {'wide': 1},
+    'mcs_ever_found: comments': {'stilted': 5}, 'mcs_verdict: comments': {'wide': 5},
+}
 # a cell of a table with fewer words is a name, not a sentence
 CELL_WORDS = 4
 
@@ -201,7 +204,7 @@ def figures(group: Group) -> Figures:
 def allowed(group: Group, found: Figures) -> dict[str, int]:
     """How many of each kind a group may have."""
     each = max(1, EACH * found.words // 1000)
-    most = {'where': each, 'stilted': each, 'opening': each, 'wide': WIDE.get(group.name, 0)}
+    most = {'where': each, 'stilted': each, 'opening': each, 'wide': 0, **WAITING.get(group.name, {})}
     return {**most, 'long': max(1, int(LONG_SHARE * found.sentences))} if group.counts_long else most
 
 

@@ -33,14 +33,13 @@ class Chained(Reading):
     @functools.cached_property
     def all_found(self) -> list[tuple[str, str]]:
         """The kind and the line of all that is found. Slow answers of one time follow what the rows of that time show, chain by chain; chains that are
-        unanswered follow what is found of threads at the horizon, and what is unjudged follows them."""
+        unanswered follow what is found of threads and notifications at the horizon, and what is unjudged follows them."""
         of_rows = [(row.moment, found) for row in self.rows if (found := self.found(row))]
         slow = [(int(line.split()[0]), ('slow', line)) for chain in self.chains for line in chain.slow()]
         # the order of those that have one time stays
         timed = sorted([*of_rows, *slow], key=lambda found: found[0])
-        at_end = [found for thread in self.threads if (found := self.found_at_end(thread))]
         unanswered = [('unanswered', line) for chain in self.chains if (line := self.left(chain))]
-        return [*(found for _, found in timed), *at_end, *unanswered, *self.unjudged_lines()]
+        return [*(found for _, found in timed), *self.at_end(), *unanswered, *self.unjudged_lines()]
 
     def left(self, chain: ChainReading) -> str:
         """The line of a chain with an interrupt that had to be answered by the horizon, or nothing."""

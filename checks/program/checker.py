@@ -29,7 +29,7 @@ from checks.program.progress import PATIENCE, WIPED, Command, terminal
 NAME = 'mcscheck'
 # the page, and the system of its examples
 PAGE, SYSTEM = TOP / 'docs' / 'CHECK.md', TOP / 'docs' / 'late.toml'
-CLEAN = 'missed 0 overdue 0 lost 0 never 0 merged 0 allowed 0 unjudged %d hints %d threads %d deadlines %d judged %d\n'
+CLEAN = 'missed 0 overdue 0 untaken 0 lost 0 never 0 merged 0 allowed 0 unjudged %d hints %d threads %d deadlines %d judged %d\n'
 READ_FAILED, WRITE_FAILED = (exactly(f'{NAME}: {what} failed\n'.encode()) for what in ('read', 'write'))
 NO_MEMORY = exactly(f'{NAME}: no memory\n'.encode())
 MIXED_ROUND = f'{NAME}: --why: not with --show, --strict, --allow-lost or --format csv\n'
@@ -140,12 +140,12 @@ def cases_of_a_job_that_goes_on(system: bytes) -> Iterator[Case]:
     line = b'1 0 unjudged A deadline 5 activated 0\n'
     yield Case('a job that goes on', asked, system, exactly(line + counts), NOTHING, 6)
     yield Case('a job that goes on, which counts', [*asked, '--strict'], system, exactly(line + counts), NOTHING, 5)
-    yield Case('a job that goes on as CSV', [*asked, '--format=csv'], system, begins(b'moment,', b'\n1,0,unjudged,A,,,,,5,0,,,,,,\n'), NOTHING, 6)
+    yield Case('a job that goes on as CSV', [*asked, '--format=csv'], system, begins(b'moment,', b'\n1,0,unjudged,A,,,,,,5,0,,,,,,,\n'), NOTHING, 6)
     values = b'{"moment":1,"core":0,"kind":"unjudged","thread":"A","deadline":5,"activated":0}\n'
     yield Case('a job that goes on as JSON', [*asked, '--format=json'], system, begins(values, b'"unjudged":1,"hints":0,"threads":1,"deadlines":1,"judged":0}\n'), NOTHING, 6)
     # nine ticks of work need five budgets; at 5 the first of them is exhausted and the deadline is there
     late = system.replace(b'compute 2', b'compute 9')
-    line = b'5 0 overdue A deadline 5 activated 0 queued 0 ready 0 running 2 throttled 3 blocked 0 woken 0\n'
+    line = b'5 0 overdue A round 1 age 5 deadline 5 activated 0 queued 0 ready 0 running 2 throttled 3 blocked 0 server 0\n'
     judged = clean(threads=1, deadlines=1, judged=1).replace(b'overdue 0', b'overdue 1')
     yield Case('a job that can only be late', ['--horizon=5', '--show=findings'], late, exactly(line + judged), NOTHING, 5)
 

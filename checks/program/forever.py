@@ -1,5 +1,5 @@
 #!/usr/bin/env python3
-"""Checks that claims of mcscheck --forever hold for three more periods, on 100 random systems, 20 of shared waits, and some whose findings are known.
+"""Checks that claims of mcscheck --forever hold for three more periods, on 100 random systems, 40 of shared waits, and some whose findings are known.
 
 Of each set of cores that is said to repeat, mcsim runs three more periods: their rows are those of the first one, later, and their missed deadlines and
 lost signals are as many. All lines are those of a second, plain reading (`checks/program/forever_reading.py`) of these rows, byte by byte, as text and as JSON,
@@ -23,6 +23,7 @@ from checks.program import forever_reading as forever, reading, verdicts
 from checks.program.forever_reading import Claim, Told
 from checks.program.reading import Tables, Values
 from checks.program.verdicts import System, allowing, differing
+from checks.random_pools import pool_of
 from checks.random_systems import text_of
 
 SYSTEMS = TOP / 'examples' / 'systems'
@@ -30,10 +31,10 @@ SYSTEMS = TOP / 'examples' / 'systems'
 KNOWN = {
     SYSTEMS / 'loop_and_its_clock.toml': (1000, 1, set()),
     SYSTEMS / 'loop_by_its_budget.toml': (1000, 1, set()),
-    SYSTEMS / 'car_gateway_as_found.toml': (3000, None, {'miss', 'lost', 'overdue'}),
+    SYSTEMS / 'car_gateway_as_found.toml': (3000, None, {'miss', 'lost', 'overdue', 'untaken'}),
 }
-# A's word of 16, 56, .. is held while A waits for its budget, and B takes it at 26, 66, ..: from 21 to 25 a round of A is overdue that never ends, which the
-# ends of no period tell. So nothing is told to be found, nor that nothing ever is: A is not settled
+# A's word of 16, 56, .. is held while A waits for its budget, and B takes it at 26, 66, .. within its rounds. It is older than the deadline of A from 21 to 25,
+# and no round of A is late
 TAKEN = '''version = 1
 cores = 2
 delay = 1
@@ -60,8 +61,7 @@ SEEN = (
     'status 0', 'status 1', 'status 5', 'status 6', 'a set of several cores', 'a core of a larger set', 'repeats', 'open', 'at rest', 'rounds that go on',
     'miss in each period', 'miss before alone', 'miss so far', 'lost in each period', 'lost before alone', 'lost so far', 'overdue', 'overdue so far',
     'never', 'never so far', 'greatest', 'no greatest', 'throttled never', 'throttled', 'ends no round', 'ends rounds', 'clean', 'a lost signal that is allowed',
-    'an order', 'interrupts without end', 'interrupts that ended', 'a server that is entered', 'clean without a deadline', 'a thread that is not settled',
-    'a finding beside a thread that is not settled', 'a worker that is settled',
+    'an order', 'interrupts without end', 'interrupts that ended', 'a server that is entered', 'clean without a deadline', 'untaken', 'untaken so far',
 )
 
 
@@ -128,8 +128,6 @@ class Trial:
             self.seen['a core of a larger set'] += each.group.own != each.group.cores
             self.seen['open' if so_far else 'repeats'] += 1
             self.seen['clean'] += each.claim.is_clean
-            self.seen['a thread that is not settled'] += bool(each.claim.unsettled)
-            self.seen['a worker that is settled'] += any(name.startswith('Worker') and name not in each.claim.unsettled for name in each.own)
             self.seen['a lost signal that is allowed'] += each.is_allowed(allowed)
             self.seen['an order'] += bool(each.tables.get('order')) and not so_far
             self.seen['interrupts without end'] += not so_far and any(row.kind == 'interrupt' for row in each.rows_in(0))
@@ -140,13 +138,12 @@ class Trial:
                 self.seen['rounds that go on'] += bool(each.numbers(0))
                 # what is found at no horizon that was tried, and not said to be found at none
                 self.seen['not said to be clean'] += not each.claim.is_clean and not list(each.not_clean(allowed))
-                self.seen['a finding beside a thread that is not settled'] += bool(each.claim.unsettled) and bool(list(each.findings(allowed)))
             for values in each.values(allowed):
                 self.tell_line(values, so_far)
 
     def tell_line(self, values: Values, so_far: str) -> None:
         kind = values['kind']
-        if kind in ('overdue', 'never'):
+        if kind in ('overdue', 'never', 'untaken'):
             self.seen[f'{kind}{so_far}'] += 1
         elif kind in ('miss', 'lost'):
             self.seen[f'{kind}{so_far or (" in each period" if values["each_period"] else " before alone")}'] += 1
@@ -168,11 +165,11 @@ class Trial:
         self.refused(next(iter(KNOWN)))
 
     def taken(self) -> None:
-        """A round that is overdue now and then, and neither ends nor is overdue at the end of a period."""
+        """A word that is older than the deadline of a thread that waits for it first, and that another one takes within its rounds."""
         told = self.agrees(System('taken', TAKEN, 1000))
-        self.count.expect(f'taken: {[each.claim for each in told]}', [(each.claim.is_clean, each.claim.unsettled) for each in told] == [(False, ('A',)), (True, ())])
+        self.count.expect(f'taken: {[each.claim for each in told]}', [each.claim.is_clean for each in told] == [True, True])
         ends = [common.run([self.checker, f'--horizon={horizon}'], TAKEN.encode()).status for horizon in (1000, 1022)]
-        self.count.expect(f'taken: status {ends} at horizons 1000 and 1022', ends == [0, 5])
+        self.count.expect(f'taken: status {ends} at horizons 1000 and 1022', ends == [0, 0])
 
     def refused(self, file: pathlib.Path) -> None:
         """Words that do not go with the option: one line says so."""
@@ -182,20 +179,6 @@ class Trial:
             self.count.expect(f'--forever {" ".join(words)}: {ran}', is_good)
         ran = common.run([self.checker, file, '--forever', '--allow-lost=tik'])
         self.count.expect(f'a notification that is not there: {ran}', ran == Ran(2, b'', reading.unknown_note('tik', ['tick']).encode()))
-
-
-def pool_of(rng: random.Random) -> Tables:
-    """Workers of one core whose scripts begin with the same wait: for words of a clock on this core or another one, or for a lock."""
-    cores, period, is_lock = rng.randint(1, 2), rng.choice((10, 20, 40)), rng.random() < 0.3
-    behind = ['signal jobs 1', 'yield'] if is_lock else []
-    then: list[str] = rng.choice([[], ['compute 1', 'signal jobs 1'], ['yield']])
-    contexts = [{'name': 'clock', 'core': cores - 1, 'budget': rng.randint(1, 3), 'period': period}]
-    threads: list[Values] = [{'name': 'Clock', 'context': 'clock', 'priority': 9, 'script': ['signal jobs 1', *then], **({'rounds': 1} if is_lock else {})}]
-    for number in range(rng.randint(2, 4)):
-        contexts.append({'name': f'c{number}', 'core': 0, 'budget': rng.randint(1, 6), 'period': rng.choice((period, 2 * period))})
-        work = ['wait jobs', f'compute {rng.randint(1, 5)}', *behind]
-        threads.append({'name': f'Worker{number}', 'context': f'c{number}', 'priority': rng.randint(1, 8), 'deadline': rng.choice((0, period // 2, period, 2 * period)), 'script': work})
-    return {'version': 1, 'cores': cores, 'delay': 1, 'context': contexts, 'note': [{'name': 'jobs', 'core': 0}], 'thread': threads}
 
 
 def random_system(name: str) -> tuple[System, list[str], list[str]]:
@@ -217,7 +200,7 @@ def main() -> None:
     trial.seen.clear()
     for number in range(words.systems):
         trial.agrees(*random_system(f'{words.seed} {number}'))
-    for number in range(words.systems // 5):
+    for number in range(words.systems * 2 // 5):
         trial.agrees(System(f'pool-{number}', text_of(pool_of(random.Random(f'{words.seed} {number}'))), 400))
     trial.count.expect_all(trial.seen, SEEN)
     trial.count.end()

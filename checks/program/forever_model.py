@@ -27,9 +27,8 @@ from checks.program.forever_reading import Claim, CoreSet
 from checks.program.model import Core, Row, System, World
 from checks.random_systems import text_of
 
-STANDINGS = {'release': 'ready', 'run': 'running', 'wake': 'woken', 'enter': 'woken'}
-STOPPED = {'wait': 'blocked', 'call': 'blocked', 'done': 'done'}
-WOKEN = {'release': 'throttled', 'run': 'ready'}
+STANDINGS = {'release': 'ready', 'run': 'running'}
+STOPPED = {'wait': 'blocked', 'call': 'server', 'done': 'done'}
 
 
 class Account:
@@ -60,9 +59,9 @@ class Account:
         self.begins(moment)
         self.preemptions = 0
 
-    def passed(self, kind: str, moment: int) -> None:
+    def passed(self, moment: int) -> None:
         """The ticks up to a row are counted."""
-        standing = WOKEN.get(kind, 'woken') if self.standing == 'woken' else self.standing
+        standing = self.standing
         self.was_active = self.was_active or self.since < moment and standing in ('ready', 'running')
         if self.begun is None:
             return
@@ -74,13 +73,14 @@ class Account:
 
     def told(self, row: Row) -> None:
         """A row that tells how the thread stands."""
-        self.passed(row.kind, row.moment)
+        self.passed(row.moment)
         self.since = row.moment
+        why = row.what[1] if row.kind == 'stop' else ''
+        # rows of threads that stop, are woken or are let in end with a date, or None
+        standing = STANDINGS.get(row.kind) or STOPPED.get(why) or ('ready' if row.what[-1] is None else 'throttled')
+        self.standing, self.why = standing, why
         if row.kind != 'stop':
-            self.standing, self.why = STANDINGS[row.kind], ''
             return
-        _, why, _, until = row.what
-        self.standing, self.why = STOPPED.get(why, 'ready' if until is None else 'throttled'), why
         if why == 'done':
             self.ends(None)
         self.preemptions += why == 'preempt' and self.begun is not None
@@ -111,6 +111,8 @@ class Watch:
         self.system = system
         self.accounts = [Account(system, thread) for thread in range(len(system.threads))]
         self.words = [(note.get('word', 0), 0) for note in system.notes]
+        # the bits of all words that were given of a notification, to anybody
+        self.given = [0] * len(system.notes)
         # threads that missed a deadline, and notifications that lost a signal
         self.missed: set[int] = set()
         self.lost: set[int] = set()
@@ -143,6 +145,8 @@ class Watch:
     def see_thread(self, row: Row, thread: int, account: Account) -> None:
         self.told.add(thread)
         is_let_in = row.kind == 'enter' and account.why == 'call'
+        if row.kind in ('got', 'wake'):
+            self.given[row.what[1]] |= row.what[2]
         if row.kind == 'got':
             note = row.what[1]
             account.given(row.moment, self.words[note][1], row.what[2])
@@ -164,16 +168,24 @@ class Watch:
             self.contexts.add(thread)
 
 
-    def is_found(self, thread: int, horizon: int) -> bool:
-        """Whether something is found of a thread at a horizon, whose rows are the last ones: a missed deadline, one that can only be missed, or no activation."""
+    def is_found(self, thread: int, horizon: int, last: int) -> bool:
+        """Whether something is found of a thread at a horizon, whose rows are the last ones: a missed deadline, one that can only be missed, or, from a
+        moment on, that it was never activated."""
         account, deadline = self.accounts[thread], self.system.deadline(thread)
-        held, since = (0, 0) if account.waits is None else self.words[account.waits]
-        pending = since if held and account.has_work(held) and account.standing != 'done' else None
-        activated = pending if account.begun is None else account.activated(horizon)
-        is_active = account.was_active or account.since < horizon and account.standing in ('ready', 'running')
-        once = is_active if account.waits is None else account.called is not None or held != 0 and account.has_work(held)
+        activated = account.activated(horizon) if account.begun is not None else None
+        is_active = account.was_active or account.standing in ('ready', 'running')
+        once = is_active if account.waits is None else account.has_work(self.given[account.waits])
         is_overdue = activated is not None and deadline <= horizon - activated
-        return deadline > 0 and (thread in self.missed or is_overdue or not once)
+        return deadline > 0 and (thread in self.missed or is_overdue or not once and last <= horizon)
+
+    def is_untaken(self, note: int, horizon: int) -> bool:
+        """Whether the word of a notification is too old for all who may take it."""
+        word, since = self.words[note]
+        by = [thread for thread, script in enumerate(self.system.scripts) if ('wait', note) in script]
+        alone = all(self.system.scripts[thread].index(('wait', note)) == 0 and self.system.scripts[thread].count(('wait', note)) == 1 for thread in by)
+        deadlines = [self.system.deadline(thread) for thread in by]
+        called = all(self.accounts[thread].has_work(word) for thread in by)
+        return bool(by) and alone and all(deadlines) and called and max(deadlines) <= horizon - since
 
 
 class Kept(NamedTuple):
@@ -187,8 +199,6 @@ class Kept(NamedTuple):
 class Repeats(NamedTuple):
     start: int
     period: int
-    # whether horizons tell the same again and again
-    ends_recur: bool
 
 
 def of_thread(core: Core, thread: int) -> tuple[str, int, int, int]:
@@ -270,20 +280,6 @@ class Comparing:
         words = all(self.kept.watch.words[note][0] == self.watch.words[note][0] for note in self.notes)
         return threads and words and all(note not in self.watch.taken or self.word_is_later(note) for note in self.notes)
 
-    def ends_recur(self) -> bool:
-        return all(self.end_recurs(thread) for thread in self.threads if self.system.deadline(thread))
-
-    def end_recurs(self, thread: int) -> bool:
-        """Whether horizons tell the same of the thread in each period, and the ends of one tell all between."""
-        note = self.system.first_wait(thread)
-        is_empty = note is None or self.kept.watch.words[note][0] == 0 and note not in self.watch.held
-        word_is_later = note is not None and self.word_is_later(note)
-        if note is not None and any(('wait', note) in script for other, script in enumerate(self.system.scripts) if other != thread):
-            return False
-        account = self.kept.watch.accounts[thread]
-        is_idle = thread not in self.watch.told and account.begun is None and (account.standing == 'done' or is_empty)
-        return is_idle or self.is_later(thread) and (is_empty or word_is_later)
-
 
 class Search:
     """A model that goes on from moment to moment, and tells of each set where it repeats."""
@@ -312,7 +308,7 @@ class Search:
             if self.told[place] is None and self.first <= self.kept.moment < self.world.moment:
                 found = Comparing(self.kept, self.world, self.watch, group)
                 if found.recurs():
-                    self.told[place] = Repeats(self.kept.moment, found.by, found.ends_recur())
+                    self.told[place] = Repeats(self.kept.moment, found.by)
 
     def run(self, horizon: int) -> list[Optional[Repeats]]:
         stretch = left = 1
@@ -355,17 +351,19 @@ class Claimed:
         for horizon in range(self.start, self.start + (2 if is_clean else 1) * self.period):
             # the rows up to a horizon are those of the turns before the next moment
             search.turn()
-            if is_clean and (found := self.found(horizon)):
+            if is_clean and (found := self.found(horizon, self.start + self.period - 1)):
                 return f'the model finds something at horizon {horizon}: {found}'
             if horizon + 1 == self.start + self.period:
                 search.compare()
         return 'the model sees no repetition' if search.told[0] is None else None
 
-    def found(self, horizon: int) -> list[str]:
+    def found(self, horizon: int, last: int) -> list[str]:
         """What is found up to a horizon of the threads and notifications that are told with the set."""
         system, watch = self.search.world.system, self.search.watch
-        threads = [part['name'] for thread, part in enumerate(system.threads) if system.core_of[thread] in self.group.own and watch.is_found(thread, horizon)]
-        return [*threads, *(note['name'] for number, note in enumerate(system.notes) if note['core'] in self.group.own and number in watch.lost)]
+        own = [thread for thread, core in enumerate(system.core_of) if core in self.group.own]
+        threads = [system.threads[thread]['name'] for thread in own if watch.is_found(thread, horizon, last)]
+        notes = [number for number, note in enumerate(system.notes) if note['core'] in self.group.own]
+        return [*threads, *(system.notes[number]['name'] for number in notes if number in watch.lost or watch.is_untaken(number, horizon))]
 
 
 # ---- the program beside it

@@ -51,13 +51,12 @@ def core_sets(tables: Tables) -> list[CoreSet]:
 
 
 class Claim(NamedTuple):
-    """What is claimed of a set: from which moment on it repeats with which period, or neither, whether nothing is ever found, and which threads are not settled."""
+    """What is claimed of a set: from which moment on it repeats with which period, or neither, and whether nothing is ever found."""
 
     cores: str
     start: Optional[int] = None
     period: Optional[int] = None
     is_clean: bool = False
-    unsettled: tuple[str, ...] = ()
 
     @property
     def repeats(self) -> tuple[int, int]:
@@ -78,7 +77,6 @@ class Claim(NamedTuple):
 REPEATS = re.compile(r'cores ([\d ]+): repeats from (\d+) with period (\d+)')
 OPEN = re.compile(r'cores ([\d ]+): no repetition found up to \d+')
 CLEAN = 'nothing is ever found'
-UNSETTLED = re.compile(r'unsettled (\S+): no deadline is ever missed; whether a job is ever overdue is not known')
 
 
 def claims_of(text: str) -> list[Claim]:
@@ -91,8 +89,6 @@ def claims_of(text: str) -> list[Claim]:
             claims.append(Claim(found[1]))
         elif line == CLEAN and claims:
             claims[-1] = claims[-1]._replace(is_clean=True)
-        elif (found := UNSETTLED.fullmatch(line)) and claims:
-            claims[-1] = claims[-1]._replace(unsettled=(*claims[-1].unsettled, found[1]))
     return claims
 
 
@@ -116,7 +112,7 @@ class Told:
         self.notes = [note['name'] for note in tables.get('note', []) if note['core'] in group.own]
         self.lines = [line for line in lines if core_of(line) in group.cores]
         self.whole = self.reading(claim.far(horizon))
-        # at which horizon something may be overdue, or have never come: the last moment of the first period
+        # the last moment of the first period, or the horizon
         self.end = horizon if claim.end is None else claim.end - 1
 
     @functools.cache
@@ -159,8 +155,8 @@ class Told:
     def broken(self, allowed: Sequence[str] = ()) -> Iterator[str]:
         """What of the claim the rows of three more periods contradict, where these notifications may lose signals."""
         if self.claim.start is None:
-            if self.claim.is_clean or self.claim.unsettled:
-                yield 'no repetition was found, and nothing is ever found or a thread is not settled'
+            if self.claim.is_clean:
+                yield 'no repetition was found, and nothing is ever found'
             return
         start, period = self.claim.repeats
         # the turns of the horizon are taken too
@@ -181,33 +177,39 @@ class Told:
             for kind in ('missed', 'lost'):
                 if self.many(kind, number) != self.many(kind, 0):
                     yield f'{kind} in period {number}: {self.many(kind, number)}, and in the first one {self.many(kind, 0)}'
-        yield from self.not_open()
+        for horizon in self.horizons():
+            yield from self.not_settled(horizon)
         if self.claim.is_clean:
             yield from self.not_clean(allowed)
-        elif not self.claim.unsettled and not list(self.findings(allowed)) and not self.is_allowed(allowed):
+        elif not list(self.findings(allowed)) and not self.is_allowed(allowed):
             yield 'nothing is found and no signal is lost, and it does not say that nothing is ever found'
 
-    def not_open(self) -> Iterator[str]:
-        """What of the threads that are said to be unsettled is not so: each has a deadline and misses none, has no finding, and there is a reason."""
-        told = {name for name in self.own if self.reading(self.end).found_at_end(name)} | {name for _, kind, name in self.found if kind == 'missed'}
-        if self.claim.is_clean and self.claim.unsettled:
-            yield f'nothing is ever found, and {self.claim.unsettled} are not settled'
-        for name in self.claim.unsettled:
-            if name not in self.own or not self.whole.deadline(name) or name in told:
-                yield f'{name} is not settled: it has no deadline, or something is found of it, or it is not of this set'
-            elif not self.is_shared(name) and not self.was_found(name):
-                yield f'{name} is not settled, and no other thread may take its word, and nothing was found of it before the first period'
+    def not_settled(self, horizon: int) -> Iterator[str]:
+        """What the rows up to a horizon tell otherwise than the lines for ever."""
+        reading, missed = self.reading(horizon), self.many('missed', 0)
+        for name in self.own:
+            found, line = reading.found_at_end(name), self.endless(name)
+            late = reading.overdue(name)
+            if line is None and late and name not in missed:
+                yield f'{name} is overdue at {horizon}, never misses a deadline, and is not overdue for ever'
+            if line and line['kind'] == 'never' and (found is None or found[0] != 'never'):
+                yield f'{name} is not never activated at {horizon}'
+            if line and line['kind'] == 'overdue' and horizon - line['activated'] >= reading.deadline(name):
+                if late is None or (late.since, reading.ends(name) + 1) != (line['activated'], line['number']):
+                    yield f'{name} is not overdue at {horizon} since {line["activated"]}'
+            if line is None and found and found[0] == 'never':
+                yield f'{name} is never activated at {horizon}'
+        yield from self.not_settled_words(reading, missed)
 
-    def is_shared(self, thread: str) -> bool:
-        """Whether another script waits for the notification for which this one waits first."""
-        note, servers = self.whole.first_wait(thread), scripts_of(self.tables)
-        others = [each['script'] for each in self.tables['thread'] if each['name'] != thread]
-        return note is not None and any(item == ['wait', note] for script in [*others, *servers.values()] for item in items_of(servers, script))
-
-    def was_found(self, thread: str) -> bool:
-        """Whether something is found of a thread at the horizon before the first period; at none there is no such horizon."""
-        start = self.claim.repeats[0]
-        return start == 0 or self.reading(start - 1).found_at_end(thread) is not None
+    def not_settled_words(self, reading: Reading, missed: dict[str, int]) -> Iterator[str]:
+        """The same of words."""
+        for note in self.notes:
+            found, line = reading.untaken(note), self.abandoned(note)
+            since = reading.whole.word(note)[1]
+            if line is None and found and not missed.keys() & set(reading.takers(note)):
+                yield f'{note} is untaken at {reading.horizon}, nobody who takes it misses a deadline, and it is not untaken for ever'
+            if line and (since != line['set'] or found is None and reading.horizon - line['set'] >= (reading.due(note) or 0)):
+                yield f'{note} is not untaken at {reading.horizon} since {line["set"]}'
 
     def last_interrupts(self) -> Iterator[tuple[str, int]]:
         """Of the set's sources that end the moments of their last dates."""
@@ -236,17 +238,19 @@ class Told:
         return self.many_in(kind, start + number * period, start + (number + 1) * period)
 
     def horizons(self) -> list[int]:
-        """At these nothing may be found where nothing ever is."""
+        """At these is seen what goes on for ever."""
         start, period = self.claim.repeats
-        return [start, start + period, start + 2 * period + period // 3 + 1, start + PERIODS * period]
+        return [start + period - 1, start + period, start + 2 * period + period // 3 + 1, start + PERIODS * period]
 
     def found_at(self, horizon: int, allowed: Sequence[str]) -> list[str]:
-        """What is found of the threads and notifications that are told with the set."""
-        names = {'lost': [note for note in self.notes if note not in allowed]}
-        return [line for kind, line in self.reading(horizon).all_found if kind in FOUND and line.split()[3] in names.get(kind, self.own)]
+        """What is found of the threads and notifications that are told with the set. A thread that was never activated may be so later, up to the end of
+        the first period."""
+        names = {'lost': [note for note in self.notes if note not in allowed], 'untaken': self.notes}
+        kinds = [kind for kind in FOUND if kind != 'never' or horizon >= self.end]
+        return [line for kind, line in self.reading(horizon).all_found if kind in kinds and line.split()[3] in names.get(kind, self.own)]
 
     def not_clean(self, allowed: Sequence[str] = ()) -> Iterator[str]:
-        for horizon in self.horizons():
+        for horizon in (self.claim.repeats[0] // 2, self.claim.repeats[0], *self.horizons()):
             if found := self.found_at(horizon, allowed):
                 yield f'something is found at horizon {horizon}: {found[0]}'
 
@@ -268,10 +272,38 @@ class Told:
                 yield {'kind': word, what: name, **values}
 
     def at_end(self) -> Iterator[Values]:
+        """What is found at the horizon up to which no repetition was found; else what is found for ever."""
+        if self.claim.start is not None:
+            yield from filter(None, [*map(self.endless, self.own), *map(self.abandoned, self.notes)])
+            return
         last = self.reading(self.end)
         for thread in self.own:
             if found := last.found_at_end(thread):
                 yield {'kind': found[0], 'thread': thread, 'moment': self.end}
+        for note in self.notes:
+            if last.untaken(note):
+                yield {'kind': 'untaken', 'note': note, 'moment': self.end}
+
+    @functools.cache
+    def endless(self, thread: str) -> Optional[Values]:
+        """The round of a thread with a deadline that is under way and never ends, or that none ever begins."""
+        last = self.reading(self.end)
+        young = last.open_round(thread)
+        if last.deadline(thread) and young and not any(row.kind == 'round' and row.what[1] == thread for row in self.rows_in(0)):
+            return {'kind': 'overdue', 'thread': thread, 'number': last.ends(thread) + 1, 'activated': young.since}
+        if last.deadline(thread) and not last.was_activated(thread):
+            return {'kind': 'never', 'thread': thread}
+        return None
+
+    @functools.cache
+    def abandoned(self, note: str) -> Optional[Values]:
+        """The word of a notification with a deadline that is set and that nobody ever takes."""
+        last = self.reading(self.end)
+        (word, since), by = last.whole.word(note), last.takers(note)
+        is_due = last.due(note) is not None and since is not None and all(last.has_work(thread, word) for thread in by)
+        if not is_due or any(row.kind == 'got' and row.what[2] == note for row in self.rows_in(0)):
+            return None
+        return {'kind': 'untaken', 'note': note, 'by': by, 'word': word, 'set': since}
 
     def of_thread(self, thread: str) -> Values:
         rounds = [row for row in self.whole.rows if row.kind == 'round' and row.what[1] == thread]
@@ -290,9 +322,8 @@ class Told:
         yield from self.at_end()
 
     def values(self, allowed: Sequence[str]) -> list[Values]:
-        unsettled = [{'kind': 'unsettled', 'thread': name} for name in self.own if name in self.claim.unsettled]
         clean = [{'kind': 'clean', 'cores': self.group.name}] if self.claim.is_clean else []
-        return [self.head(), *self.findings(allowed), *map(self.of_thread, self.own), *unsettled, *clean]
+        return [self.head(), *self.findings(allowed), *map(self.of_thread, self.own), *clean]
 
     def is_allowed(self, allowed: Sequence[str]) -> bool:
         """Whether a signal is lost that is allowed to be."""
@@ -308,12 +339,11 @@ def counts_of(tables: Tables, told: Sequence[Told], allowed: Sequence[str]) -> V
 
 
 def status_of(tables: Tables, told: Sequence[Told], allowed: Sequence[str]) -> int:
-    """5 if something is found; 6 if a set was not found to repeat, a thread is not settled, or none has a deadline that could be missed; else 0."""
+    """5 if something is found; 6 if a set was not found to repeat, or none has a deadline that could be missed; else 0."""
     counts = counts_of(tables, told, allowed)
     if counts['findings']:
         return 5
-    is_settled = all(each.claim.start is not None and not each.claim.unsettled for each in told)
-    return 0 if is_settled and counts['deadlines'] else 6
+    return 0 if counts['repeating'] == len(told) and counts['deadlines'] else 6
 
 
 def line_of(values: Values) -> str:
@@ -327,6 +357,14 @@ def line_of(values: Values) -> str:
             return f'{kind} {values.get("thread", values.get("note"))}: {many} so far'
         case {'kind': 'miss' | 'lost' as kind, 'each_period': many, 'before': before}:
             return f'{kind} {values.get("thread", values.get("note"))}: {many} in each period, {before} before'
+        case {'kind': 'overdue', 'thread': thread, 'number': number, 'activated': activated}:
+            return f'overdue {thread} round {number} activated {activated} for ever'
+        case {'kind': 'untaken', 'note': note, 'by': by, 'word': word, 'set': since}:
+            return f'untaken {note} by {",".join(by)} word {word} set {since} for ever'
+        case {'kind': 'untaken', 'note': note, 'moment': moment}:
+            return f'untaken {note} at {moment}'
+        case {'kind': 'never', 'thread': thread} if 'moment' not in values:
+            return f'never {thread} for ever'
         case {'kind': 'overdue', 'thread': thread, 'moment': moment}:
             return f'overdue {thread} at {moment}'
         case {'kind': 'never', 'thread': thread, 'moment': moment}:
@@ -337,8 +375,6 @@ def line_of(values: Values) -> str:
             never = ', throttled: never' if 'throttled' in values else ''
             ends = f', ends no round from {values["ends_no_round_from"]} on' if 'ends_no_round_from' in values else ''
             return f'thread {thread}: greatest response {dashed(greatest)}{never}{ends}'
-        case {'kind': 'unsettled', 'thread': thread}:
-            return f'unsettled {thread}: no deadline is ever missed; whether a job is ever overdue is not known'
         case {'kind': 'clean'}:
             return CLEAN
     return ' '.join(f'{key} {values[key]}' for key in ('sets', 'repeating', 'findings', 'threads', 'deadlines'))

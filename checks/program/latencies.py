@@ -64,19 +64,19 @@ chain = [
 '''
 # of one time what rows show comes first, and then chains in the order of the file; at 22 an interrupt from 3 is 19 ticks old. Deadlines are those of Z and C
 # and of all chains but near. Two jobs of C are judged, two answers of each of f, e and g, and the interrupt of z
-TWO_CORES_FOUND = '''12 1 miss C round 1 response 4 deadline 3 activated 8 queued 0 ready 0 running 4 throttled 0 blocked 0 woken 0
+TWO_CORES_FOUND = '''12 1 miss C round 1 response 4 deadline 3 activated 8 queued 0 ready 0 running 4 throttled 0 blocked 0 server 0
 12 1 slow f latency 9 deadline 7 origin 3
 12 1 slow e latency 9 deadline 8 origin 3
-22 1 miss C round 2 response 4 deadline 3 activated 18 queued 0 ready 0 running 4 throttled 0 blocked 0 woken 0
+22 1 miss C round 2 response 4 deadline 3 activated 18 queued 0 ready 0 running 4 throttled 0 blocked 0 server 0
 22 1 slow f latency 9 deadline 7 origin 13
 22 1 slow e latency 9 deadline 8 origin 13
 22 0 never Z deadline 5
 22 0 unanswered z deadline 19 origin 3
 hint note q is waited on and no script signals it
-missed 2 overdue 0 lost 0 never 1 merged 0 allowed 0 unjudged 0 hints 1 threads 3 deadlines 6 judged 9 slow 4 unanswered 1
+missed 2 overdue 0 untaken 0 lost 0 never 1 merged 0 allowed 0 unjudged 0 hints 1 threads 3 deadlines 6 judged 9 slow 4 unanswered 1
 '''
 # the jobs of D answer the chain near, 3 ticks after the interrupt, and those of C the first three
-TWO_CORES_JOBS = '''moment,core,kind,thread,number,activated,begun,response,queued,preemptions,ready,running,throttled,blocked,woken,chain,latency,deadline,origin
+TWO_CORES_JOBS = '''moment,core,kind,thread,number,activated,begun,response,queued,preemptions,ready,running,throttled,blocked,server,chain,latency,deadline,origin
 6,0,job,D,1,3,3,3,0,0,0,3,0,0,0,,,,
 6,0,answer,D,1,,,,,,,,,,,near,3,,3
 12,1,job,C,1,8,8,4,0,0,0,4,0,0,0,,,,
@@ -101,44 +101,44 @@ source = [{ name = "s", note = "n", badge = 1, period = 10, start = 2 }]
 chain = [{ name = "c", source = "s", thread = "L", deadline = 20 }]
 '''
 LOOP_TABLE = '''chain c interrupts 6 answers 3 least 20 greatest 31 total 72 p50 21 p90 31 p99 31 deadline 20 margin -11
-missed 0 overdue 0 lost 2 never 0 merged 0 allowed 0 unjudged 0 hints 0 threads 1 deadlines 1 judged 4 slow 1 unanswered 1
+missed 0 overdue 0 untaken 0 lost 2 never 0 merged 0 allowed 0 unjudged 0 hints 0 threads 1 deadlines 1 judged 4 slow 1 unanswered 1
 '''
-LOOP_JOBS = '''22 0 job L round 1 activated 2 begun 2 response 20 queued 0 preemptions 0 ready 0 running 20 throttled 0 blocked 0 woken 0
+LOOP_JOBS = '''22 0 job L round 1 activated 2 begun 2 response 20 queued 0 preemptions 0 ready 0 running 20 throttled 0 blocked 0 server 0
 22 0 answer c round 1 origin 2 latency 20 deadline 20
-43 0 job L round 2 activated 12 begun 23 response 31 queued 11 preemptions 0 ready 0 running 20 throttled 0 blocked 0 woken 0
+43 0 job L round 2 activated 12 begun 23 response 31 queued 10 preemptions 0 ready 0 running 21 throttled 0 blocked 0 server 0
 43 0 answer c round 2 origin 12 latency 31 deadline 20
 43 0 answer c round 2 origin 22 latency 21 deadline 20
-missed 0 overdue 0 lost 2 never 0 merged 0 allowed 0 unjudged 0 hints 0 threads 1 deadlines 1 judged 4 slow 1 unanswered 1
+missed 0 overdue 0 untaken 0 lost 2 never 0 merged 0 allowed 0 unjudged 0 hints 0 threads 1 deadlines 1 judged 4 slow 1 unanswered 1
 '''
 LOOP_FIGURES = '''kind,thread,core,priority,budget,period,granted,used,rounds,greatest,p50,p90,p99,deadline,margin,missed,late,lost,merged,\
-ticks_pending,ticks_ready,ticks_running,ticks_throttled,ticks_blocked,ticks_woken,ticks_done,\
+ticks_pending,ticks_ready,ticks_running,ticks_throttled,ticks_blocked,ticks_server,ticks_done,\
 chain,interrupts,answers,least,greatest,total,p50,p90,p99,deadline,margin
 chain,,,,,,,,,,,,,,,,,,,,,,,,,,c,6,3,20,31,72,21,31,31,20,-11
 '''
-LOOP_ROWS = '''moment,core,kind,thread,note,word,number,response,deadline,activated,queued,ready,running,throttled,blocked,woken,chain,latency,deadline,origin
-22,0,lost,,n,1,,,,,,,,,,,,,,
-42,0,lost,,n,1,,,,,,,,,,,,,,
-43,0,slow,,,,,,,,,,,,,,c,31,20,12
-52,0,unanswered,,,,,,,,,,,,,,c,,20,32
+LOOP_ROWS = '''moment,core,kind,thread,note,word,number,response,age,deadline,activated,set,queued,ready,running,throttled,blocked,server,chain,latency,deadline,origin
+22,0,lost,,n,1,,,,,,,,,,,,,,,,
+42,0,lost,,n,1,,,,,,,,,,,,,,,,
+43,0,slow,,,,,,,,,,,,,,,,c,31,20,12
+52,0,unanswered,,,,,,,,,,,,,,,,c,,20,32
 '''
 LOOP_OBJECTS = '''{"moment":22,"core":0,"kind":"lost","note":"n","word":1}
 {"moment":42,"core":0,"kind":"lost","note":"n","word":1}
 {"moment":43,"core":0,"kind":"slow","chain":"c","latency":31,"deadline":20,"origin":12}
 {"moment":52,"core":0,"kind":"unanswered","chain":"c","deadline":20,"origin":32}
-{"kind":"counts","missed":0,"overdue":0,"lost":2,"never":0,"merged":0,"allowed":0,"unjudged":0,"hints":0,"threads":1,"deadlines":1,"judged":4,"slow":1,"unanswered":1}
+{"kind":"counts","missed":0,"overdue":0,"untaken":0,"lost":2,"never":0,"merged":0,"allowed":0,"unjudged":0,"hints":0,"threads":1,"deadlines":1,"judged":4,"slow":1,"unanswered":1}
 '''
 # the first interrupt comes at 60; at 50 there is none, so nothing is judged, and at 80 one that is answered 20 later, at its deadline
 LATER = LOOP.replace('period = 10, start = 2', 'period = 100, start = 60')
 LATER_TABLE = '''chain c interrupts 0 answers 0 least - greatest - total 0 p50 - p90 - p99 - deadline 20 margin -
-missed 0 overdue 0 lost 0 never 0 merged 0 allowed 0 unjudged 0 hints 0 threads 1 deadlines 1 judged 0 slow 0 unanswered 0
+missed 0 overdue 0 untaken 0 lost 0 never 0 merged 0 allowed 0 unjudged 0 hints 0 threads 1 deadlines 1 judged 0 slow 0 unanswered 0
 '''
 LATER_OBJECTS = '''{"kind":"chain","chain":"c","interrupts":1,"answers":1,"least":20,"greatest":20,"total":20,"p50":20,"p90":20,"p99":20,"deadline":20,"margin":0}
-{"kind":"counts","missed":0,"overdue":0,"lost":0,"never":0,"merged":0,"allowed":0,"unjudged":0,"hints":0,"threads":1,"deadlines":1,"judged":1,"slow":0,"unanswered":0}
+{"kind":"counts","missed":0,"overdue":0,"untaken":0,"lost":0,"never":0,"merged":0,"allowed":0,"unjudged":0,"hints":0,"threads":1,"deadlines":1,"judged":1,"slow":0,"unanswered":0}
 '''
 LATER_JOBS = '''{"moment":80,"core":0,"kind":"job","thread":"L","number":1,"activated":60,"begun":60,"response":20,"queued":0,"preemptions":0,"ready":0,"running":20,\
-"throttled":0,"blocked":0,"woken":0}
+"throttled":0,"blocked":0,"server":0}
 {"moment":80,"core":0,"kind":"answer","thread":"L","number":1,"chain":"c","latency":20,"deadline":20,"origin":60}
-{"kind":"counts","missed":0,"overdue":0,"lost":0,"never":0,"merged":0,"allowed":0,"unjudged":0,"hints":0,"threads":1,"deadlines":1,"judged":1,"slow":0,"unanswered":0}
+{"kind":"counts","missed":0,"overdue":0,"untaken":0,"lost":0,"never":0,"merged":0,"allowed":0,"unjudged":0,"hints":0,"threads":1,"deadlines":1,"judged":1,"slow":0,"unanswered":0}
 '''
 # L takes 150 ticks from 100 on; at 1100 E computes 19 before it, and the wait of E takes a tick. Of 150 and 170 the half is 150, told as the end of 150 to 151. Nothing has a
 # deadline, which is a hint
@@ -158,7 +158,7 @@ source = [
 chain = [{ name = "c", source = "s", thread = "L" }]
 '''
 LONG_TABLE = '''chain c interrupts 2 answers 2 least 150 greatest 170 total 320 p50 151 p90 170 p99 170 deadline - margin -
-missed 0 overdue 0 lost 0 never 0 merged 0 allowed 0 unjudged 0 hints 1 threads 2 deadlines 0 judged 0 slow 0 unanswered 0
+missed 0 overdue 0 untaken 0 lost 0 never 0 merged 0 allowed 0 unjudged 0 hints 1 threads 2 deadlines 0 judged 0 slow 0 unanswered 0
 '''
 
 
@@ -271,7 +271,7 @@ def shown(found: Chained) -> Iterator[str]:
     yield from ('slow of two chains at one time' for many in times.values() if many > 1)
     yield from ('a row and an answer at one time' for words in lines if words[2] in ('miss', 'lost') and words[0] in times)
     yield from ('slow at the horizon' for words in slow if words[0] == str(found.horizon))
-    if 'unanswered' in (words[2] for words in lines) and {'overdue', 'never'} & {words[2] for words in lines}:
+    if 'unanswered' in (words[2] for words in lines) and {'overdue', 'untaken', 'never'} & {words[2] for words in lines}:
         yield 'unanswered behind others'
     if lines and all(words[2] in reading.OF_CHAINS for words in lines):
         yield 'found of chains alone'

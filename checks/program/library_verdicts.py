@@ -3,7 +3,8 @@
 
 Each system of the corpus is checked by calls, in each part and format, in a room that is too small and in one that is larger than needed: the lines, or
 the line of the fault, are those of the program, and the result says whether something was found. Rows in numbers, with names by mcs_name, are the rows of
-mcsim, in an array that is too short, too. Findings in numbers are those of the JSON of mcscheck. Arguments that are out of range are refused, and no call
+mcsim, in an array that is too short, too, and those of threads that stop or are woken have the dates of budgets.py. Findings in numbers are those of
+the JSON of mcscheck. Arguments that are out of range are refused, and no call
 takes more than 32 KB of stack.
 
 The same holds of the explanations of some rounds of each system (mcs_why), and of its checks for all time (mcs_forever); and of random systems, whose
@@ -29,7 +30,7 @@ sys.dont_write_bytecode = True
 sys.path[0] = str(pathlib.Path(__file__).resolve().parents[2])
 from checks import common
 from checks.common import TOP, Count, Ran
-from checks.program import library
+from checks.program import library, reading
 from checks.program.library import OLD, TOO_FAR, Answer, Run, old
 from checks.random_systems import random_text, text_of
 
@@ -41,7 +42,9 @@ RESULTS = {0: LINES, 5: FOUND, 6: UNJUDGED}
 NONE = 2**64 - 1
 KINDS = ('release', 'run', 'stop', 'signal', 'arrive', 'wake', 'hold', 'got', 'round', 'order', 'interrupt')
 WHYS = ('spent', 'yield', 'wait', 'call', 'done', 'preempt', 'order')
-FINDINGS = ('miss', 'overdue', 'lost', 'never')
+FINDINGS = ('miss', 'overdue', 'lost', 'never', 'untaken')
+# how ticks of a round are told
+STOOD = ('queued', 'ready', 'running', 'throttled', 'blocked', 'server')
 THREAD, CONTEXT, NOTE, SOURCE, CHAIN = range(5)
 # bytes of stack that a call may take
 STACK = 32 * 1024
@@ -64,7 +67,7 @@ class Finding(ctypes.Structure):
 
     _fields_ = [(name, ctypes.c_uint64) for name in (
         'moment', 'core', 'kind', 'thread', 'note', 'number', 'response', 'deadline', 'activated', 'queued', 'word',
-        'ready', 'running', 'throttled', 'blocked', 'woken',
+        'ready', 'running', 'throttled', 'blocked', 'server',
     )]
 
 
@@ -169,17 +172,20 @@ class Reader:
         return ' '.join(map(str, (row.moment, row.core, kind, *words)))
 
     def finding(self, finding: Finding) -> dict[str, object]:
-        """The values of a finding."""
+        """The values of a finding, without the names of those that may take a word."""
         kind = FINDINGS[finding.kind]
         values: dict[str, object] = {'kind': kind, 'moment': finding.moment, 'core': finding.core}
         if kind == 'lost':
             return {**values, 'note': self.names[NOTE][finding.note], 'word': finding.word}
-        values |= {'thread': self.names[THREAD][finding.thread], 'deadline': finding.deadline}
+        values |= {'deadline': finding.deadline}
+        if kind == 'untaken':
+            values |= {'note': self.names[NOTE][finding.note], 'word': finding.word}
+            return {**values, 'age': finding.response, 'set': finding.activated}
+        values |= {'thread': self.names[THREAD][finding.thread]}
         if kind == 'never':
             return values
-        if kind == 'miss':
-            values |= {'number': finding.number, 'response': finding.response}
-        return values | {name: getattr(finding, name) for name in ('activated', 'queued', 'ready', 'running', 'throttled', 'blocked', 'woken')}
+        values |= {'number': finding.number, 'response' if kind == 'miss' else 'age': finding.response, 'activated': finding.activated}
+        return values | {name: getattr(finding, name) for name in STOOD}
 
 
 class Trial:
@@ -295,6 +301,11 @@ class Trial:
         whole = all_rows.result == LINES and all_rows.before == run.horizon + 1
         made = [reader.line(row) for row in all_rows.rows[:all_rows.many]]
         self.count.expect(f'{run.name}: rows in numbers', whole and made == lines)
+        told = reading.rows_of('\n'.join(lines))
+        dates = reading.dates_of(tomllib.loads(text.decode()), told)
+        wanted = [NONE if date is None else date for row, date in zip(told, dates) if row.kind in ('stop', 'wake') or row.is_let_in]
+        kept = [row.more for row in all_rows.rows[:all_rows.many] if KINDS[row.kind] in ('stop', 'wake')]
+        self.count.expect(f'{run.name}: the dates of rows that stop or wake threads', kept == wanted)
         few = self.library.rows(text, run.horizon, FEW)
         if all_rows.many <= FEW:
             return
@@ -304,7 +315,8 @@ class Trial:
 
     def try_findings(self, run: Run, text: bytes, reader: Reader) -> None:
         told = self.told(run, '--format', 'json').stdout.splitlines()
-        wanted = [values for values in map(json.loads, told) if values['kind'] in FINDINGS]
+        found_there = [values for values in map(json.loads, told) if values['kind'] in FINDINGS]
+        wanted = [{name: value for name, value in values.items() if name != 'by'} for values in found_there]
         needed = self.library.findings(text, run.horizon, 0)
         result, findings, many = self.library.findings(text, run.horizon, len(wanted))
         found = [reader.finding(finding) for finding in findings[:many]]

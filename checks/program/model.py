@@ -6,7 +6,7 @@ from __future__ import annotations
 from dataclasses import dataclass, field
 from typing import Any, NamedTuple, Optional
 
-from checks.program.reading import Tables
+from checks.random_systems import Tables
 
 # a step of a script: its word, and what stands behind it, a notification or a server by its number
 Item = tuple[Any, ...]
@@ -14,7 +14,8 @@ NEVER = 2**64 - 1
 
 
 class Row(NamedTuple):
-    """A row of a schedule; threads, notifications, contexts, servers and sources are told by their numbers."""
+    """A row of a schedule; threads, notifications, contexts, servers and sources are told by their numbers. Rows of threads that stop, are woken or are let
+    in to a server end with the date with which they enter the release queue, or None."""
 
     moment: int
     core: int
@@ -380,8 +381,8 @@ class Turn:
             return
         thread = max(state.waiters, key=self.core.priority)
         state.waiters.remove(thread)
-        self.says('wake', thread, note, badge)
         self.resumes(thread)
+        self.says('wake', thread, note, badge, self.context(thread).date(self.moment))
         self.given(thread, badge)
         self.enters(thread)
 
@@ -393,8 +394,8 @@ class Turn:
         if server.waiters:
             other = server.taken = max(server.waiters, key=self.core.priority)
             server.waiters.remove(other)
-            self.says('enter', other, number)
             self.resumes(other)
+            self.says('enter', other, number, self.context(other).date(self.moment))
             self.moves(other)
             self.enters(other, is_front=True)
 
@@ -497,7 +498,8 @@ def text_of(row: Row, system: System) -> str:
     match row.kind, row.what:
         case 'stop', (number, why, ticks, until):
             words = [thread(number), why, ticks, *([] if until is None else ['until', until])]
-        case ('signal' | 'wake' | 'got'), (number, place, word):
+        # the date of one who is woken or let in is in no text
+        case ('signal' | 'wake' | 'got'), (number, place, word, *_):
             words = [thread(number), note(place), word]
         case 'arrive', (place, badge, maker):
             words = [note(place), badge, 'from', maker]
@@ -507,7 +509,7 @@ def text_of(row: Row, system: System) -> str:
             words = [system.contexts[number]['name']]
         case 'interrupt', (number, place, badge):
             words = [system.sources[number]['name'], note(place), badge]
-        case ('enter' | 'leave'), (number, place):
+        case ('enter' | 'leave'), (number, place, *_):
             words = [thread(number), system.servers[place]['name']]
         case _, (number, *rest):
             words = [thread(number), *rest]

@@ -6,6 +6,7 @@ from __future__ import annotations
 
 import bisect
 import collections
+import copy
 import csv
 import functools
 import io
@@ -14,7 +15,7 @@ from collections.abc import Callable, Iterable, Iterator, Sequence
 from fractions import Fraction
 from typing import Any, NamedTuple, Optional
 
-from checks.program import hint_reading
+from checks.program import budgets, hint_reading
 from checks.program.hint_reading import Uses
 
 Tables = dict[str, Any]
@@ -25,20 +26,26 @@ Scripts = dict[str, list[str]]
 
 TELLING = ('release', 'run', 'stop', 'wake')
 OF_THREADS = (*TELLING, 'got', 'round', 'enter', 'leave')
-PARTS = ('ready', 'running', 'throttled', 'blocked', 'woken')
+PARTS = ('ready', 'running', 'throttled', 'blocked', 'server')
 STANDINGS = ('pending', *PARTS, 'done')
-KINDS = ('missed', 'overdue', 'lost', 'never', 'merged', 'allowed', 'unjudged', 'hints', 'threads', 'deadlines', 'judged')
+# how a thread stands that stopped for a reason which the release queue does not know
+STOPPED = {'wait': 'blocked', 'call': 'server', 'done': 'done'}
+# how it stands that has budget and waits for nothing
+ACTIVE = ('ready', 'running')
+KINDS = ('missed', 'overdue', 'untaken', 'lost', 'never', 'merged', 'allowed', 'unjudged', 'hints', 'threads', 'deadlines', 'judged')
 # what is counted of chains, in a file that has one
 OF_CHAINS = ('slow', 'unanswered')
-FOUND = (*KINDS[:4], *OF_CHAINS)
+FOUND = (*KINDS[:5], *OF_CHAINS)
 # what is no finding, unless doubts count
 DOUBTFUL = ('unjudged', 'hints')
 # whose name a line has before its other values, if it is no thread's
-NAMED = {'lost': 'note', **dict.fromkeys(OF_CHAINS, 'chain')}
+NAMED = {'lost': 'note', 'untaken': 'note', **dict.fromkeys(OF_CHAINS, 'chain')}
 # the labels in lines of text of values that have another name as CSV and JSON
 LABELS = {'round': 'number'}
 COLUMNS = {
-    'findings': ('moment', 'core', 'kind', 'thread', 'note', 'word', 'number', 'response', 'deadline', 'activated', 'queued', *PARTS),
+    'findings': (
+        'moment', 'core', 'kind', 'thread', 'note', 'word', 'number', 'response', 'age', 'deadline', 'activated', 'set', 'queued', *PARTS,
+    ),
     'jobs': ('moment', 'core', 'kind', 'thread', 'number', 'activated', 'begun', 'response', 'queued', 'preemptions', *PARTS),
     'table': (
         'kind', 'thread', 'core', 'priority', 'budget', 'period', 'granted', 'used', 'rounds', 'greatest', 'p50', 'p90', 'p99', 'deadline', 'margin',
@@ -52,13 +59,15 @@ NO_THREAD, NO_DEADLINE, UNUSED = 'hint no thread', 'hint no thread has a deadlin
 
 
 class Row(NamedTuple):
-    """A row of a schedule: its place among all of them, its moment, its core, its further words, and whether a thread that waited for a server enters it."""
+    """A row of a schedule: its place among all of them, its moment, its core, its further words, whether a thread that waited for a server enters it, and
+    the date with which its thread enters the release queue, if it does."""
 
     place: int
     moment: int
     core: int
     what: list[str]
     is_let_in: bool = False
+    until: Optional[int] = None
 
     @property
     def kind(self) -> str:
@@ -93,19 +102,24 @@ def rows_of(text: str) -> list[Row]:
     return rows
 
 
-def standing_after(row: Row, following: Optional[Row]) -> str:
-    """How a thread stands from a row of it on, up to the next one that tells how it stands, where there is one."""
-    if row.kind == 'run':
-        return 'running'
-    if row.kind == 'release':
-        return 'ready'
-    if row.kind in ('wake', 'enter'):
-        return {'release': 'throttled', 'run': 'ready'}.get(following.kind, 'woken') if following else 'woken'
-    why = row.what[2]
-    if why in ('wait', 'call', 'done'):
-        return 'done' if why == 'done' else 'blocked'
-    # with `until` and a date
-    return 'throttled' if len(row.what) == 6 else 'ready'
+def date_told(row: Row) -> Optional[int]:
+    """The date of a row `stop`, behind `until`."""
+    return int(row.what[5]) if len(row.what) == 6 else None
+
+
+def dates_of(tables: Tables, rows: Sequence[Row]) -> list[Optional[int]]:
+    """The date with which the thread of each row enters the release queue, if it does, by the budgets."""
+    return budgets.dates_of(tables, ((row.moment, row.what, row.is_let_in) for row in rows)) if rows else []
+
+
+def standing_after(row: Row) -> str:
+    """How a thread stands from a row of it on, up to the next one that tells how it stands."""
+    if row.kind in ('run', 'release'):
+        return 'running' if row.kind == 'run' else 'ready'
+    if row.kind == 'stop' and row.what[2] in STOPPED:
+        return STOPPED[row.what[2]]
+    # it was woken or let in, or stopped for none of these reasons
+    return 'ready' if row.until is None else 'throttled'
 
 
 def scripts_of(tables: Tables) -> Scripts:
@@ -156,12 +170,11 @@ class Past:
         moments = [row.moment for row in telling]
         found: list[str] = []
         while begin + len(found) < end:
-            # the rows up to this tick, and the next one behind it, before which nothing changes
+            # the rows up to this tick; nothing changes before the next one
             tick = begin + len(found)
             place = bisect.bisect_right(moments, tick)
-            following = telling[place] if place < len(telling) else None
-            standing = standing_after(telling[place - 1], following) if place else 'pending'
-            found += [standing] * (min(end, following.moment if following else end) - tick)
+            standing = standing_after(telling[place - 1]) if place else 'pending'
+            found += [standing] * (min([end, *moments[place:place + 1]]) - tick)
         return found
 
     def is_done(self, thread: str) -> bool:
@@ -182,19 +195,30 @@ class Schedule:
     """The rows of a schedule, and those of each thread and of each notification; the words that notifications hold at first, and whether a word of one
     leaves something to do to a thread that waits for it first."""
 
-    def __init__(self, text: str, firsts: dict[str, int], is_heard: Callable[[str, int], bool]) -> None:
-        self.rows, self.firsts, self.is_heard = rows_of(text), firsts, is_heard
+    def __init__(self, tables: Tables, text: str, is_heard: Callable[[str, int], bool]) -> None:
+        told = rows_of(text)
+        # the dates of all rows by the budgets; those of stops stand in the text
+        self.dates = dates_of(tables, told)
+        self.rows = [row._replace(until=date_told(row) if row.kind == 'stop' else date) for row, date in zip(told, self.dates)]
+        self.is_heard = is_heard
+        self.firsts: dict[str, int] = {note['name']: note.get('word', 0) for note in tables.get('note', [])}
         self.of_thread: dict[str, list[Row]] = collections.defaultdict(list)
         self.of_note: dict[str, list[Row]] = collections.defaultdict(list)
+        # the rows that give a word of a notification to a thread
+        self.given: dict[str, list[Row]] = collections.defaultdict(list)
         for row in self.rows:
+            if row.kind in ('got', 'wake'):
+                self.given[row.what[2]].append(row)
             for name, rows in ((row.thread, self.of_thread), (row.note, self.of_note)):
                 if name is not None:
                     rows[name].append(row)
 
 
 class Round(NamedTuple):
-    """A round: when it began, when it was activated, how the thread stood in each tick from its beginning up to a moment, and its rows."""
+    """A round: since when the thread is free for it, since the round before ended or the thread started; when it began and was activated; how the thread
+    stood in each tick from the later of activation and freedom up to a moment; and the rows from its beginning on."""
 
+    free: int
     begun: int
     activated: Optional[int]
     standings: list[str]
@@ -208,7 +232,8 @@ class Round(NamedTuple):
 
     @property
     def queued(self) -> int:
-        return max(self.begun - (self.activated or 0), 0)
+        """How long it waited for the rounds before it."""
+        return 0 if self.activated is None else max(self.free - self.activated, 0)
 
     @property
     def preemptions(self) -> int:
@@ -242,6 +267,7 @@ class Reading:
 
     def __init__(self, tables: Tables, text: str, horizon: int) -> None:
         self.contexts = {context['name']: context for context in tables.get('context', [])}
+        self.homes = {note['name']: note['core'] for note in tables.get('note', [])}
         self.threads = {thread['name']: thread for thread in tables.get('thread', [])}
         self.servers = scripts_of(tables)
         self.notes = [note['name'] for note in tables.get('note', [])]
@@ -250,12 +276,20 @@ class Reading:
         self.uses = Uses(tables)
         self.cores = tables['cores']
         self.ordered = {order['context'] for order in tables.get('order', [])}
-        firsts = {note['name']: note.get('word', 0) for note in tables.get('note', [])}
-        self.schedule, self.horizon = Schedule(text, firsts, self.is_heard), horizon
+        self.schedule, self.horizon = Schedule(tables, text, self.is_heard), horizon
         self.rows, self.whole = self.schedule.rows, Past(self.schedule, len(self.schedule.rows))
 
     def past(self, row: Row) -> Past:
         return Past(self.schedule, row.place)
+
+    def up_to(self, horizon: int) -> Reading:
+        """The same up to an earlier horizon."""
+        earlier = copy.copy(self)
+        earlier.horizon = horizon
+        earlier.rows = self.rows[:bisect.bisect_right(self.rows, horizon, key=lambda row: row.moment)]
+        earlier.whole = Past(self.schedule, len(earlier.rows))
+        earlier.__dict__.pop('all_found', None)
+        return earlier
 
     def deadline(self, thread: str) -> int:
         return int(self.threads[thread].get('deadline', 0))
@@ -281,21 +315,22 @@ class Reading:
             return None
         own = past.of_thread(thread)
         last = max((place for place, row in enumerate(own) if row.kind == 'round'), default=-1)
+        free = own[last].moment if last >= 0 else self.threads[thread].get('start', 0)
         if self.first_wait(thread):
-            return self.round_of_word(past, thread, own[last + 1:], moment)
-        begun = own[last].moment if last >= 0 else self.threads[thread].get('start', 0)
-        standings = past.standings(thread, begun, moment)
-        active = (begun + place for place, standing in enumerate(standings) if standing in ('ready', 'running'))
-        return Round(begun, next(active, None), standings, own[last + 1:])
+            return self.round_of_word(past, thread, free, own[last + 1:], moment)
+        active = (free + place for place, standing in enumerate(past.standings(thread, free, moment)) if standing in ACTIVE)
+        activated = next(active, None)
+        return Round(free, free, activated, [] if activated is None else past.standings(thread, activated, moment), own[last + 1:])
 
-    def round_of_word(self, past: Past, thread: str, own: Sequence[Row], moment: int) -> Optional[Round]:
+    def round_of_word(self, past: Past, thread: str, free: int, own: Sequence[Row], moment: int) -> Optional[Round]:
         """The same where the script begins with a wait, by the thread's rows after its last round."""
         place = next((place for place, row in enumerate(own) if self.begins(row)), None)
         if place is None:
             return None
         first = own[place]
         activated = first.moment if first.kind == 'wake' else self.past(first).word(first.what[2])[1]
-        return Round(first.moment, activated, past.standings(thread, first.moment, moment), own[place:])
+        assert activated is not None
+        return Round(free, first.moment, activated, past.standings(thread, max(activated, free), moment), own[place:])
 
     @functools.cached_property
     def ended(self) -> dict[int, Optional[Round]]:
@@ -329,11 +364,8 @@ class Reading:
         return None
 
     def open_round(self, thread: str) -> Optional[Round]:
-        """The round that is activated and has not ended, if there is one: under way, or yet to begin by a word that is held."""
-        waits = self.first_wait(thread)
+        """The round that is under way at the horizon, if there is one that is activated."""
         pending = self.round_at(self.whole, thread, self.horizon)
-        if pending is None and waits and not self.whole.is_done(thread) and self.is_held(thread, waits):
-            pending = Round(self.horizon, self.whole.word(waits)[1], [], [])
         return None if pending is None or pending.activated is None else pending
 
     def overdue(self, thread: str) -> Optional[Round]:
@@ -346,41 +378,73 @@ class Reading:
         return self.has_work(thread, self.whole.word(note)[0])
 
     def was_activated(self, thread: str) -> bool:
+        """Whether anybody ever had a word for which the thread waits first; or else whether it was ever ready or ran, at the horizon too."""
         waits = self.first_wait(thread)
         if waits:
-            return self.is_held(thread, waits) or any(map(self.begins, self.whole.of_thread(thread)))
-        return bool({'ready', 'running'} & set(self.whole.standings(thread, 0, self.horizon)))
+            return any(self.has_work(thread, int(row.what[3])) for row in self.whole.before(self.schedule.given[waits]))
+        return not {*ACTIVE}.isdisjoint(self.whole.standings(thread, 0, self.horizon + 1))
 
     def head(self, thread: str) -> str:
         """The horizon and the thread's core, with which a line about it begins."""
         return f'{self.horizon} {self.contexts[self.threads[thread]["context"]]["core"]}'
 
     def found_at_end(self, thread: str) -> Optional[tuple[str, str]]:
+        """The kind and the line of what is found of a thread at the horizon."""
         head = self.head(thread)
         if late := self.overdue(thread):
-            return 'overdue', f'{head} overdue {thread} {self.late(thread, late)}'
+            times = f'round {self.ends(thread) + 1} age {self.horizon - late.since}'
+            return 'overdue', f'{head} overdue {thread} {times} {self.late(thread, late)}'
         if self.deadline(thread) and not self.was_activated(thread):
             return 'never', f'{head} never {thread} deadline {self.deadline(thread)}'
         return None
+
+    # ---- words that nobody takes
+
+    def takers(self, note: str) -> list[str]:
+        """The threads that may take a word of the notification: they wait for it somewhere, or a server does that they call."""
+        return [name for name, thread in self.threads.items() if ['wait', note] in items_of(self.servers, thread['script'])]
+
+    def waits_alone(self, thread: str, note: str) -> bool:
+        """Whether the thread waits for the notification by its first item and by no other."""
+        items = list(items_of(self.servers, self.threads[thread]['script']))
+        return self.first_wait(thread) == note and items.count(['wait', note]) == 1
+
+    def due(self, note: str) -> Optional[int]:
+        """The deadline of the notification: the greatest of those that may take its word, if each begins with it a round that has one."""
+        takers = self.takers(note)
+        if not all(self.deadline(thread) and self.waits_alone(thread, note) for thread in takers):
+            return None
+        return max(map(self.deadline, takers), default=None)
+
+    def untaken(self, note: str) -> Optional[tuple[str, str]]:
+        """The kind and the line of the word that is too old for all who may take it, if it leaves each of them something to do."""
+        (word, since), due, takers = self.whole.word(note), self.due(note), self.takers(note)
+        if due is None or since is None or self.horizon - since < due or not all(self.has_work(thread, word) for thread in takers):
+            return None
+        words = f'by {",".join(takers)} word {word} age {self.horizon - since} deadline {due} set {since}'
+        return 'untaken', f'{self.horizon} {self.homes[note]} untaken {note} {words}'
+
+    def at_end(self) -> Iterator[tuple[str, str]]:
+        """The kind and the line of all that is found at the horizon: of threads, and then of notifications."""
+        yield from filter(None, [*map(self.found_at_end, self.threads), *map(self.untaken, self.notes)])
 
     # ---- what was judged
 
     def ends(self, thread: str) -> int:
         """How many rounds of the thread ended."""
-        return sum(row.kind == 'round' for row in self.schedule.of_thread[thread])
+        return sum(row.kind == 'round' for row in self.whole.of_thread(thread))
 
-    def unjudged(self, thread: str) -> Optional[Round]:
-        """The first round of a thread with a deadline, if it is activated and it is open whether the deadline will be met: it has not ended, and still
-        has time."""
-        if not self.deadline(thread) or self.ends(thread) or self.overdue(thread):
-            return None
-        return self.open_round(thread)
+    def is_unjudged(self, thread: str) -> bool:
+        """Whether it is open of a thread with a deadline that was activated whether any deadline will be met: none of its rounds ended, and nothing is found."""
+        return bool(self.deadline(thread)) and not self.ends(thread) and not self.found_at_end(thread)
 
     def unjudged_lines(self) -> Iterator[tuple[str, str]]:
-        """The kind and the line of each thread that is unjudged."""
-        for thread in self.threads:
-            if young := self.unjudged(thread):
-                yield 'unjudged', f'{self.head(thread)} unjudged {thread} deadline {self.deadline(thread)} activated {young.activated}'
+        """The kind and the line of each thread that is unjudged. One without a round under way is a worker to which others leave no word."""
+        for thread in filter(self.is_unjudged, self.threads):
+            young = self.round_at(self.whole, thread, self.horizon)
+            # at the horizon it may be ready for the first time
+            activated = '-' if young is None else self.horizon if young.activated is None else young.activated
+            yield 'unjudged', f'{self.head(thread)} unjudged {thread} deadline {self.deadline(thread)} activated {activated}'
 
     def with_deadline(self) -> list[str]:
         return [thread for thread in self.threads if self.deadline(thread)]
@@ -390,13 +454,13 @@ class Reading:
         return len(self.with_deadline())
 
     def judged(self) -> int:
-        """How often it is known whether a deadline was met: for each round that ended, and for one that is overdue."""
-        return sum(self.ends(thread) + (self.overdue(thread) is not None) for thread in self.with_deadline())
+        """How often it is known whether a deadline was met: for each round that ended, for one that is overdue, and for a word that is untaken."""
+        return sum(map(self.ends, self.with_deadline())) + sum(kind in ('overdue', 'untaken') for kind, _ in self.at_end())
 
     @functools.cached_property
     def all_found(self) -> list[tuple[str, str]]:
         """The kind and the line of all that is found, and then of what is unjudged."""
-        return [*filter(None, [*map(self.found, self.rows), *map(self.found_at_end, self.threads)]), *self.unjudged_lines()]
+        return [*filter(None, map(self.found, self.rows)), *self.at_end(), *self.unjudged_lines()]
 
     def jobs(self) -> Iterator[str]:
         """The line of each round that ended."""
@@ -481,7 +545,8 @@ class Reading:
             return Wanted(self.rows_text(show, rows), counts)
         if form == 'json':
             known = ({name: value for name, value in values.items() if value is not None} for values in figures)
-            objects = [*map(self.values, shown), *map(values_of_hint, hinted), *known, {'kind': 'counts', **counts}]
+            found = ({name: value for name, value in values.items() if value is not None} for values in map(self.values, shown))
+            objects = [*found, *map(values_of_hint, hinted), *known, {'kind': 'counts', **counts}]
             return Wanted(''.join(json.dumps(each, separators=(',', ':')) + '\n' for each in objects), counts)
         told = [*shown, *hinted, *map(line_of, figures), ' '.join(f'{kind} {many}' for kind, many in counts.items())]
         return Wanted(''.join(f'{line}\n' for line in told), counts)
@@ -509,11 +574,18 @@ def line_of(values: Values) -> str:
     return ' '.join(f'{name} {"-" if value is None else value}' for name, value in values.items() if name != 'kind')
 
 
-def values_of(line: str) -> dict[str, int | str]:
+def value_of(label: str, word: str) -> Any:
+    """The value of a word behind its label: a number, names, or nothing."""
+    if label == 'by':
+        return word.split(',')
+    return None if word == '-' else int(word)
+
+
+def values_of(line: str) -> Values:
     """The values of a line of a finding or a job, by their names."""
     moment, core, kind, name, *words = line.split()
-    numbers = {LABELS.get(label, label): int(word) for label, word in zip(words[::2], words[1::2], strict=True)}
-    return {'moment': int(moment), 'core': int(core), 'kind': kind, NAMED.get(kind, 'thread'): name, **numbers}
+    values = {LABELS.get(label, label): value_of(label, word) for label, word in zip(words[::2], words[1::2], strict=True)}
+    return {'moment': int(moment), 'core': int(core), 'kind': kind, NAMED.get(kind, 'thread'): name, **values}
 
 
 def values_of_hint(line: str) -> dict[str, int | str]:

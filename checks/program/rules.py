@@ -81,7 +81,7 @@ class Trial:
 
     def unheard(self, system: model.System, rows: list[model.Row]) -> int:
         """How often a first wait gives a word for which the thread has nothing to do, where its script has no other wait for that notification."""
-        given = [row.what for row in rows if row.kind in ('wake', 'got')]
+        given = [row.what[:3] for row in rows if row.kind in ('wake', 'got')]
         scripts = system.scripts
         words = [(thread, word) for thread, note, word in given if scripts[thread][0] == ('wait', note) and scripts[thread].count(('wait', note)) == 1]
         return sum(system.next_item(thread, 0, system.heard(thread, word)) == 0 for thread, word in words)

@@ -3,10 +3,10 @@
 
 Each random system has deadlines, signals that are lost or merged, orders, and contexts without a thread, and a few have no deadline or no thread; it is checked as it is, once more with some
 of the words --workers, --strict and --allow-lost, and with the rounds that ended or figures in place of findings, and some with a notification that
-it has not; and it is asked why a few of its rounds took so long. A system that mcsim refuses is refused with the same fault. Two laws of schedules are
-tried meanwhile on what is written: a round's parts are the ticks of its response in its `round` row, the ticks in which the rows say that a
-thread runs are those of the reports, and each thread with a deadline ended a round, or is overdue, never activated or unjudged. Then come systems of this repository whose findings are known. A kind of finding, of a part or of a status that
-was seen nowhere is a failure: a test that sees nothing of it tells nothing."""
+it has not; and it is asked why a few of its rounds took so long. A system that mcsim refuses is refused with the same fault. Three laws of schedules are
+tried meanwhile on what is written: the parts of a job are the ticks of its response, its row has the ticks since it began, the ticks in which the rows say that a thread runs are those of
+the reports, and each thread with a deadline ended a round, or is overdue, never activated or unjudged. Then come systems of this repository whose findings are known. A kind of finding, of a part or of a status that was seen nowhere is a
+failure: a test that sees nothing of it tells nothing."""
 from __future__ import annotations
 
 import collections
@@ -31,7 +31,7 @@ NAMES = ('tick', 'ticks', 'frames', '-n', 'irq', 'fire_irq', 'N', 'pet')
 KNOWN: dict[pathlib.Path, set[str]] = {
     DATA / 'worked' / 'starved_thread.toml': {'overdue'},
     DATA / 'worked' / 'waits_for_ever.toml': {'never'},
-    TOP / 'examples' / 'systems' / 'car_gateway_as_found.toml': {'missed', 'overdue', 'lost'},
+    TOP / 'examples' / 'systems' / 'car_gateway_as_found.toml': {'missed', 'overdue', 'untaken', 'lost'},
     # where the responses of `round` rows are above the deadline, and those from the activation are not
     DATA / 'worked' / 'loop_that_yields.toml': set(),
     TOP / 'examples' / 'systems' / 'three_rate_monotonic_tasks.toml': set(),
@@ -52,9 +52,8 @@ thread = [
 SEEN = (
     *reading.KINDS, *(f'hint {kind}' for kind in reading.KINDS_OF_HINTS),
     'status 0', 'status 1', 'status 2', 'status 5', 'status 6', 'found by doubts alone', 'nothing is judged', 'found, and nothing is judged',
-    'unjudged by a word that is held', 'unjudged, and under way', 'lost only where it is allowed', 'the nearest is', 'there is none', 'activated late', 'yet to begin',
-    *(f'miss {part}' for part in ('queued', *reading.PARTS[:4])), *(f'overdue {part}' for part in ('queued', *reading.PARTS)),
-    *(f'job {part}' for part in ('queued', 'preemptions', *reading.PARTS[:4])), 'jobs that are preempted twice',
+    'a spare worker', 'unjudged, and under way', 'lost only where it is allowed', 'the nearest is', 'there is none', 'activated late',
+    *(f'{kind} {part}' for kind in ('miss', 'overdue', 'job') for part in ('queued', *reading.PARTS)), 'job preemptions', 'jobs that are preempted twice',
     *(f'{show} as {form}' for show in ('findings', 'jobs', 'table') for form in ('csv', 'json')), 'table as text', 'both as text', 'both as json', 'both as csv',
     'margin above 0', 'margin 0', 'margin below 0', 'no margin', 'late', 'missed and not late', 'unused', 'unused is not known', 'a percentile below the greatest',
     'an interrupt is lost', 'an interrupt is merged', 'a call waits', 'a caller is let in', 'a word is nobody\'s', 'a first word is taken',
@@ -277,10 +276,8 @@ class Trial:
         self.seen.update(wanted.counts)
         self.tell_parts(wanted)
         for thread in found.threads:
-            if (late := found.overdue(thread)) and not late.standings:
-                self.seen['yet to begin'] += 1
-            if young := found.unjudged(thread):
-                self.seen['unjudged, and under way' if young.rows else 'unjudged by a word that is held'] += 1
+            if found.is_unjudged(thread):
+                self.seen['unjudged, and under way' if found.round_at(found.whole, thread, found.horizon) else 'a spare worker'] += 1
         if not wanted.counts['judged']:
             self.seen['found, and nothing is judged' if wanted.status() == 5 else 'nothing is judged'] += 1
         self.seen.update(what for row, before in zip(found.rows[1:], found.rows) for what in told_by(row, before, found))
@@ -341,14 +338,17 @@ def broken(found: Reading, reports: dict[str, dict[str, int]]) -> Iterator[str]:
         if ran != report['ran']:
             yield f'{thread} runs for {ran} ticks by the rows, and {report["ran"]} by its report'
     for thread in found.with_deadline():
-        if not (found.ends(thread) or found.overdue(thread) or found.unjudged(thread) or not found.was_activated(thread)):
+        if not (found.ends(thread) or found.overdue(thread) or found.is_unjudged(thread) or not found.was_activated(thread)):
             yield f'{thread} is activated, ended no round, and is neither overdue nor unjudged'
+        if (late := found.overdue(thread)) and late.queued + len(late.standings) != found.horizon - late.since:
+            yield f'{thread} is overdue, and the parts are not its age: {late}'
     for row in found.rows:
         if row.kind == 'round':
             ended = found.ended[row.place]
-            parts = [standing for standing in ended.standings if standing in reading.PARTS[:4]] if ended else []
-            if ended is None or ended.activated is None or len(parts) != int(row.what[3]) or len(parts) != len(ended.standings):
+            if ended is None or ended.activated is None or not {*ended.standings} <= {*reading.PARTS}:
                 yield f'{row}: {ended}'
+            elif (ended.queued + len(ended.standings), int(row.what[3])) != (row.moment - ended.activated, row.moment - ended.begun):
+                yield f'{row}: the parts are not the response, or it is not that of the row: {ended}'
 
 
 def answer(wanted: Wanted, is_strict: bool = False) -> Ran:

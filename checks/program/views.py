@@ -65,7 +65,7 @@ IS_SINGLE = """finding => {
 LARGEST_PAGE = 10_000_000
 COUNTS = ('rounds', 'greatest', 'missed', 'lost', 'merged')
 STANDINGS = ('pending', 'ready', 'running', 'throttled', 'blocked', 'done')
-KINDS = ('miss', 'overdue', 'lost', 'never')
+KINDS = ('miss', 'overdue', 'untaken', 'lost', 'never')
 TABLE = """Object.fromEntries(view.schedule.threads.map(thread =>
   [thread.name, { ...thread, ...Object.fromEntries(view.schedule.standings.map((standing, place) => [standing, thread.stood[place]])) }]))"""
 # slow answers that a page lists at most
@@ -115,8 +115,8 @@ class Expected:
         if row[2] in ('run', 'release'):
             return {'run': 'running', 'release': 'ready'}[row[2]]
         if row[2] in ('wake', 'enter'):
-            # what follows the wake says what it was; where nothing does, the page knows more than the rows
-            return 'woken' if after is None else 'throttled' if after[2] == 'release' else 'ready'
+            # what follows the wake says what it was; where nothing does, the page knows more than these rows
+            return 'unknown' if after is None else 'throttled' if after[2] == 'release' else 'ready'
         return 'throttled' if len(row) == 8 else {'wait': 'blocked', 'call': 'blocked', 'done': None}.get(row[4], 'ready')
 
     def stands(self, name: str, own: Sequence[Row]) -> None:
@@ -160,9 +160,8 @@ class Expected:
         if is_done:
             return
         if note:
-            # a word that is held activates the round that is yet to begin, though the thread has not run at all
-            held = first_set if reading.has_work(script, word) else None
-            self.round(name, held if activated is None else activated, None)
+            # a word that is held is no round's
+            self.round(name, activated, None)
         elif begun is not None:
             self.round(name, self.first_ready(begun), None)
 
@@ -217,8 +216,8 @@ class Expected:
 
 
 def is_apart(kind: str) -> bool:
-    """Whether a kind is counted by itself. At the end of the rows the page knows whether a woken thread is ready or throttled, and they do not."""
-    return kind.split()[-1] not in ('ready', 'throttled', 'woken', 'resp', 'queued', 'late') or kind == 'late'
+    """Whether a kind is counted by itself. At the end of the rows the page knows whether a thread that was woken is ready or throttled, and they do not."""
+    return kind.split()[-1] not in ('ready', 'throttled', 'unknown', 'resp', 'queued', 'late') or kind == 'late'
 
 
 def differences(found: dict[str, int], wanted: dict[str, int]) -> list[str]:
@@ -226,11 +225,11 @@ def differences(found: dict[str, int], wanted: dict[str, int]) -> list[str]:
     apart = ((kind, found.get(kind, 0), wanted.get(kind, 0)) for kind in sorted(filter(is_apart, kinds)))
     said = [f'{kind}: {one} in the page, {two} in the rows' for kind, one, two in apart if one != two]
     for stem in {kind.rpartition(' ')[0] for kind in kinds}:
-        both = [[counts.get(f'{stem} {kind}'.strip(), 0) for kind in ('ready', 'throttled', 'woken')] for counts in (found, wanted)]
-        # what is woken in the rows is one of both in the page
+        both = [[counts.get(f'{stem} {kind}'.strip(), 0) for kind in ('ready', 'throttled', 'unknown')] for counts in (found, wanted)]
+        # what is not known from the rows is one of both in the page
         more = [one - two for one, two in zip(*both)]
         if sum(more) or min(more[:2]) < 0 or both[0][2]:
-            said.append(f'{stem} ready, throttled, woken: {both[0]} in the page, {both[1]} in the rows')
+            said.append(f'{stem} ready, throttled, unknown: {both[0]} in the page, {both[1]} in the rows')
     return said
 
 
@@ -327,9 +326,10 @@ def told(page: Browser, checker: pathlib.Path, system: pathlib.Path, horizon: in
     rows: dict[str, dict[str, Any]] = page.value(TABLE)
     said = []
     for name, line in threads.items():
-        # a thread that was woken last may be ready or throttled, which rows alone do not say
         wanted = {key: line[key] for key in COUNTS if key in line}
-        wanted |= {key: line[f'ticks_{key}'] for key in STANDINGS if not line['ticks_woken']}
+        wanted |= {key: line[f'ticks_{key}'] for key in STANDINGS}
+        # the page does not tell apart for what a thread waits
+        wanted['blocked'] += line['ticks_server']
         shown = {key: rows[name][key] for key in wanted}
         if shown != wanted:
             said.append(f'the table has {shown} of {name}, and mcscheck {wanted}')

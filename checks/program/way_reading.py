@@ -13,10 +13,11 @@ from checks.program.chain_reading import Answer, ChainReading
 from checks.program.chained import Chained, answer_line
 from checks.program.reading import Tables, Values, rows_of
 
-PARTS = ('ready', 'running', 'throttled', 'blocked')
+PARTS = ('ready', 'running', 'throttled', 'blocked', 'server')
 SEEN = (
     'a way through a notification', 'a way over two cores', 'a way of five legs', 'a leg ready, running and throttled', 'the way of a later answer of a job',
-    *(f'a leg with {part} ticks' for part in PARTS),
+    # (callers in front of a taken server are rare in these systems)
+    *(f'a leg with {part} ticks' for part in PARTS if part != 'server'),
 )
 # who has the interrupt: a notification or a thread, by its name
 Holder = tuple[str, str]

@@ -330,9 +330,18 @@ SAYS = {
     'mcs_verdict/specs/Rounds.antt': {
         'begun_of': "when the thread's current job began, if there is one",
         'called_of': "when the thread's latest job that a word began was activated, if there was one",
+        'activated_of': "when the thread's current job was activated, if there is one",
+        'begun_by_word': "when a thread's job began, after it was given this word",
+        'rounds_of': "the number of the thread's latest job that ended, or 0 if none did",
     },
-    'mcs_verdict/specs/Standing.antt': {
-        'settled': 'a standing, after the next row says more about a thread that was woken',
+    'mcs_verdict/specs/Parts.antt': {
+        'free': "when the thread's latest job ended, or else when it starts",
+        'free_of': 'when a thread of the system is free for its next job',
+    },
+    'mcs_verdict/specs/Takers.antt': {
+        'waits_on': 'an item waits on the notification',
+        'due_by': 'the maximum deadline of these threads, if a word that any of them takes begins a job with one',
+        'greatest': 'the maximum deadline of these threads',
     },
     'mcs_verdict/specs/Stood.antt': {
         'no_ticks': 'no tick in any standing',
@@ -392,6 +401,7 @@ SAYS = {
         'checked_fields': 'the fields of the counts, with those of chains',
         'chain_count_fields': 'the fields of the counts of chains, if the file has a chain',
         'Fields': 'values, each with its name before it',
+        'by_of': 'the names of the threads that may take an untaken word',
         'note_of': 'the notification of a lost signal',
         'word_of': 'the word that a lost signal left unchanged',
         'number_of': 'the number of a round that missed its deadline',
@@ -470,12 +480,10 @@ SAYS = {
     'mcs_why/specs/Waits.antt': {
         'stopped': 'when the thread stopped last, by all rows',
         'waited_of': 'when the thread began to wait for the word that began its latest job, if it waited',
-        'free': "when the thread's latest round ended, or else when it starts",
     },
     'mcs_why/specs/Spans.antt': {
         'span_if': 'the span of a job that ended, if it is the one that is sought',
         'or_later': 'the first span, or else the second',
-        'ended': "the number of the thread's latest job that ended, or 0 if none did",
         'sought_by': 'a job that ended, or else one that did not, or the number of jobs',
     },
     'mcs_table/specs/Figures.antt': {
@@ -507,11 +515,18 @@ SAYS = {
     'mcs_ever_told/specs/Outlook.antt': {
         'NeverLoses': 'no schedule coalesces a signal of this notification',
         'NeverMisses': 'in no schedule this thread misses a deadline',
-        'unsettled_of': 'the lines of unsettled threads, if the set repeats',
+        'IsAlwaysInTime': 'in no schedule this thread misses a deadline or is overdue',
+        'IsNeverUntaken': 'in no schedule a word of this notification is untaken',
+        'endless': 'the round of a thread that never ends',
+        'abandoned': 'the word of a notification that nobody ever takes',
         'open_lines': 'the lines of a set without a repetition up to the horizon',
     },
-    'mcs_ever_told/specs/Lines.antt': {
-        'unsettled_lines': 'the lines of the threads of a set that are not settled',
+    'mcs_ever_found/specs/Period.antt': {
+        'is_taken_in_period': 'whether a thread takes the word of the notification in the first period',
+    },
+    'mcs_ever_found/specs/laws/GoOn.antt': {
+        'never_up_to': 'the finding that a thread is `never` at the horizon, if it is',
+        'untaken_up_to': 'the untaken word of a notification at the horizon, if there is one',
     },
     'mcs_ever_found/specs/Course.antt': {
         'course_of': 'the course of all threads and notifications in the rows so far, the latest first',
@@ -538,7 +553,6 @@ SAYS = {
     'mcs_check/specs/Judged.antt': {
         'scope_of': 'how much a check judges',
         'unjudged': 'the thread as an unjudged one, if it is',
-        'earlier': 'the earlier of two times, if there are two',
     },
     'mcs_check_lines/specs/Deadlines.antt': {
         'chain_deadlines': 'how many chains have a deadline',
@@ -556,7 +570,7 @@ PLAIN = {
     'mcs_check_lines/specs/Deadlines.antt': 'has_chain_deadline'.split(),
     'mcs_check_lines/specs/Fields.antt': 'response_of'.split(),
     'mcs_check_lines/specs/Formats.antt': 'counts_line hint_line'.split(),
-    'mcs_check_lines/specs/Told.antt': 'is_miss'.split(),
+    'mcs_check_lines/specs/Told.antt': 'is_miss is_untaken'.split(),
     'mcs_explain/specs/Why.antt': 'is_csv'.split(),
     'mcs_check_forever/specs/Foretold.antt': 'is_rows'.split(),
     'mcs_way/specs/Sought.antt': 'is_of'.split(),
@@ -597,10 +611,11 @@ PLAIN = {
     ).split(),
     'mcs_notify/specs/Note.antt': 'after_post after_wait posted quiet_note'.split(),
     'mcs_ever_told/specs/Lines.antt': (
-        'count_lines end_line end_lines is_own_note losses_of misses_of of_notes thread_lines '
-        'thread_so_far threads_so_far'
+        'abandoned_line abandoned_told count_lines end_line end_lines ever_line ever_lines ever_told '
+        'inactive_told is_own_note losses_of misses_of of_notes thread_lines thread_so_far '
+        'threads_so_far untaken_line untaken_told'
     ).split(),
-    'mcs_ever_told/specs/Outlook.antt': 'IsTrueOf course_up_to found_of lines_of told_end'.split(),
+    'mcs_ever_told/specs/Outlook.antt': 'IsTrueOf course_up_to found_of lines_of told_abandoned told_ever'.split(),
     'mcs_refills/specs/Server.antt': (
         'charged_with_enough dates_of enough first_amount first_date first_moment head_amount '
         'is_ready last_date'
@@ -633,7 +648,7 @@ PLAIN = {
     ).split(),
     'mcs_ticks/specs/Capped.antt': 'one_more'.split(),
     'mcs_ticks/specs/Queue.antt': 'first_of_greatest'.split(),
-    'mcs_verdict/specs/Account.antt': 'is_about is_some_of since_of'.split(),
+    'mcs_verdict/specs/Account.antt': 'since_of'.split(),
     'mcs_verdict/specs/Later.antt': 'later_moment'.split(),
     'mcs_ever_found/specs/laws/Never.antt': 'has_lost_of'.split(),
     'mcs_verdict_laws/specs/laws/Horizons.antt': 'has_miss_of'.split(),
@@ -725,6 +740,10 @@ WORDS = {
         'Text': 'bytes',
     },
     'serde_json.Data': {
+        'array': 'a JSON array of these items',
+        'item': 'an array from its first item, and the rest',
+        'Items': 'the values of a JSON array',
+        'no_items': 'an array without items',
         'member': 'an object from its first member, a key and its value, and the rest',
         'Members': 'the keys of a JSON object with their values',
         'negative': 'a whole number below 0, by its distance from 0',

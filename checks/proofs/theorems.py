@@ -3,8 +3,9 @@
 
 A theorem is `schedule SYSTEM HORIZON ≡ ROWS`, proved by computing. A system NAME is a file `NAME.toml`. In the folder `NAME` its run `schedule`, or
 else its run `both`, has two files: `RUN.words`, of which only `--horizon N` counts, and `RUN.stdout`, of which lines of reports are passed over. All
-systems with such a run up to moment 10,000 at most are taken, in the order of their names. After --write run `rt fmt` and `rt check` in the crate; how
-the files are laid out makes no difference here."""
+systems with such a run up to moment 10,000 at most are taken, in the order of their names. The lines do not tell until when a woken thread waits for its
+budget, so that date is the one of the model of the rules. After --write run `rt fmt` and `rt check` in the crate; how the files are laid out makes no
+difference here."""
 from __future__ import annotations
 
 import pathlib
@@ -18,6 +19,7 @@ sys.dont_write_bytecode = True
 sys.path[0] = str(pathlib.Path(__file__).resolve().parents[2])
 from checks import common
 from checks.common import DATA, TOP, Count
+from checks.program import model
 
 
 PROOFS = TOP / 'crates' / 'mcs_worked' / 'proofs'
@@ -26,6 +28,8 @@ FILES = {'Schedules.antt': ('examples', 'worked'), 'Random.antt': ('random_one',
 
 # a table of a file
 Table = dict[str, Any]
+# the date with which a thread, by its number, stands in the release queue after a moment
+Dates = dict[tuple[int, int], int]
 
 HEAD = """-- Written by checks/proofs/theorems.py from {parts}: schedules of systems, each by computing.
 use Rattle.std.specs.Prelude.{{{prelude}}}
@@ -195,20 +199,38 @@ def system_definition(name: str, system: Table, numbers: Numbers) -> str:
     )
 
 
-def what_term(word: str, rest: Sequence[str], numbers: Numbers) -> str:
+def option_term(date: int | None) -> str:
+    return 'None' if date is None else f'(Some {date})'
+
+
+def dates_of(system: Table, horizon: int) -> Dates:
+    """The dates of the threads that are woken, or let into a server, and have to wait for their budgets, by the model of the rules."""
+    world = model.World(model.System(system))
+    dates: Dates = {}
+    for moment in range(horizon + 1):
+        for row in world.turn():
+            if row.kind in ('wake', 'enter'):
+                dates |= {(moment, thread): date for thread, date in world.cores[row.core].releases if thread == row.what[0]}
+    return dates
+
+
+def what_term(word: str, rest: Sequence[str], numbers: Numbers, until: str) -> str:
+    """A row's term; `until` is that of a thread that the row wakes."""
     if word in ('release', 'run'):
         return f'row.{word.capitalize()} {numbers.threads[rest[0]]}'
     if word == 'stop':
         if rest[1] == 'call':
             numbers.calling.add(rest[0])
-        until = f'(Some {rest[4]})' if len(rest) > 3 else 'None'
-        return f'row.Stop {numbers.threads[rest[0]]} why.{CAUSES[rest[1]]} {rest[2]} {until}'
+        date = option_term(int(rest[4]) if len(rest) > 3 else None)
+        return f'row.Stop {numbers.threads[rest[0]]} why.{CAUSES[rest[1]]} {rest[2]} {date}'
     if word == 'signal':
         return f'row.Signal {numbers.threads[rest[0]]} {numbers.notes[rest[1]]} {rest[2]}'
     if word == 'arrive':
         return f'row.Arrive {numbers.notes[rest[0]]} {rest[1]} {rest[3]}'
-    if word in ('wake', 'got'):
-        return f'row.{word.capitalize()} {numbers.threads[rest[0]]} {numbers.notes[rest[1]]} {rest[2]}'
+    if word == 'wake':
+        return f'row.Wake {numbers.threads[rest[0]]} {numbers.notes[rest[1]]} {rest[2]} {until}'
+    if word == 'got':
+        return f'row.Got {numbers.threads[rest[0]]} {numbers.notes[rest[1]]} {rest[2]}'
     if word == 'hold':
         return f'row.Hold {numbers.notes[rest[0]]} {rest[1]}'
     if word == 'round':
@@ -219,17 +241,20 @@ def what_term(word: str, rest: Sequence[str], numbers: Numbers) -> str:
         return f'row.Interrupt {numbers.sources[rest[0]]} {numbers.notes[rest[1]]} {rest[2]}'
     # as values, a server's rows are those of a notification
     if word == 'enter':
-        is_let_in = rest[0] in numbers.calling
+        entered = f'{numbers.threads[rest[0]]} {numbers.notes[rest[1]]} 1'
+        if rest[0] not in numbers.calling:
+            return f'row.Got {entered}'
         numbers.calling.discard(rest[0])
-        return f'row.{"Wake" if is_let_in else "Got"} {numbers.threads[rest[0]]} {numbers.notes[rest[1]]} 1'
+        return f'row.Wake {entered} {until}'
     if word == 'leave':
         return f'row.Signal {numbers.threads[rest[0]]} {numbers.notes[rest[1]]} 1'
     raise ValueError(word)
 
 
-def row_term(line: str, numbers: Numbers) -> str:
+def row_term(line: str, numbers: Numbers, dates: Dates) -> str:
     moment, core, word, *rest = line.split()
-    return f'at {moment} {core} ({what_term(word, rest, numbers)})'
+    until = option_term(dates.get((int(moment), numbers.threads[rest[0]]))) if word in ('wake', 'enter') else ''
+    return f'at {moment} {core} ({what_term(word, rest, numbers, until)})'
 
 
 def horizon_of(words: Sequence[str]) -> int:
@@ -257,7 +282,8 @@ def theorem(path: pathlib.Path) -> str:
     assert run
     horizon = horizon_of(run.with_suffix('.words').read_text().split())
     lines = [line for line in run.with_suffix('.stdout').read_text().splitlines() if line[:1].isdigit()]
-    rows = '\n    ∷ '.join([*(row_term(line, numbers) for line in lines), '[]'])
+    dates = dates_of(system, horizon)
+    rows = '\n    ∷ '.join([*(row_term(line, numbers, dates) for line in lines), '[]'])
     rows = f'    {rows}' if lines else '    []'
     return (
         system_definition(name, system, numbers)

@@ -78,22 +78,20 @@ IN_TIME_AS_JSON = '''{"kind":"repeats","cores":"0 1","from":13,"period":10}
 {"kind":"clean","cores":"1"}
 {"kind":"sets","sets":2,"repeating":2,"findings":0,"threads":2,"deadlines":1}
 '''
-# at 23 the round that was called at 22 is under way, and can only be late; to 4, to 14, .. are one round and two
+# each round misses; up to 4, to 14, .. they are one, two, ..
 TOO_LATE = '''cores 0 1: repeats from 14 with period 10
 miss Loop: 1 in each period, 1 before
-overdue Loop at 23
 thread Loop: greatest response 2, throttled: never
 cores 1: no repetition found up to 95
 thread Clock: greatest response 1 so far
-sets 2 repeating 1 findings 2 threads 2 deadlines 1
+sets 2 repeating 1 findings 1 threads 2 deadlines 1
 '''
 TOO_LATE_AS_JSON = '''{"kind":"repeats","cores":"0 1","from":14,"period":10}
 {"kind":"miss","thread":"Loop","each_period":1,"before":1}
-{"kind":"overdue","thread":"Loop","moment":23}
 {"kind":"thread","thread":"Loop","greatest":2,"throttled":"never"}
 {"kind":"open","cores":"1","horizon":95}
 {"kind":"thread_so_far","thread":"Clock","greatest":1}
-{"kind":"sets","sets":2,"repeating":1,"findings":2,"threads":2,"deadlines":1}
+{"kind":"sets","sets":2,"repeating":1,"findings":1,"threads":2,"deadlines":1}
 '''
 # nobody takes what T signals each 10, so that all but the first are lost; U waits for what nobody signals, and V ends once
 LOST = '''version = 1
@@ -130,7 +128,7 @@ LOST_NEXT = '''{0}0 0 release T
 '''
 LOST_TEXT = '''cores 0: repeats from 15 with period 20
 lost n: 2 in each period, 1 before
-never U up to 34
+never U for ever
 thread T: greatest response 1
 thread U: greatest response -, throttled: never, ends no round from 15 on
 thread V: greatest response 3, throttled: never, ends no round from 15 on
@@ -139,15 +137,52 @@ sets 1 repeating 1 findings 2 threads 3 deadlines 1
 ALLOWED_TEXT = LOST_TEXT.replace('lost n: 2 in each period, 1 before\n', '').replace('findings 2', 'findings 1')
 # the same where V has a deadline, which it meets, in place of U; and what is said of it where signals of n may be lost
 QUIET = LOST.replace('deadline = 3, ', '').replace('rounds = 1,', 'rounds = 1, deadline = 5,')
-QUIET_TEXT = ALLOWED_TEXT.replace('never U up to 34\n', '').replace('findings 1', 'findings 0').replace('sets', 'nothing is ever found\nsets')
+QUIET_TEXT = ALLOWED_TEXT.replace('never U for ever\n', '').replace('findings 1', 'findings 0').replace('sets', 'nothing is ever found\nsets')
 
-# a second thread waits for the tick from 2 on; each tick is there for Loop, of the greater priority, but by the scripts Spare may take it
+# U has one word and computes without end, and each later one is left there
+ENDLESS = LOST.replace('"wait m", "compute 1"', '"wait n", "wait m", "compute 1"')
+ENDLESS_FIRST = '''0 0 release T
+0 0 release U
+0 0 release V
+0 0 run T
+1 0 signal T n 1
+1 0 hold n 1
+1 0 round T 1 1
+1 0 stop T spent 1 until 10
+1 0 run U
+2 0 got U n 1
+2 0 stop U spent 1 until 11
+2 0 run V
+3 0 round V 1 1
+3 0 stop V done 1
+11 0 release U
+11 0 run U
+12 0 stop U wait 1
+'''
+ENDLESS_TEXT = '''cores 0: repeats from 25 with period 10
+lost n: 1 in each period, 1 before
+overdue U round 1 activated 1 for ever
+untaken n by U word 1 set 11 for ever
+thread T: greatest response 1
+thread U: greatest response -, ends no round from 25 on
+thread V: greatest response 3, throttled: never, ends no round from 25 on
+sets 1 repeating 1 findings 3 threads 3 deadlines 1
+'''
+ENDLESS_AS_JSON = '''{"kind":"repeats","cores":"0","from":25,"period":10}
+{"kind":"lost","note":"n","each_period":1,"before":1}
+{"kind":"overdue","thread":"U","number":1,"activated":1}
+{"kind":"untaken","note":"n","by":["U"],"word":1,"set":11}
+{"kind":"thread","thread":"T","greatest":1}
+{"kind":"thread","thread":"U","ends_no_round_from":25}
+{"kind":"thread","thread":"V","greatest":3,"throttled":"never","ends_no_round_from":25}
+{"kind":"sets","sets":1,"repeating":1,"findings":3,"threads":3,"deadlines":1}
+'''
+# a second thread waits for the tick from 2 on; each tick is there for Loop, of the greater priority
 SPARE = '    { name = "Spare", context = "spare", priority = 1, script = ["wait tick", "compute 1"] },\n'
 SHARED = LOOP.replace('    { name = "clock"', '    { name = "spare", core = 0, budget = 4, period = 10 },\n    { name = "clock"').replace('    { name = "Clock"', f'{SPARE}    {{ name = "Clock"')
 SHARED_FIRST = FIRST.replace('0 0 run Loop\n', '0 0 release Spare\n0 0 run Loop\n').replace('1 0 stop Loop wait 1\n', '1 0 stop Loop wait 1\n1 0 run Spare\n').replace(
     '2 0 arrive', '2 0 stop Spare wait 1\n2 0 arrive')
-UNSETTLED = 'unsettled Loop: no deadline is ever missed; whether a job is ever overdue is not known\n'
-SHARED_TEXT = IN_TIME.replace('never\nnothing is ever found\n', f'never\nthread Spare: greatest response -, throttled: never, ends no round from 13 on\n{UNSETTLED}').replace(
+SHARED_TEXT = IN_TIME.replace('never\nnothing is ever found\n', 'never\nthread Spare: greatest response -, throttled: never, ends no round from 13 on\nnothing is ever found\n').replace(
     'threads 2', 'threads 3')
 
 
@@ -172,6 +207,12 @@ def as_json(text: str) -> str:
                 found.append({'kind': kind, names[kind]: name, 'each_period': int(many), 'before': int(before)})
             case ['miss' | 'lost' as kind, name, many, 'so', 'far']:
                 found.append({'kind': kind, names[kind]: name, 'so_far': int(many)})
+            case ['overdue', name, 'round', round_, 'activated', activated, 'for', 'ever']:
+                found.append({'kind': 'overdue', 'thread': name, 'number': int(round_), 'activated': int(activated)})
+            case ['untaken', name, 'by', by, 'word', word, 'set', since, 'for', 'ever']:
+                found.append({'kind': 'untaken', 'note': name, 'by': [by], 'word': int(word), 'set': int(since)})
+            case ['never', name, 'for', 'ever']:
+                found.append({'kind': 'never', 'thread': name})
             case ['overdue' | 'never' as kind, name, *_, moment]:
                 found.append({'kind': kind, 'thread': name, 'moment': int(moment)})
             case ['thread', name, 'greatest', 'response', greatest, *rest]:
@@ -181,8 +222,6 @@ def as_json(text: str) -> str:
                 found.append({'kind': of, 'thread': name, **number, **never, **({'ends_no_round_from': int(rest[-2])} if 'ends' in rest else {})})
             case ['sets', *_]:
                 found.append({'kind': 'sets', **{key: int(number) for key, number in zip(words[::2], words[1::2])}})
-            case ['unsettled', name, *_]:
-                found.append({'kind': 'unsettled', 'thread': name})
             case ['nothing', *_]:
                 found.append({'kind': 'clean', 'cores': next(each['cores'] for each in reversed(found) if 'cores' in each)})
     return ''.join(json.dumps(each, separators=(',', ':')) + '\n' for each in found)
@@ -220,7 +259,7 @@ class RightPrograms(Programs):
     def test_a_deadline_is_missed_in_each_period(self) -> None:
         self.assertEqual(as_json(TOO_LATE), TOO_LATE_AS_JSON)
         self.assertEqual(self.failed(LATE, TOO_LATE, 5), 0)
-        self.assertEqual((self.seen['miss in each period'], self.seen['overdue'], self.seen['open']), (1, 1, 1))
+        self.assertEqual((self.seen['miss in each period'], self.seen['overdue'], self.seen['open']), (1, 0, 1))
 
     def test_signals_are_lost_and_a_thread_never_comes(self) -> None:
         self.assertEqual(self.failed(LOST, LOST_TEXT, 5, LOST_FIRST, LOST_NEXT), 0)
@@ -244,22 +283,26 @@ class RightPrograms(Programs):
         self.assertEqual(self.seen['status 6'], 2)
 
 
-    def test_a_thread_is_not_settled(self) -> None:
+    def test_a_spare_worker(self) -> None:
         self.assertIn('Spare', SHARED)
-        self.assertEqual(as_json(UNSETTLED), '{"kind":"unsettled","thread":"Loop"}\n')
-        self.assertEqual(self.failed(SHARED, SHARED_TEXT, 6, SHARED_FIRST), 0)
-        self.assertEqual((self.seen['a thread that is not settled'], self.seen['clean'], self.seen['repeats']), (1, 1, 2))
+        self.assertEqual(self.failed(SHARED, SHARED_TEXT, 0, SHARED_FIRST), 0)
+        self.assertEqual((self.seen['clean'], self.seen['repeats']), (2, 2))
+
+    def test_a_round_that_never_ends_and_a_word_that_nobody_ever_takes(self) -> None:
+        # U is woken by the signal of 1 and waits on for what nobody signals; the next one is held from 11 on
+        self.assertEqual(as_json(ENDLESS_TEXT), ENDLESS_AS_JSON)
+        self.assertEqual(self.failed(ENDLESS, ENDLESS_TEXT, 5, ENDLESS_FIRST, LOST_NEXT, horizon=65), 0)
+        self.assertEqual((self.seen['overdue'], self.seen['untaken'], self.seen['lost in each period']), (1, 1, 1))
 
 
 class WrongPrograms(Programs):
-    def test_a_thread_that_is_settled_or_is_not(self) -> None:
-        for text, written, status, first in (
-            (SHARED, SHARED_TEXT, 0, SHARED_FIRST), (SHARED, SHARED_TEXT.replace('unsettled Loop', 'unsettled Spare'), 6, SHARED_FIRST),
-            (SHARED, SHARED_TEXT.replace(UNSETTLED, f'{UNSETTLED}nothing is ever found\n'), 6, SHARED_FIRST), (SHARED, SHARED_TEXT.replace(UNSETTLED, ''), 6, SHARED_FIRST),
-            (LOOP, IN_TIME.replace('never\nnothing is ever found\n', f'never\n{UNSETTLED}'), 6, FIRST),
-            (LATE, TOO_LATE.replace('never\n', f'never\n{UNSETTLED}'), 5, FIRST), (LATE, TOO_LATE.replace('1 so far\n', f'1 so far\n{UNSETTLED}'), 5, FIRST),
+    def test_a_line_for_ever_that_the_rows_contradict(self) -> None:
+        for old, new in (
+            ('round 1 activated 1', 'round 2 activated 1'), ('activated 1', 'activated 2'), ('set 11', 'set 21'), ('word 1', 'word 2'), ('by U', 'by T'),
+            ('overdue U round 1 activated 1 for ever\n', ''), ('untaken n by U word 1 set 11 for ever\n', ''), ('overdue U round 1 activated 1', 'never U'),
         ):
-            self.assertGreaterEqual(self.failed(text, written, status, first), 1, written)
+            self.assertIn(old, ENDLESS_TEXT)
+            self.assertGreaterEqual(self.failed(ENDLESS, ENDLESS_TEXT.replace(old, new), 5, ENDLESS_FIRST, LOST_NEXT, horizon=65), 1, new)
 
     def replaced(self, old: str, new: str, **how: object) -> int:
         """How many tries fail of each program, which writes something in place of something else, and that as JSON too."""
@@ -287,13 +330,12 @@ class WrongPrograms(Programs):
     def test_a_line_that_tells_something_else(self) -> None:
         for old, new in (
             ('1 in each period, 1 before', '2 in each period, 1 before'), ('1 in each period, 1 before', '1 in each period, 0 before'),
-            ('2 in each period, 1 before', '1 in each period, 1 before'), ('overdue Loop at 23', 'overdue Loop at 13'),
-            ('never U up to 34', 'never U up to 15'), ('Loop: greatest response 2', 'Loop: greatest response 3'),
+            ('2 in each period, 1 before', '1 in each period, 1 before'), ('never U for ever', 'never V for ever'), ('Loop: greatest response 2', 'Loop: greatest response 3'),
             ('Clock: greatest response 1 so far', 'Clock: greatest response 10 so far'), ('response -', 'response 0'),
             ('Clock: greatest response 1\n', 'Clock: greatest response 1, throttled: never\n'), (', throttled: never', ''),
             (', ends no round from 15 on', ''), ('ends no round from 15', 'ends no round from 35'),
             ('T: greatest response 1\n', 'T: greatest response 1, ends no round from 15 on\n'), ('up to 95', 'up to 94'),
-            ('miss Loop', 'miss Clock'), ('lost n', 'lost m'), ('never U', 'never V'), ('findings 2', 'findings 3'),
+            ('miss Loop', 'miss Clock'), ('lost n', 'lost m'), ('never U', 'never V'), ('findings 1', 'findings 3'),
             ('repeating 1', 'repeating 2'), ('sets 2', 'sets 1'), ('threads 2', 'threads 1'), ('deadlines 1', 'deadlines 2'),
         ):
             # as text, and as JSON
@@ -305,7 +347,7 @@ class WrongPrograms(Programs):
 
     def test_a_line_too_much(self) -> None:
         for before, line in (
-            ('thread Loop', 'miss Loop: 0 in each period, 0 before\n'), ('thread Loop', 'overdue Loop at 23\n'), ('sets', 'nothing is ever found\n'),
+            ('thread Loop', 'miss Loop: 0 in each period, 0 before\n'), ('thread Loop', 'overdue Loop round 2 activated 22 for ever\n'), ('sets', 'nothing is ever found\n'),
             ('thread Clock', 'lost tick: 1 so far\n'), ('sets', 'thread X: greatest response -\n'),
         ):
             self.assertGreaterEqual(self.replaced(before, f'{line}{before}'), 1, line)
@@ -322,7 +364,7 @@ class WrongPrograms(Programs):
     def test_lines_in_another_order(self) -> None:
         loop, clock, last = IN_TIME.split('found\n')
         self.assertGreaterEqual(self.failed(LOOP, f'{clock}found\n{loop}found\n{last}', 0), 1)
-        self.assertEqual(self.replaced('never U up to 34\nthread T: greatest response 1\n', 'thread T: greatest response 1\nnever U up to 34\n'), 2)
+        self.assertEqual(self.replaced('never U for ever\nthread T: greatest response 1\n', 'thread T: greatest response 1\nnever U for ever\n'), 2)
 
     def test_other_sets(self) -> None:
         self.assertGreaterEqual(self.replaced('cores 0 1', 'cores 0'), 1)
@@ -438,31 +480,26 @@ class Models(unittest.TestCase):
                 tried += 1
         self.assertGreater(tried, 80)
 
-    def seen(self, text: str, horizon: int) -> list[tuple[int, int, bool] | None]:
+    def seen(self, text: str, horizon: int) -> list[tuple[int, int] | None]:
         tables = tomllib.loads(text)
         found = forever_model.Search(model.System(tables), forever_reading.core_sets(tables)).run(horizon)
-        return [None if repeats is None else (repeats.start, repeats.period, repeats.ends_recur) for repeats in found]
+        return [None if repeats is None else (repeats.start, repeats.period) for repeats in found]
 
     def test_what_repeats(self) -> None:
         # moments are kept before 0, 1, 4, 12 and 30; before 12 the dates of the loop are 10, 12, 13, 14, and before 22 they are 15, 22, 23, 24
-        self.assertEqual(self.seen(LOOP, 100), [(30, 10, True), (12, 10, True)])
+        self.assertEqual(self.seen(LOOP, 100), [(30, 10), (12, 10)])
         # before 0, 2 and 10
-        self.assertEqual(self.seen((SYSTEMS / 'loop_by_its_budget.toml').read_text(), 100), [(10, 10, True)])
-        self.assertEqual(self.seen(LOOP, 38), [None, (12, 10, True)])
+        self.assertEqual(self.seen((SYSTEMS / 'loop_by_its_budget.toml').read_text(), 100), [(10, 10)])
+        self.assertEqual(self.seen(LOOP, 38), [None, (12, 10)])
 
     def test_at_rest_each_tick_is_as_the_one_before(self) -> None:
         # the clock signals once, at 1, and the loop has ended its one round at 4
         once = LOOP.replace('priority = 9, deadline = 5', 'priority = 9, rounds = 1').replace('priority = 9, script', 'priority = 9, rounds = 1, script')
-        self.assertEqual(self.seen(once, 99), [(5, 1, True), (4, 1, True)])
-        self.assertEqual(self.seen('version = 1\ncores = 2\ndelay = 1\n', 9), [(0, 1, True)] * 2)
+        self.assertEqual(self.seen(once, 99), [(5, 1), (4, 1)])
+        self.assertEqual(self.seen('version = 1\ncores = 2\ndelay = 1\n', 9), [(0, 1)] * 2)
 
     def test_a_last_round_comes_once(self) -> None:
         self.assertEqual(self.seen(LOOP.replace('deadline = 5', 'deadline = 5, rounds = 99'), 200)[0], None)
-
-    def test_a_word_that_two_wait_for_is_told_at_no_other_moment(self) -> None:
-        two = LOOP.replace('    { name = "Clock"', '    { name = "Other", context = "other", priority = 1, script = ["wait tick", "yield"] },\n    { name = "Clock"')
-        two = two.replace('context = [\n', 'context = [\n    { name = "other", core = 0, budget = 4, period = 10 },\n')
-        self.assertEqual([found and found[2] for found in self.seen(two, 400)], [False, True])
 
     def failed(self, start: int, period: int, is_clean: bool = True) -> tuple[int, int]:
         """How many tries fail of a program that claims this of the loop, and how many repetitions it has missed."""

@@ -135,7 +135,7 @@ class Readings(unittest.TestCase):
         tables = tomllib.loads(LOOP)
         del tables['chain']
         told = reading_of(tables, ROWS, 52).wanted(form='csv')
-        self.assertEqual(told.text.splitlines()[0].split(',')[-1], 'woken')
+        self.assertEqual(told.text.splitlines()[0].split(',')[-1], 'server')
         self.assertNotIn('slow', reading_of(tables, ROWS, 52).wanted().text)
 
 
@@ -144,8 +144,8 @@ class WayReadings(unittest.TestCase):
         # that of 12 is held to 23, and the job computes to 43
         self.assertEqual(way(['--why', 'c', '2']), Ran(0, b'''43 0 answer c round 2 origin 12 latency 31 deadline 20
 12 0 held n to 23 ticks 11
-23 0 ran L to 43 ticks 20 ready 0 running 20 throttled 0 blocked 0
-sum ticks 31 held 11 delay 0 ready 0 running 20 throttled 0 blocked 0
+23 0 ran L to 43 ticks 20 ready 0 running 20 throttled 0 blocked 0 server 0
+sum ticks 31 held 11 delay 0 ready 0 running 20 throttled 0 blocked 0 server 0
 ''', b''))
 
     def test_a_number_that_no_answer_has(self) -> None:

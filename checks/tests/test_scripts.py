@@ -125,7 +125,7 @@ class WrongPrograms(unittest.TestCase):
 
     def test_a_thread_that_always_runs_has_more_than_its_budget(self) -> None:
         found = self.tally('bandwidth', 'for n in 0 1 2 3 4 5 6 7 8 9; do echo 0 0 run "tc$n"; done', '--systems', '3')
-        self.assertEqual(found, (1, 3, 0))
+        self.assertEqual(found, (1, 9, 0))
 
     def test_a_program_that_says_nothing_shows_no_response(self) -> None:
         # what is seen of each of two sets, and each table of them
@@ -147,7 +147,7 @@ class WrongPrograms(unittest.TestCase):
             self.assertEqual(trial.count.tally.failed, failed, rows)
 
     def test_systems_that_show_nothing_are_a_failure(self) -> None:
-        self.assertEqual(self.tally('bandwidth', 'exit 0', '--systems', '3'), (3, 1, 0))
+        self.assertEqual(self.tally('bandwidth', 'exit 0', '--systems', '3'), (9, 1, 0))
 
 
 class Rules(unittest.TestCase):
@@ -155,6 +155,14 @@ class Rules(unittest.TestCase):
         self.assertEqual(bandwidth.fullest([0, 1, 5, 6, 7, 12], 5), 3)
         self.assertEqual(bandwidth.fullest([0, 4, 5], 5), 2)
         self.assertEqual(bandwidth.fullest([], 5), 0)
+
+    def test_between_orders_the_budget_in_force_counts(self) -> None:
+        tables = {'context': [{'name': 'c', 'budget': 2, 'period': 5}], 'order': [{'at': 10, 'context': 'c', 'budget': 3, 'period': 5}]}
+        first, last = bandwidth.spans_of(tables, tables['context'][0])
+        self.assertEqual((first, last), ((0, 10, 2, 5), (10, bandwidth.HORIZON, 3, 5)))
+        self.assertEqual([span.is_over_budget([8, 9, 10, 11, 12]) for span in (first, last)], [False, False])
+        self.assertEqual([span.is_over_budget([4, 6, 8, 11, 12, 13, 15]) for span in (first, last)], [True, True])
+        self.assertEqual([last.is_over_demand(ticks) for ticks in ([10, 11, 12, 15], [10, 11, 12, 14])], [False, True])
 
     def test_a_thread_runs_from_run_to_stop_and_else_to_the_horizon(self) -> None:
         rows = f'3 0 run A\n5 0 stop A spent 2 until 9\n{bandwidth.HORIZON - 2} 0 run A\n'
@@ -168,7 +176,7 @@ class Rules(unittest.TestCase):
 
     def test_a_block_ends_with_the_status_of_its_verdict(self) -> None:
         def counts_of(late: int = 0, unjudged: int = 0, hints: int = 0, judged: int = 3) -> str:
-            return f'missed {late} overdue 0 lost 0 never 0 merged 1 allowed 1 unjudged {unjudged} hints {hints} threads 2 deadlines 1 judged {judged}'
+            return f'missed {late} overdue 0 untaken 0 lost 0 never 0 merged 1 allowed 1 unjudged {unjudged} hints {hints} threads 2 deadlines 1 judged {judged}'
 
         clean, hints, late, young, nothing = counts_of(), counts_of(hints=1), counts_of(late=1), counts_of(unjudged=1), counts_of(judged=0)
         for block, last, status in (
@@ -184,7 +192,7 @@ class Rules(unittest.TestCase):
             self.assertEqual(pages.status_of('./mcscheck one.toml || status=$?\nexit $status', lines), status)
         for counts, status in (('slow 0 unanswered 0', 0), ('slow 1 unanswered 0', 5), ('slow 0 unanswered 1', 5)):
             self.assertEqual(pages.status_of('./mcscheck one.toml', [f'{hints} {counts}']), status, counts)
-        of_chains = '{"kind":"counts","missed":0,"overdue":0,"lost":0,"never":0,"merged":0,"allowed":0,"unjudged":0,"hints":0,"threads":1,"deadlines":1,' \
+        of_chains = '{"kind":"counts","missed":0,"overdue":0,"untaken":0,"lost":0,"never":0,"merged":0,"allowed":0,"unjudged":0,"hints":0,"threads":1,"deadlines":1,' \
             '"judged":1,"slow":0,"unanswered":1}'
         for line, status in ((of_chains, 5), (of_chains.replace('1}', '0}'), 0), (of_chains.replace('1}', '0}').replace('"judged":1', '"judged":0'), 6)):
             self.assertEqual(pages.status_of('./mcscheck one.toml --format json', [line]), status)
@@ -216,7 +224,7 @@ class Rules(unittest.TestCase):
         self.assertFalse(pages.runs_a_system('./mcscheck FILE --horizon N'))
 
     def test_a_word_that_no_answer_has_is_a_failure(self) -> None:
-        counts = b'missed 0 overdue 0 lost 0 never 0 merged 0 allowed 0 unjudged 0 hints 0 threads 1 deadlines 1 judged 1\n'
+        counts = b'missed 0 overdue 0 untaken 0 lost 0 never 0 merged 0 allowed 0 unjudged 0 hints 0 threads 1 deadlines 1 judged 1\n'
         answer = common.Ran(0, b'margin 3\n' + counts, b'')
         for named, failed in (('margin', 0), ('unused', 1)):
             count = common.Count()
@@ -308,9 +316,9 @@ class Rules(unittest.TestCase):
         text = (common.DATA / 'events' / 'handlers.toml').read_text().replace('priority = 5', 'priority = 5\ndeadline = 5')
         rows = (common.DATA / 'events' / 'handlers' / 'schedule.stdout').read_bytes()
         # the second round was activated at 2 and ended at 8; D ran from 0 to 1 and from 2 to 9, and was blocked else
-        miss = '8 0 miss D round 2 response 6 deadline 5 activated 2 queued 3 ready 0 running 3 throttled 0 blocked 0 woken 0\n'
-        stood = ' '.join(f'ticks_{what} {ticks}' for what, ticks in (('pending', 0), ('ready', 0), ('running', 8), ('throttled', 0), ('blocked', 4), ('woken', 0), ('done', 0)))
-        good = f'{miss}thread D core 0 {stood}\ncontext d unused 1\nmissed 1 overdue 0 lost 0 never 0 merged 0 allowed 0 ' \
+        miss = '8 0 miss D round 2 response 6 deadline 5 activated 2 queued 3 ready 0 running 3 throttled 0 blocked 0 server 0\n'
+        stood = ' '.join(f'ticks_{what} {ticks}' for what, ticks in (('pending', 0), ('ready', 0), ('running', 8), ('throttled', 0), ('blocked', 4), ('server', 0), ('done', 0)))
+        good = f'{miss}thread D core 0 {stood}\ncontext d unused 1\nmissed 1 overdue 0 untaken 0 lost 0 never 0 merged 0 allowed 0 ' \
             'unjudged 0 hints 0 threads 1 deadlines 1 judged 1\n'
         for told, failed in ((good, 0), (good.replace(' 6 deadline', ' 3 deadline'), 1), (good.replace(miss, ''), 1), (good + '5 0 lost n word 1\n', 1),
                              (good.replace('merged 0', 'merged 1'), 1), (good.replace('running 8', 'running 7'), 1), (good.replace('ticks_ready 0', 'ticks_ready 1'), 1)):
@@ -386,8 +394,13 @@ class Rules(unittest.TestCase):
 
     def test_a_row_as_a_term(self) -> None:
         numbers = theorems.Numbers({'thread': [{'name': 'A'}, {'name': 'B'}], 'note': [{'name': 'n'}]})
-        self.assertEqual(theorems.row_term('2 0 stop B spent 2 until 5', numbers), 'at 2 0 (row.Stop 1 why.Spent 2 (Some 5))')
-        self.assertEqual(theorems.row_term('2 1 signal A n 4', numbers), 'at 2 1 (row.Signal 0 0 4)')
+        self.assertEqual(theorems.row_term('2 0 stop B spent 2 until 5', numbers, {}), 'at 2 0 (row.Stop 1 why.Spent 2 (Some 5))')
+        self.assertEqual(theorems.row_term('2 1 signal A n 4', numbers, {}), 'at 2 1 (row.Signal 0 0 4)')
+
+    def test_a_wake_as_a_term_has_the_date_until_which_the_thread_waits(self) -> None:
+        numbers = theorems.Numbers({'thread': [{'name': 'A'}, {'name': 'B'}], 'note': [{'name': 'n'}]})
+        self.assertEqual(theorems.row_term('3 0 wake B n 4', numbers, {(3, 1): 10}), 'at 3 0 (row.Wake 1 0 4 (Some 10))')
+        self.assertEqual(theorems.row_term('3 0 wake A n 4', numbers, {(3, 1): 10}), 'at 3 0 (row.Wake 0 0 4 None)')
 
 
 if __name__ == '__main__':

@@ -45,11 +45,11 @@ ROWS = '''0 0 release A
 8 0 got A x 3
 '''
 FOUND = '''5 0 lost x word 1
-8 0 miss A round 1 response 7 deadline 5 activated 1 queued 0 ready 1 running 3 throttled 3 blocked 0 woken 0
-9 0 overdue A deadline 5 activated 3 queued 5 ready 0 running 1 throttled 0 blocked 0 woken 0
+8 0 miss A round 1 response 7 deadline 5 activated 1 queued 0 ready 1 running 3 throttled 3 blocked 0 server 0
+9 0 overdue A round 2 age 6 deadline 5 activated 3 queued 5 ready 0 running 1 throttled 0 blocked 0 server 0
 9 1 never C deadline 3
 '''
-JOBS = '''8 0 job A round 1 activated 1 begun 1 response 7 queued 0 preemptions 0 ready 1 running 3 throttled 3 blocked 0 woken 0
+JOBS = '''8 0 job A round 1 activated 1 begun 1 response 7 queued 0 preemptions 0 ready 1 running 3 throttled 3 blocked 0 server 0
 '''
 # A is preempted before its word is taken, then in its first round, at its beginning and later, and after it; its second round has no preemption
 PREEMPTS = '''0 0 release A
@@ -70,7 +70,7 @@ PREEMPTS = '''0 0 release A
 9 0 round A 2 2
 '''
 # A ended a round and is overdue, and C is judged by nothing
-COUNTS = 'missed 1 overdue 1 lost 1 never 1 merged 1 allowed 0 unjudged 0 hints 2 threads 2 deadlines 2 judged 2\n'
+COUNTS = 'missed 1 overdue 1 untaken 0 lost 1 never 1 merged 1 allowed 0 unjudged 0 hints 2 threads 2 deadlines 2 judged 2\n'
 HINTS = '''hint note x is waited on and no script signals it
 hint context n has no thread
 '''
@@ -108,9 +108,9 @@ BUSY_ROWS = '''0 0 release D
 BUSY_FOUND = '''6 0 lost n word 5
 10 0 lost n word 1
 12 0 lost n word 1
-13 0 miss D round 2 response 9 deadline 8 activated 4 queued 4 ready 0 running 5 throttled 0 blocked 0 woken 0
+13 0 miss D round 2 response 9 deadline 8 activated 4 queued 3 ready 0 running 6 throttled 0 blocked 0 server 0
 hint source k interrupts on n with badge 4 and no handler takes it
-missed 1 overdue 0 lost 3 never 0 merged 1 allowed 0 unjudged 0 hints 1 threads 1 deadlines 1 judged 2
+missed 1 overdue 0 untaken 0 lost 3 never 0 merged 1 allowed 0 unjudged 0 hints 1 threads 1 deadlines 1 judged 2
 '''
 # D is given words that no handler takes at 2, and one that a handler without an item takes at 4
 NOBODY = (
@@ -144,6 +144,14 @@ thread = [
     { name = "H", context = "h", priority = 30, start = 4, rounds = 1, deadline = 9, script = ["call v 1"] },
 ]
 '''
+# two threads of TEXT wait for the same words, one without a deadline
+POOL = TEXT.replace('{ name = "C", context = "c", priority = 5, deadline = 3, script = ["compute 1", "yield"] }', '''{ name = "B", context = "b", priority = 5, \
+script = ["wait x", "compute 2"] }''').replace('context = [', 'context = [{ name = "b", core = 0, budget = 3, period = 7 }, ')
+# both have a deadline and a handler, each for a bit of its own
+HANDLERS = (
+    POOL.replace('version = 1', 'version = 3').replace('"b", priority = 5, ', '"b", priority = 4, deadline = 9, ')
+    .replace('"wait x", "compute 3"', '"wait x", "on 1", "compute 3"').replace('"wait x", "compute 2"', '"wait x", "on 2", "compute 2"')
+)
 TAKEN_ROWS = '''0 0 release L
 0 0 run L
 1 0 enter L v
@@ -183,14 +191,14 @@ class Readings(unittest.TestCase):
         self.assertEqual(lines[0], '{"moment":5,"core":0,"kind":"lost","note":"x","word":1}')
         self.assertEqual(lines[3], '{"moment":9,"core":1,"kind":"never","thread":"C","deadline":3}')
         self.assertEqual(lines[4:6], ['{"kind":"hint","hint":"unsignalled","note":"x"}', '{"kind":"hint","hint":"unbound","context":"n"}'])
-        self.assertEqual(lines[6], '{"kind":"counts","missed":1,"overdue":1,"lost":1,"never":1,"merged":1,"allowed":0,"unjudged":0,"hints":2,"threads":2,'
+        self.assertEqual(lines[6], '{"kind":"counts","missed":1,"overdue":1,"untaken":0,"lost":1,"never":1,"merged":1,"allowed":0,"unjudged":0,"hints":2,"threads":2,'
                                    '"deadlines":2,"judged":2}')
 
     def test_jobs_and_findings_as_csv(self) -> None:
         head, *rows = read().wanted(show='jobs', form='csv').text.splitlines()
         self.assertEqual(rows, ['8,0,job,A,1,1,1,7,0,0,1,3,3,0,0'])
         self.assertEqual(head.count(','), rows[0].count(','))
-        self.assertEqual(read().wanted(form='csv').text.splitlines()[1:3], ['5,0,lost,,x,1,,,,,,,,,,', '8,0,miss,A,,,1,7,5,1,0,1,3,3,0,0'])
+        self.assertEqual(read().wanted(form='csv').text.splitlines()[1:3], ['5,0,lost,,x,1,,,,,,,,,,,,', '8,0,miss,A,,,1,7,,5,1,,0,1,3,3,0,0'])
 
     def test_preemptions_are_those_of_the_round(self) -> None:
         found = reading.Reading(tomllib.loads(TEXT), PREEMPTS, 9)
@@ -210,7 +218,7 @@ class Readings(unittest.TestCase):
         self.assertEqual(statuses(judged=1, merged=2, allowed=3, threads=1, deadlines=1), (0, 0))
         self.assertEqual((statuses(judged=1, hints=1), statuses(judged=1, unjudged=1)), ((0, 5), (0, 5)))
         self.assertEqual((statuses(), statuses(threads=3, deadlines=2, merged=1), statuses(unjudged=1)), ((6, 6), (6, 6), (6, 5)))
-        for kind in ('missed', 'overdue', 'lost', 'never', 'slow', 'unanswered'):
+        for kind in ('missed', 'overdue', 'untaken', 'lost', 'never', 'slow', 'unanswered'):
             self.assertEqual((statuses(**{kind: 1}), statuses(judged=1, **{kind: 1})), ((5, 5), (5, 5)), kind)
 
     def test_a_word_is_held_from_the_signal_that_set_it(self) -> None:
@@ -219,10 +227,11 @@ class Readings(unittest.TestCase):
         self.assertEqual(read().past(rows[15]).word('x'), (3, 3))
         self.assertEqual(read().whole.word('x'), (0, None))
 
-    def test_a_wake_is_what_its_thread_does_next(self) -> None:
-        wake, run, release = (reading.Row(0, 0, 0, words.split()) for words in ('wake A x 1', 'run A', 'release A'))
-        standings = [reading.standing_after(wake, following) for following in (run, release, None)]
-        self.assertEqual(standings, ['ready', 'throttled', 'woken'])
+    def test_a_thread_that_is_woken_stands_by_its_budget(self) -> None:
+        # at 1 the budget of A is whole; where it is used up at 0, it comes back at 7
+        for charged, wanted in ((0, 'ready'), (3, 'throttled')):
+            found = reading.Reading(tomllib.loads(TEXT), f'0 0 release A\n0 0 run A\n0 0 stop A wait {charged}\n1 0 wake A x 1\n', 3)
+            self.assertEqual(found.whole.standings('A', 0, 3), ['blocked', wanted, wanted])
 
     def test_the_nearest_name_is_the_first_of_those(self) -> None:
         self.assertEqual([reading.distance('tick', other) for other in ('tick', 'ticks', 'pick', 'kit', '')], [0, 1, 1, 3, 4])
@@ -243,23 +252,35 @@ class Judging(unittest.TestCase):
         # A was woken at 1, and its deadline is 5: at 5 nothing is known, and at 6 it can only be late
         self.assertEqual(self.lines(TEXT, self.up_to(5), 5), [
             '5 0 lost x word 1', '5 1 never C deadline 3', '5 0 unjudged A deadline 5 activated 1', *HINTS.splitlines(),
-            'missed 0 overdue 0 lost 1 never 1 merged 0 allowed 0 unjudged 1 hints 2 threads 2 deadlines 2 judged 0',
+            'missed 0 overdue 0 untaken 0 lost 1 never 1 merged 0 allowed 0 unjudged 1 hints 2 threads 2 deadlines 2 judged 0',
         ])
-        self.assertEqual(self.lines(TEXT, self.up_to(6), 6)[1:2], ['6 0 overdue A deadline 5 activated 1 queued 0 ready 1 running 2 throttled 2 blocked 0 woken 0'])
+        self.assertEqual(self.lines(TEXT, self.up_to(6), 6)[1:2], ['6 0 overdue A round 1 age 5 deadline 5 activated 1 queued 0 ready 1 running 2 throttled 2 blocked 0 server 0'])
         self.assertTrue(self.lines(TEXT, self.up_to(6), 6)[-1].endswith(' unjudged 0 hints 2 threads 2 deadlines 2 judged 1'))
 
     def test_an_unjudged_thread_as_json_and_csv(self) -> None:
         found = reading.Reading(tomllib.loads(TEXT), self.up_to(5), 5)
         self.assertEqual(found.wanted(form='json').text.splitlines()[2], '{"moment":5,"core":0,"kind":"unjudged","thread":"A","deadline":5,"activated":1}')
-        self.assertEqual(found.wanted(form='csv').text.splitlines()[3], '5,0,unjudged,A,,,,,5,1,,,,,,')
+        self.assertEqual(found.wanted(form='csv').text.splitlines()[3], '5,0,unjudged,A,,,,,,5,1,,,,,,,')
 
-    def test_a_word_that_is_held_leaves_its_thread_unjudged(self) -> None:
+    def test_a_word_that_nobody_has_taken_activates_no_thread(self) -> None:
         # the word is there from 0 on, D has not come to its wait, and its deadline is 8
         system = BUSY.replace('core = 0 }]\nthread', 'core = 0, word = 1 }]\nthread')
-        self.assertEqual(self.lines(system, '', 7), [
-            '7 0 unjudged D deadline 8 activated 0', 'hint source k interrupts on n with badge 4 and no handler takes it',
-            'missed 0 overdue 0 lost 0 never 0 merged 0 allowed 0 unjudged 1 hints 1 threads 1 deadlines 1 judged 0',
-        ])
+        hint = 'hint source k interrupts on n with badge 4 and no handler takes it'
+        counts = 'missed 0 overdue 0 untaken %d lost 0 never 1 merged 0 allowed 0 unjudged 0 hints 1 threads 1 deadlines 1 judged %d'
+        self.assertEqual(self.lines(system, '', 7), ['7 0 never D deadline 8', hint, counts % (0, 0)])
+        self.assertEqual(self.lines(system, '', 8), ['8 0 never D deadline 8', '8 0 untaken n by D word 1 age 8 deadline 8 set 0', hint, counts % (1, 1)])
+
+    def test_a_spare_worker_is_unjudged(self) -> None:
+        # B waits for the same words as A, and has none so far
+        system = POOL.replace('"b", priority = 5, ', '"b", priority = 4, deadline = 9, ')
+        found = reading.Reading(tomllib.loads(system), '1 0 wake A x 1\n', 3)
+        self.assertEqual(found.wanted().text.splitlines()[:2], ['3 0 unjudged A deadline 5 activated 1', '3 0 unjudged B deadline 9 activated -'])
+        self.assertEqual(found.wanted(form='json').text.splitlines()[1], '{"moment":3,"core":0,"kind":"unjudged","thread":"B","deadline":9}')
+        self.assertEqual(found.wanted(form='csv').text.splitlines()[2], '3,0,unjudged,B,,,,,,9,,,,,,,,')
+
+    def test_a_thread_that_is_ready_at_the_horizon_is_activated(self) -> None:
+        for rows, wanted in (('', '4 1 never C deadline 3'), ('4 1 release C\n', '4 1 unjudged C deadline 3 activated 4')):
+            self.assertIn(wanted, self.lines(TEXT, rows, 4))
 
     def test_a_thread_that_ended_a_round_is_judged(self) -> None:
         # its second round is activated at 3, but the first one was judged at 8
@@ -315,7 +336,7 @@ class NewReadings(unittest.TestCase):
     def test_words_that_no_handler_takes_begin_no_round(self) -> None:
         found = reading.Reading(tomllib.loads(NOBODY), NOBODY_ROWS, 6)
         self.assertEqual(found.wanted().text, '6 0 never D deadline 8\nhint source k interrupts on n with badge 4 and no handler takes it\n'
-                         'missed 0 overdue 0 lost 0 never 1 merged 0 allowed 0 unjudged 0 hints 1 threads 1 deadlines 1 judged 0\n')
+                         'missed 0 overdue 0 untaken 0 lost 0 never 1 merged 0 allowed 0 unjudged 0 hints 1 threads 1 deadlines 1 judged 0\n')
         last = answers.wanted(found, 'D', '1').stdout.decode().splitlines()[-2]
         self.assertEqual(last, 'why D number 1 from 5 to 6 waited 1 activated - begun - ended -')
 
@@ -325,21 +346,69 @@ class NewReadings(unittest.TestCase):
         self.assertEqual([job and (job.begun, job.activated) for job in found.ended.values()], [(1, 0)])
         held = reading.Reading(tomllib.loads(BUSY.replace('core = 0 }]\nthread', 'core = 0, word = 1 }]\nthread')), '3 0 hold n 1\n', 8)
         self.assertEqual(held.wanted().text.splitlines()[:2], [
-            '3 0 lost n word 1', '8 0 overdue D deadline 8 activated 0 queued 8 ready 0 running 0 throttled 0 blocked 0 woken 0',
+            '3 0 lost n word 1', '8 0 never D deadline 8',
         ])
+        self.assertEqual(held.wanted().text.splitlines()[2], '8 0 untaken n by D word 1 age 8 deadline 8 set 0')
 
-    def test_a_call_of_a_server_that_is_taken_blocks(self) -> None:
+    def test_a_call_of_a_server_that_is_taken_waits_for_it(self) -> None:
         found = reading.Reading(tomllib.loads(TAKEN), TAKEN_ROWS, 22)
-        standings = [('pending', 4), ('running', 1), ('blocked', 16), ('running', 1)]
+        standings = [('pending', 4), ('running', 1), ('server', 16), ('running', 1)]
         self.assertEqual(found.whole.standings('H', 0, 22), [standing for standing, many in standings for _ in range(many)])
         self.assertEqual(found.whole.standings('L', 0, 4), ['running', 'running', 'running', 'throttled'])
         self.assertEqual(found.wanted().text.splitlines()[0],
-                         '22 0 overdue H deadline 9 activated 4 queued 0 ready 0 running 2 throttled 0 blocked 16 woken 0')
+                         '22 0 overdue H round 1 age 18 deadline 9 activated 4 queued 0 ready 0 running 2 throttled 0 blocked 0 server 16')
 
-    def test_who_is_let_in_stands_as_its_next_row_says(self) -> None:
-        for rows, wanted in (('', 'woken'), ('30 0 run H\n', 'ready'), ('30 0 release H\n', 'throttled')):
-            found = reading.Reading(tomllib.loads(TAKEN), TAKEN_ROWS.replace('21 0 run H\n', rows), 31)
-            self.assertEqual(found.whole.standings('H', 20, 23), ['blocked', wanted, wanted])
+    def test_who_is_let_in_stands_by_its_budget(self) -> None:
+        # H has used a tick when it waits for the server; a budget of 1 comes back at 104
+        for budget, wanted in ((20, 'ready'), (1, 'throttled')):
+            system = TAKEN.replace('budget = 20', f'budget = {budget}')
+            found = reading.Reading(tomllib.loads(system), TAKEN_ROWS.replace('21 0 run H\n', ''), 31)
+            self.assertEqual(found.whole.standings('H', 20, 23), ['server', wanted, wanted])
+
+
+class Sharing(unittest.TestCase):
+    """Words of notifications that several threads wait for."""
+
+    def due(self, text: str, note: str = 'x') -> tuple[list[str], int | None]:
+        found = reading.Reading(tomllib.loads(text), '', 0)
+        return found.takers(note), found.due(note)
+
+    def test_the_deadline_of_a_notification(self) -> None:
+        with_deadlines = POOL.replace('"b", priority = 5, ', '"b", priority = 4, deadline = 9, ')
+        self.assertEqual(self.due(with_deadlines), (['A', 'B'], 9))
+        # one has no deadline, waits once more or waits for it within its rounds; nobody waits for y
+        self.assertEqual(self.due(POOL), (['A', 'B'], None))
+        self.assertEqual(self.due(with_deadlines.replace('"compute 2"', '"compute 2", "wait x", "compute 1"')), (['A', 'B'], None))
+        self.assertEqual(self.due(with_deadlines.replace('["wait x", "compute 2"', '["compute 1", "wait x", "compute 2"')), (['A', 'B'], None))
+        self.assertEqual(self.due(with_deadlines, 'y'), ([], None))
+
+    def test_who_calls_a_server_may_take_its_words(self) -> None:
+        # for badge 2 the server v waits for x
+        self.assertEqual(self.due(TAKEN), ([], None))
+        self.assertEqual(self.due(TAKEN.replace('"call v 1"', '"call v 2"')), (['L', 'H'], None))
+
+    def test_a_word_is_due_that_leaves_each_something_to_do(self) -> None:
+        # it has a bit for A alone since 2, for both since 4, and the greatest deadline is 9
+        system = HANDLERS
+        for rows, wanted in (('2 0 hold x 1\n', False), ('2 0 hold x 1\n4 0 hold x 3\n', True), ('2 0 hold x 1\n4 0 hold x 3\n5 0 got A x 3\n', False)):
+            found = [reading.Reading(tomllib.loads(system), rows, horizon).untaken('x') for horizon in (10, 11)]
+            self.assertEqual(found, [None, ('untaken', '11 0 untaken x by A,B word 3 age 9 deadline 9 set 2') if wanted else None])
+
+    def test_an_untaken_word_as_json_and_csv(self) -> None:
+        found = reading.Reading(tomllib.loads(HANDLERS), '2 0 hold x 3\n', 20)
+        self.assertEqual(found.wanted(form='json').text.splitlines()[2],
+                         '{"moment":20,"core":0,"kind":"untaken","note":"x","by":["A","B"],"word":3,"age":18,"deadline":9,"set":2}')
+        self.assertEqual(found.wanted(form='csv').text.splitlines()[3], '20,0,untaken,,x,3,,,18,9,,2,,,,,,')
+
+    def test_never_is_of_words_that_anybody_took(self) -> None:
+        # A takes words with its bit, with that of B, and with none
+        for word, wanted in ((1, {'B'}), (2, {'A'}), (3, set()), (4, {'A', 'B'})):
+            found = reading.Reading(tomllib.loads(HANDLERS), f'0 0 hold x {word}\n1 0 got A x {word}\n', 3)
+            self.assertEqual({line.split()[3] for kind, line in found.all_found if kind == 'never'}, wanted)
+
+
+class MoreReadings(unittest.TestCase):
+    """Hints of version 3, and rows as objects."""
 
     def used(self, text: str) -> list[str]:
         found = [hint for hint in reading.Reading(tomllib.loads(text), '', 0).hints() if hint.split()[1] in ('source', 'thread')]
