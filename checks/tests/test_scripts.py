@@ -39,8 +39,9 @@ class Views(unittest.TestCase):
         self.assertEqual(self.up('12 0 release A\n', 12), 0)
         self.assertEqual(self.up('12 0 release A\n', 13), 1)
 
-    def test_a_held_word_activates_a_round_of_a_thread_without_rows(self) -> None:
-        self.assertEqual(self.up('8 0 hold n 1\n', 12), 1)
+    def test_a_held_word_activates_a_round_as_soon_as_a_thread_takes_it(self) -> None:
+        self.assertEqual(self.up('8 0 hold n 1\n', 12), 0)
+        self.assertEqual(self.up('8 0 hold n 1\n9 0 run B\n10 0 got B n 1\n', 12), 1)
 
     def test_a_wake_activates_at_the_horizon_too(self) -> None:
         self.assertEqual(self.up('0 0 run B\n1 0 stop B wait 0\n12 0 wake B n 1\n', 12), 1)
