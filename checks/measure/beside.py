@@ -1,7 +1,7 @@
 #!/usr/bin/env python3
 """Measures runs beside those of another program that takes the same options and writes the same bytes: instructions and seconds.
 
-The other program is named after the script, as one that was written for speed alone. On five systems (cases.py), with the schedule and with the reports,
+The other program is named after the script, as one that was written for speed alone. On eleven systems (cases.py), with the schedule and with the reports,
 one worker each, it first compares the bytes of both, then counts instructions by valgrind, less those of a run with horizon 0, and then takes the
 time that passes, the least of seven runs by turns, and so of ten times the horizon, where the file counts for less. Nothing else should run while
 time is taken; instructions are the same whatever else runs. With --write the table is put into docs/PERFORMANCE.md, with --no-time it has no

@@ -1,4 +1,4 @@
-"""Systems on which a run's cost is measured beside another program: few and many threads, many cores, idle time, and many small refills."""
+"""Systems on which a run's cost is measured beside another program: few and many threads and cores, short delays, idle time, orders, many refills."""
 from __future__ import annotations
 
 import random
@@ -20,7 +20,7 @@ class System:
 
     def __init__(self, **keys: Value) -> None:
         self.head = ''.join(f'{key} = {written(value)}\n' for key, value in ({'version': 1, 'cores': 1, 'delay': 1} | keys).items())
-        self.tables: dict[str, list[str]] = {kind: [] for kind in ('context', 'note', 'thread')}
+        self.tables: dict[str, list[str]] = {kind: [] for kind in ('context', 'note', 'thread', 'order')}
 
     def add(self, kind: str, **keys: Value) -> None:
         rows = ''.join(f'{key} = {written(value)}\n' for key, value in keys.items())
@@ -117,6 +117,94 @@ def refills(threads: int = 16) -> str:
     return system.text()
 
 
+def close(cores: int, threads: int, notes: int, refills: tuple[int, ...]) -> str:
+    """Many cores whose signals take one tick."""
+    draw = random.Random(cores)
+    system = System(cores=cores)
+    for core in range(cores):
+        for number in range(notes):
+            system.add('note', name=f'n{core}_{number}', core=core)
+    for core in range(cores):
+        for number in range(threads):
+            period = draw.randint(20, 400)
+            name = f'{core}_{number}'
+            budget = max(1, period // threads)
+            system.add('context', name=f'c{name}', core=core, budget=budget, period=period, extra_refills=draw.choice(refills))
+            signal = f'signal n{draw.randrange(cores)}_{draw.randrange(notes)} 1'
+            scripts = [f'compute {draw.randint(1, 3)}', signal, 'yield'], [f'wait n{core}_{draw.randrange(notes)}', 'compute 2'], ['compute 9']
+            priority, start = draw.randint(0, 255), draw.randint(0, period)
+            system.add('thread', name=f't{name}', context=f'c{name}', priority=priority, start=start, script=scripts[number % 3])
+    return system.text()
+
+
+def tight() -> str:
+    """16 cores of 8 threads whose signals take one tick."""
+    return close(16, 8, 4, (0, 3))
+
+
+def closer() -> str:
+    """64 cores of 8 threads whose signals take one tick."""
+    return close(64, 8, 1, (0,))
+
+
+def waiters(threads: int = 2000) -> str:
+    """A thread is woken in each tick, each by a notification of its own."""
+    draw = random.Random(8)
+    system = System()
+    for number in range(threads):
+        system.add('note', name=f'n{number}', core=0)
+        system.add('context', name=f'c{number}', core=0, budget=50, period=100)
+        system.add('thread', name=f't{number}', context=f'c{number}', priority=200, script=[f'wait n{number}', 'compute 1'])
+    for number in range(4):
+        system.add('context', name=f's{number}', core=0, budget=100, period=100)
+        script = [f'signal n{draw.randrange(threads)} 1' for _ in range(1024)]
+        system.add('thread', name=f'S{number}', context=f's{number}', priority=5, script=script)
+    return system.text()
+
+
+def orders(threads: int = 512, many: int = 4096) -> str:
+    """Two cores of 512 threads, whose contexts get 4,096 orders."""
+    draw = random.Random(9)
+    system = System(cores=2, delay=50)
+    for core in range(2):
+        for number in range(threads):
+            period = draw.randint(500, 5000)
+            name = f'{core}_{number}'
+            system.add('context', name=f'c{name}', core=core, budget=max(1, period // 100), period=period, extra_refills=2)
+            start = draw.randint(0, period)
+            system.add('thread', name=f't{name}', context=f'c{name}', priority=draw.randint(0, 255), start=start, script=['compute 3', 'yield'])
+    for number in range(many):
+        core, thread, period = draw.randrange(2), draw.randrange(threads), draw.randint(500, 5000)
+        budget, refills = max(1, period // 50), draw.randrange(4)
+        system.add('order', at=100_000 - number * 24, core=core, context=f'c{core}_{thread}', budget=budget, period=period, extra_refills=refills)
+    return system.text()
+
+
+def many_threads(threads: int = 4096) -> str:
+    """4,096 threads on one core."""
+    draw = random.Random(10)
+    system = System()
+    for number in range(threads):
+        period = draw.randint(2 * threads, 6 * threads)
+        system.add('context', name=f'c{number}', core=0, budget=2, period=period)
+        start = draw.randint(0, period)
+        system.add('thread', name=f't{number}', context=f'c{number}', priority=draw.randint(0, 255), start=start, script=['compute 1', 'yield'])
+    return system.text()
+
+
+def line(threads: int = 512) -> str:
+    """512 threads that wait for one notification."""
+    draw = random.Random(12)
+    system = System()
+    system.add('note', name='n', core=0)
+    for number in range(threads):
+        system.add('context', name=f'c{number}', core=0, budget=50, period=100)
+        system.add('thread', name=f't{number}', context=f'c{number}', priority=draw.randint(100, 255), script=['wait n', 'compute 1'])
+    system.add('context', name='s', core=0, budget=100, period=100)
+    system.add('thread', name='S', context='s', priority=5, script=['signal n 1'])
+    return system.text()
+
+
 class Case(NamedTuple):
     """A system, and the horizon of its runs."""
 
@@ -131,5 +219,11 @@ CASES = (
     Case('64 cores of 32 threads, delay 1000', many_cores, 3 * 10**4),
     Case('4 cores, mostly idle', idle, 2**37),
     Case('many small refills, preemption', refills, 10**5),
+    Case('16 cores of 8 threads, delay 1', tight, 2 * 10**4),
+    Case('64 cores of 8 threads, delay 1', closer, 10**4),
+    Case('a wake in each tick, 2,000 waiters', waiters, 10**5),
+    Case('4,096 orders', orders, 10**5),
+    Case('4,096 threads on one core', many_threads, 10**5),
+    Case('512 waiters of one notification', line, 2 * 10**4),
 )
 
