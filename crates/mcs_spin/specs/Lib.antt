@@ -1,0 +1,2 @@
+pub mod Spun
+pub mod laws
