@@ -1,0 +1,5 @@
+pub mod Parts
+pub mod Waiters
+pub mod Turns
+pub mod Worlds
+pub mod WellFormed
