@@ -3,3 +3,4 @@ pub mod Waiters
 pub mod Turns
 pub mod Worlds
 pub mod WellFormed
+pub mod Worked
