@@ -1,6 +1,10 @@
-pub mod Parts
-pub mod Waiters
-pub mod Turns
-pub mod Worlds
-pub mod WellFormed
-pub mod Worked
+mod FirstWords
+mod LeftOut
+mod Parts
+mod SameFound
+mod Turns
+mod Verdicts
+mod Waiters
+mod WellFormed
+mod Worked
+mod Worlds
