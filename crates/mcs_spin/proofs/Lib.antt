@@ -7,4 +7,5 @@ mod Verdicts
 mod Waiters
 mod WellFormed
 mod Worked
+mod WorkedFound
 mod Worlds
