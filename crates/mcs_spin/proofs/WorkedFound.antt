@@ -1,10 +1,8 @@
 -- What is found of a guest and a thread with a deadline, by the rows of both systems, worked by hand.
-use Rattle.std.specs.Prelude.{◌≡◌, ℕ, ◌+◌, Bool, true, false, List, [], ◌∷◌, Some, None, refl}
-use Rattle.mcs_ticks.specs.declared.row.Row.{Row}
+use Rattle.std.specs.Prelude.{◌≡◌, ℕ, ◌+◌, Bool, true, false, List, [], ◌∷◌, refl}
 use Rattle.mcs_ticks.specs.declared.row.What.{What}
 use Rattle.mcs_ticks.specs.declared.row.What.TheVariants as row
 use Rattle.mcs_ticks.specs.declared.row.Why.TheVariants as why
-use Rattle.mcs_script.specs.declared.item.Item.{Item}
 use Rattle.mcs_script.specs.declared.item.Item.TheVariants.{Compute}
 use Rattle.mcs_control.specs.declared.config.Mode.TheVariants.{Sporadic}
 use Rattle.mcs_system.specs.declared.part.ContextPart.{ContextPart}

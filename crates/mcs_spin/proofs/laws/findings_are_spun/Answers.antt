@@ -2,4 +2,4 @@ use Rattle.mcs_spin.proofs.Verdicts.{findings-spun}
 use Rattle.mcs_spin.proofs.laws.findings_are_spun.Goals as goal
 
 pub returns : goal.returns
-returns c = findings-spun c.rows_are_spun.ensures
+returns c = findings-spun

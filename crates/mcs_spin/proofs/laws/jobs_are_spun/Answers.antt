@@ -2,4 +2,4 @@ use Rattle.mcs_spin.proofs.Verdicts.{jobs-spun}
 use Rattle.mcs_spin.proofs.laws.jobs_are_spun.Goals as goal
 
 pub returns : goal.returns
-returns c = jobs-spun c.rows_are_spun.ensures
+returns c = jobs-spun

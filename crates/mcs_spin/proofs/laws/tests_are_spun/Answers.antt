@@ -2,4 +2,4 @@ use Rattle.mcs_spin.proofs.Verdicts.{tests-spun}
 use Rattle.mcs_spin.proofs.laws.tests_are_spun.Goals as goal
 
 pub returns : goal.returns
-returns c = tests-spun c.rows_are_spun.ensures
+returns c = tests-spun
