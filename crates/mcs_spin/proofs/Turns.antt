@@ -1,6 +1,6 @@
 -- A turn of a core of the spun system makes what the turn of the system makes, without the ends of
 -- rounds of threads that only compute.
-use Rattle.std.proofs.Common.{◌≡◌, ℕ, ◌+◌, ◌-◌, Bool, true, false, cond, not, List, [], ◌∷◌, ◌++◌, length, get_or, refl, sym, ap, subst, ◌∙◌, Option, Some, None}
+use Rattle.std.proofs.Common.{◌≡◌, ℕ, ◌+◌, ◌-◌, Bool, true, false, cond, not, List, [], ◌∷◌, ◌++◌, refl, sym, ap, subst, ◌∙◌, Option, Some, None}
 use Rattle.std.specs.Prelude.{filter, ◌==◌, nat_lt}
 use Rattle.std.specs.List.{slice_get}
 use Rattle.std.proofs.lemmas.List.Elements.{filter-append}
@@ -42,7 +42,7 @@ use Rattle.mcs_core.specs.Turn as turns
 use Rattle.mcs_core.specs.Turn.{Turn, each, silent, says, ◌followed_by◌}
 use Rattle.mcs_spin.specs.Spun.{spun, is_spun, stays_as}
 use Rattle.mcs_spin.proofs.Parts.{spinning, spun_state, spun_states, part-other, context-same, IsCompute, items-compute, endless, state-same, state-other, left-spun, set-states, kept-states, spinning-kept, counted-state, standing-state, priority-state}
-use Rattle.mcs_spin.proofs.Waiters.{WaitsOther, IsSound, WakesOther, wakes-other, without-other, push-other, got-note, set-note}
+use Rattle.mcs_spin.proofs.Waiters.{IsSound, WakesOther, wakes-other, without-other, push-other, got-note, set-note}
 
 abbrev pub spun_core : System → Core → Core
 spun_core system core = record core { threads = spun_states system.threads core.threads }

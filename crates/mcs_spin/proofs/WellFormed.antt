@@ -1,12 +1,12 @@
 -- The spun system is well-formed if the system is.
-use Rattle.std.proofs.Common.{◌≡◌, ℕ, zero, suc, ◌+◌, ◌≤◌, ◌<◌, Bool, true, false, cond, List, [], ◌∷◌, map, length, get_or, refl, sym, ap, subst, ◌∙◌, arith}
+use Rattle.std.proofs.Common.{◌≡◌, ℕ, zero, suc, ◌≤◌, ◌<◌, Bool, true, false, cond, List, [], ◌∷◌, map, length, get_or, refl, sym, ap, subst, ◌∙◌, arith}
 use Rattle.std.specs.Prelude.{All, AllPairs, IsTrue}
 use Rattle.std.proofs.lemmas.List.{get_or-map, length-map}
 use Rattle.std.proofs.lemmas.List.Elements.{All-map, All-weaker}
 use Rattle.mcs_control.specs.declared.config.Order.{Order}
 use Rattle.mcs_script.specs.declared.item.Item.{Item}
 use Rattle.mcs_script.specs.declared.item.Item.TheVariants.{Compute, Signal, Wait, Yield, On, Spin, Enter, Leave}
-use Rattle.mcs_script.specs.Script.{IsScript, is_bare, is_left_open, first_to_look_at}
+use Rattle.mcs_script.specs.Script.{IsScript, is_bare, is_left_open}
 use Rattle.mcs_system.specs.declared.part.ChainPart.{ChainPart}
 use Rattle.mcs_system.specs.declared.part.ContextPart.{ContextPart}
 use Rattle.mcs_system.specs.declared.part.Beat.{Beat}

@@ -1,5 +1,5 @@
 -- The worlds of the spun system, moment by moment, and its schedule.
-use Rattle.std.proofs.Common.{◌≡◌, ℕ, zero, suc, ◌+◌, Bool, true, false, cond, not, List, [], ◌∷◌, ◌++◌, map, length, set, get_or, refl, sym, ap, ◌∙◌, Option, Some, None}
+use Rattle.std.proofs.Common.{◌≡◌, ℕ, zero, suc, ◌+◌, Bool, true, false, cond, not, List, [], ◌∷◌, ◌++◌, map, set, get_or, refl, sym, ap, ◌∙◌, Option, Some, None}
 use Rattle.std.specs.Prelude.{filter, fold, ◌==◌}
 use Rattle.std.specs.List.{range_with_len, AllByRecursion}
 use Rattle.std.proofs.lemmas.List.Elements.{filter-append}
@@ -12,7 +12,6 @@ use Rattle.mcs_control.specs.Context.{Context, new_context}
 use Rattle.mcs_script.specs.declared.item.Item.TheVariants.{Spin}
 use Rattle.mcs_mail.specs.declared.mail.Mail.{Mail}
 use Rattle.mcs_system.specs.declared.part.ContextPart.{ContextPart}
-use Rattle.mcs_system.specs.declared.part.NotePart.{NotePart}
 use Rattle.mcs_system.specs.declared.part.ThreadPart.{ThreadPart}
 use Rattle.mcs_system.specs.System.{System, core_of, start_of}
 use Rattle.mcs_core.specs.Core.{Core, opening_thread, opening_releases, opening_contexts, opening_note, opening_core}
@@ -23,7 +22,7 @@ use Rattle.mcs_core.specs.Clock.{World, Clock}
 use Rattle.mcs_spin.specs.Spun.{only_computes, spun_part, spun, stays_as, stays}
 use Rattle.mcs_spin.proofs.Parts.{spinning, spun_state, spun_states, context-part}
 use Rattle.mcs_spin.proofs.Waiters.{WaitsOther, IsSound}
-use Rattle.mcs_spin.proofs.Turns.{spun_core, spun_turn, Goes, turn-goes}
+use Rattle.mcs_spin.proofs.Turns.{spun_core, Goes, turn-goes}
 
 start-part : (part : ThreadPart) → (spun_part part).start ≡ part.start
 start-part part = by (only_computes part)
