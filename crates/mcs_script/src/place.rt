@@ -38,6 +38,7 @@ impl Place {
     /// of the next round. After the last of `rounds` rounds the place does not change; 0 sets no
     /// last round. The round number stays at 2^64 - 1, which no run reaches. At the first item the
     /// word is 0. The caller ensures that the place is one of this script.
+    #[inline(always)]
     pub fn advance(&mut self, script: &Script, call: u64, rounds: u64) -> Moved
         requires { self.old.item < length script.now }
         ensures moved { result ≡ move_after script.now rounds self.old }
@@ -71,6 +72,7 @@ impl Place {
         }
     }
 
+    #[inline(always)]
     fn to(&self, script: &Script, call: u64, round: u64, item: usize) -> Self
         ensures { result ≡ goes_to call script.now round item self.now }
     {

@@ -1,8 +1,8 @@
-ghost use Rattle.std.specs.Prelude.{◌≡◌, ◌↔◌, ◌<◌, ◌+◌, false, drop, IsTrue, IsOk, IfOk, IfErr, length, slice_get};
+ghost use Rattle.std.specs.Prelude.{◌≡◌, ◌↔◌, ◌<◌, ◌+◌, false, drop, None, IsTrue, IsOk, IfOk, IfErr, length, slice_get};
 ghost use Rattle.std.specs.Cmp.Lexicographic.{pointwise, lists_per, lists_equiv};
 ghost use Rattle.mcs_script.specs.contracts.item.ItemPartialEq.TheImpl.Laws.{laws-law as item_partial_laws};
 ghost use Rattle.mcs_script.specs.contracts.item.ItemEq.TheImpl.Laws.{laws-law as item_laws};
-ghost use Rattle.mcs_script.specs.Script.{IsScript, badges_of, is_bare, IsFirstBare, is_left_open, IsFirstOpen, ends_handler, listens, heard, first_taken, next_item};
+ghost use Rattle.mcs_script.specs.Script.{IsScript, badges_of, is_bare, IsFirstBare, is_left_open, IsFirstOpen, ends_handler, listens, heard, first_taken, next_item, or_again};
 
 use crate::Item;
 use mcs_ticks::Limits;
@@ -121,7 +121,23 @@ impl Script {
     /// Returns the number of the next item that the thread runs after this one, if a word with
     /// these badges began the round. If there is no such item, a wait is returned again, and any
     /// other item gives `None`: the round ends.
+    #[inline(always)]
     pub(crate) fn next(&self, item: usize, word: u32) -> Option<usize>
+        requires { item < length self.now }
+        ensures { result ≡ next_item self.now word item }
+    {
+        let _count = self.len();
+        let after = item + 1;
+        match self.items.get(after) {
+            Some(next) if next.is_on() => self.next_taken(item, word),
+            Some(_) => Some(after),
+            None => self.again(item),
+        }
+    }
+
+    /// Returns the number of the next item as `next` does, in a script with handlers.
+    #[inline(never)]
+    fn next_taken(&self, item: usize, word: u32) -> Option<usize>
         requires { item < length self.now }
         ensures { result ≡ next_item self.now word item }
     {
@@ -130,6 +146,15 @@ impl Script {
         if next.is_some() {
             return next;
         }
+        self.again(item)
+    }
+
+    /// Returns the number of this item if it is a wait.
+    #[inline(always)]
+    fn again(&self, item: usize) -> Option<usize>
+        requires { item < length self.now }
+        ensures { result ≡ or_again item (slice_get self.now item) None }
+    {
         match self.items[item] {
             Item::Wait(_) => Some(item),
             _ => None,
