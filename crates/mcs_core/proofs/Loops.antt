@@ -6,11 +6,13 @@ use Rattle.std.proofs.lemmas.Bool.Decides.{nat_tests}
 use Rattle.mcs_ticks.specs.declared.row.Row.{Row}
 use Rattle.mcs_ticks.specs.declared.row.What.{What}
 use Rattle.mcs_ticks.specs.Given.{Given}
+use Rattle.mcs_ticks.specs.Soonest.{HasCome}
 use Rattle.mcs_ticks.proofs.Givens.{given-append}
 use Rattle.mcs_control.specs.declared.config.Order.{Order}
 use Rattle.mcs_mail.specs.declared.mail.Mail.{Mail}
-use Rattle.mcs_mail.specs.Box.{due, without_due, arriving}
+use Rattle.mcs_mail.specs.Box.{due, without_due, arriving, first_arrival}
 use Rattle.mcs_system.specs.System.{System}
+use Rattle.mcs_core.specs.Busy.{first_moment}
 use Rattle.mcs_core.specs.Core.{Core}
 use Rattle.mcs_core.specs.Turn.{stamped, Turn, silent, ◌followed_by◌}
 use Rattle.mcs_core.specs.declared.log.Here.{Here}
@@ -18,6 +20,7 @@ use Rattle.mcs_core.specs.declared.log.Log.{Log}
 use Rattle.mcs_core.specs.stored.Parts.{Adds, Makes}
 use Rattle.mcs_core.specs.Orders.{first_due, without_first, due_now, to_come, AreByMoment, IsPlanned, ArePlanned}
 use Rattle.mcs_core.proofs.Counts.{either}
+use Rattle.mcs_core.proofs.Firsts.{not_le}
 use Rattle.mcs_core.proofs.Plans.{from-earlier, due-none}
 
 pub stamped-append : (c t : ℕ) (xs ys : List What) → stamped c t (xs ++ ys) ≡ stamped c t xs ++ stamped c t ys
@@ -104,6 +107,16 @@ none-due-later t (x ∷ xs) h e = let l : t < x.moment = grind (arith, nat_tests
     all : (from : ℕ) (xs : List Order) → t < from → AreByMoment from xs → to_come (t + 1) xs ≡ xs
     all from [] l h = refl
     all from (y ∷ ys) l h = grind (arith, nat_tests, h.0, all y.moment ys (omega (arith, h.0)) h.1)
+
+-- the first order is of a later moment: no order is due
+pub no-order-come : (t : ℕ) (orders : List Order) → (HasCome t (first_moment orders) → ⊥) → first_due t orders ≡ None
+no-order-come t [] h = refl
+no-order-come t (x ∷ xs) h = let l : t < x.moment = not_le x.moment t h in let f : nat_le x.moment t ≡ false = grind (arith, nat_tests) in rw f refl
+
+-- the first mail arrives later: no mail is due
+pub no-mail-come : (t : ℕ) (mails : List Mail) → (HasCome t (first_arrival mails) → ⊥) → due t mails ≡ None
+no-mail-come t [] h = refl
+no-mail-come t (x ∷ xs) h = let l : t < x.arrives = not_le x.arrives t h in let f : nat_le x.arrives t ≡ false = grind (arith, nat_tests) in rw f refl
 
 -- what holds of all mail holds of what is left of it
 pub all-without_due : (P : Mail → Type 0) (t : ℕ) (mails : List Mail) → All P mails → All P (without_due t mails)

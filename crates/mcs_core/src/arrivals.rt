@@ -36,9 +36,42 @@ impl Local {
         self.post(here, note, badge, log)
     }
 
-    /// Takes the signals that arrive now, in the order of their delivery.
+    /// Takes the signals that arrive now, in the order of their delivery. At most moments there are
+    /// none.
     #[inline(always)]
     pub(crate) fn arrivals<S: Sink>(
+        &mut self,
+        here: &Here<'_>,
+        mail: &mut Mailbox,
+        log: &mut Log<'_, S>,
+    ) -> Result<(), FlowFault>
+        requires well_formed { IsWellFormed here.now.system.now }
+        requires sound { IsSound here.now.system.now here.now.core here.now.moment PastTick None self.old }
+        requires known { All (λ mail. mail.note < length here.now.system.now.notes) mail.old.mails }
+        requires come { All (λ mail. here.now.moment ≤ mail.arrives) mail.old.mails }
+        requires soon { here.now.moment ≤ 2 ^ 40 }
+        ensures makes { OnOk result
+            (Makes S.takes here.now
+            (each (arrives by_priority here.now.system.now here.now.moment) (arriving here.now.moment mail.old.mails)
+            self.old)
+            self.new log.old log.new) }
+        ensures mail { OnOk result (mail.new.mails ≡ staying here.now.moment mail.old.mails) }
+    {
+        if !mail.soonest().has_come(here.moment) {
+            return Ok(());
+        }
+        let here = Here {
+            system: here.system,
+            core: here.core,
+            delays: here.delays,
+            moment: here.moment,
+        };
+        self.take_in(&here, mail, log)
+    }
+
+    /// Takes the signals that arrive now, in the order of their delivery.
+    #[inline(never)]
+    fn take_in<S: Sink>(
         &mut self,
         here: &Here<'_>,
         mail: &mut Mailbox,

@@ -44,9 +44,40 @@ impl Local {
         self.post(here, note, badge, log)
     }
 
-    /// Posts the interrupts of all sources with a date at this moment, in file order.
+    /// Posts the interrupts of all sources with a date at this moment, in file order. At most
+    /// moments there are none.
     #[inline(always)]
     pub(crate) fn interrupts<S: Sink>(
+        &mut self,
+        here: &Here<'_>,
+        alarms: &mut Alarms,
+        log: &mut Log<'_, S>,
+    ) -> Result<(), FlowFault>
+        requires well_formed { IsWellFormed here.now.system.now }
+        requires sound { IsSound here.now.system.now here.now.core here.now.moment PastTick None self.old }
+        requires alarms { AreAlarms (length here.now.system.now.notes) here.now.moment alarms.old }
+        requires soon { here.now.moment ≤ 2 ^ 40 }
+        ensures makes { OnOk result
+            (Makes S.takes here.now
+            (each (interrupts by_priority here.now.system.now here.now.moment) (ringing here.now.moment alarms.old) self.old)
+            self.new log.old log.new) }
+        ensures alarms { OnOk result (alarms.new ≡ past here.now.moment alarms.old) }
+    {
+        if !alarms.next().has_come(here.moment) {
+            return Ok(());
+        }
+        let here = Here {
+            system: here.system,
+            core: here.core,
+            delays: here.delays,
+            moment: here.moment,
+        };
+        self.ring(&here, alarms, log)
+    }
+
+    /// Posts the interrupts of all sources with a date at this moment, in file order.
+    #[inline(never)]
+    fn ring<S: Sink>(
         &mut self,
         here: &Here<'_>,
         alarms: &mut Alarms,

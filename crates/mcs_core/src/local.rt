@@ -88,6 +88,7 @@ impl Local {
     }
 
     /// Puts the thread into the release queue with this date.
+    #[inline(always)]
     #[tactic(auto, using(crate::proofs::Counts::not_held_releases))]
     pub(crate) fn pend(&mut self, thread: ThreadId, date: Tick)
         requires known { thread < length self.old.threads }
@@ -108,6 +109,7 @@ impl Local {
 
     #[tactic(auto, using(crate::proofs::Counts::not_held_ready))]
     /// Puts the thread at the back of the ready queue, or into the release queue with a date.
+    #[inline(always)]
     pub(crate) fn enter_back(&mut self, thread: ThreadId, until: Option<Tick>)
         requires known { thread < length self.old.threads }
         requires not_ready { times_queued thread self.old.ready ≡ 0 }

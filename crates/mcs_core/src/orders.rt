@@ -87,9 +87,40 @@ impl Local {
         Ok(())
     }
 
-    /// Obeys the orders of this moment.
+    /// Obeys the orders of this moment. At most moments there are none.
     #[inline(always)]
     pub(crate) fn orders<S: Sink>(
+        &mut self,
+        here: &Here<'_>,
+        agenda: &mut Agenda,
+        log: &mut Log<'_, S>,
+    ) -> Result<(), FlowFault>
+        requires well_formed { IsWellFormed here.now.system.now }
+        requires sound { IsSound here.now.system.now here.now.core here.now.moment PastTick None self.old }
+        requires planned { ArePlanned here.now.system.now here.now.core agenda.old }
+        requires by_moment { AreByMoment here.now.moment agenda.old }
+        requires soon { here.now.moment ≤ 2 ^ 40 }
+        ensures makes { OnOk result
+            (Makes S.takes here.now
+            (each (obeys by_priority here.now.system.now here.now.moment) (due_now here.now.moment agenda.old) self.old)
+            self.new log.old log.new) }
+        ensures agenda { OnOk result (agenda.new ≡ to_come (here.now.moment + 1) agenda.old) }
+    {
+        if !agenda.next().has_come(here.moment) {
+            return Ok(());
+        }
+        let here = Here {
+            system: here.system,
+            core: here.core,
+            delays: here.delays,
+            moment: here.moment,
+        };
+        self.obey_due(&here, agenda, log)
+    }
+
+    /// Obeys the orders of this moment.
+    #[inline(never)]
+    fn obey_due<S: Sink>(
         &mut self,
         here: &Here<'_>,
         agenda: &mut Agenda,

@@ -1,40 +1,24 @@
-use Rattle.std.proofs.Common.{List, sym, ap, ◌∙◌, arith}
+use Rattle.std.proofs.Common.{◌≡◌, ℕ, List, None, refl, sym, ap, subst}
+use Rattle.std.specs.Prelude.{Option, not}
 use Rattle.mcs_ticks.specs.Queue.{by_priority}
+use Rattle.mcs_ticks.specs.Soonest.{HasCome}
 use Rattle.mcs_control.specs.declared.config.Order.{Order}
 use Rattle.mcs_core.specs.Turn.{each, obeys}
-use Rattle.mcs_core.specs.Orders.{due_now}
-use Rattle.mcs_core.proofs.Loops.{goes-step, goes-end, first-due-is, first-planned, none-due-now, none-due-later, no-order-taken}
-use Rattle.mcs_core.proofs.Systems.{one-each}
-use Rattle.mcs_core.proofs.Turning.{obeys-sound}
+use Rattle.mcs_core.specs.Orders.{first_due}
+use Rattle.mcs_core.specs.stored.Parts.{Makes}
+use Rattle.mcs_core.proofs.Ends.{not-come}
+use Rattle.mcs_core.proofs.Loops.{no-adds, no-order-come, none-due-now, none-due-later}
 use Rattle.mcs_core.proofs.local.Local.orders.Goals as goal
 
-pub agenda-preserved : goal.agenda-preserved
-agenda-preserved g c =
-    let due = sym c.take_due.ensures.taken ∙ c.in-Some.is in
-    let first = first-due-is c.args.here.now.system.now c.args.here.now.core c.args.here.now.moment c.in-Some.order c.agenda.agenda c.agenda.invariant.by_moment c.agenda.invariant.planned due in
-    let plan = first-planned c.args.here.now.system.now c.args.here.now.core c.args.here.now.moment c.in-Some.order c.agenda.agenda c.agenda.invariant.planned due in
-    record {
-      sound = rw c.in_ok-obey.ensures.core
-          (obeys-sound c.args.here.now.system.now c.args.here.now.core c.args.here.now.moment (one-each c.args.here.now.system.now c.requires.well_formed) c.args.here.now.moment c.in-Some.order c.agenda.self c.requires.soon (omega arith)
-          (record { accepted = plan.accepted; same_kind = plan.same_kind; known = plan.known }) (c.agenda.invariant.sound.own c.in-Some.order.context plan.known ∙ plan.home) c.agenda.invariant.sound);
-      planned = rw c.take_due.ensures.left first.planned;
-      by_moment = rw c.take_due.ensures.left first.by_moment;
-      left = rw c.take_due.ensures.left (sym first.later ∙ c.agenda.invariant.left);
-      goes = goes-step c.args.here.now _ _ c.args.log.now c.agenda.log c.obey.new.log
-          (obeys by_priority c.args.here.now.system.now c.args.here.now.moment c.in-Some.order c.agenda.self)
-          (each (obeys by_priority c.args.here.now.system.now c.args.here.now.moment) (due_now c.args.here.now.moment c.take_due.new.self)) c.obey.new.self
-          c.agenda.invariant.goes
-          (rw c.take_due.ensures.left (ap (λ (os : List Order). each (obeys by_priority c.args.here.now.system.now c.args.here.now.moment) os c.agenda.self) first.now))
-          c.in_ok-obey.ensures;
-    }
+none : (g : _) (c : goal.Then-not-has_come g) → first_due c.args.here.now.moment c.args.agenda.now ≡ None
+none g c =
+    let P : Option ℕ → Type 0 = HasCome c.args.here.now.moment in
+    no-order-come c.args.here.now.moment c.args.agenda.now (λ h. not-come c.has_come.result _ c.has_come.ensures (ap not c.if-not-has_come.true) (subst P (sym c.next.ensures) h))
 
-pub returns-clause-makes : goal.returns-clause-makes
-returns-clause-makes g c =
-    let none = none-due-now c.args.here.now.moment c.agenda.agenda c.agenda.invariant.by_moment (sym c.take_due.ensures.taken ∙ c.in_default.is) in
-    goes-end c.args.here.now _ _ c.args.log.now c.agenda.log c.agenda.self c.agenda.invariant.goes
-    (ap (λ (os : List Order). each (obeys by_priority c.args.here.now.system.now c.args.here.now.moment) os c.agenda.self) none)
+pub returns-then-not-has_come-clause-makes : goal.returns-then-not-has_come-clause-makes
+returns-then-not-has_come-clause-makes g c =
+    let P : List Order → Type 0 = λ orders. Makes g.S.Sink.takes c.args.here.now (each (obeys by_priority c.args.here.now.system.now c.args.here.now.moment) orders c.args.self.now) c.args.self.now c.args.log.now c.args.log.now in
+    subst P (sym (none-due-now c.args.here.now.moment c.args.agenda.now c.requires.by_moment (none g c))) (record { core = refl; adds = no-adds c.args.here.now c.args.log.now })
 
-pub returns-clause-agenda : goal.returns-clause-agenda
-returns-clause-agenda g c =
-    let due = sym c.take_due.ensures.taken ∙ c.in_default.is in
-    c.take_due.ensures.left ∙ no-order-taken c.args.here.now.moment c.agenda.agenda due ∙ sym (none-due-later c.args.here.now.moment c.agenda.agenda c.agenda.invariant.by_moment due) ∙ c.agenda.invariant.left
+pub returns-then-not-has_come-clause-agenda : goal.returns-then-not-has_come-clause-agenda
+returns-then-not-has_come-clause-agenda g c = sym (none-due-later c.args.here.now.moment c.args.agenda.now c.requires.by_moment (none g c))

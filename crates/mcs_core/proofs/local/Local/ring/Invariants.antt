@@ -5,7 +5,7 @@ use Rattle.mcs_core.specs.Turn.{each, interrupts}
 use Rattle.mcs_core.specs.stored.Sound.{IsSound}
 use Rattle.mcs_core.specs.stored.Sound.Phase.{PastTick}
 use Rattle.mcs_core.proofs.Loops.{GoesOn}
-use Rattle.mcs_core.proofs.local.Local.interrupts.Given as goal
+use Rattle.mcs_core.proofs.local.Local.ring.Given as goal
 
 abbrev pub invariant-alarms : goal.invariant-alarms
 invariant-alarms g l = record {

@@ -6,7 +6,7 @@ use Rattle.mcs_core.specs.Turn.{each, arrives}
 use Rattle.mcs_core.specs.stored.Sound.{IsSound}
 use Rattle.mcs_core.specs.stored.Sound.Phase.{PastTick}
 use Rattle.mcs_core.proofs.Loops.{GoesOn}
-use Rattle.mcs_core.proofs.local.Local.arrivals.Given as goal
+use Rattle.mcs_core.proofs.local.Local.take_in.Given as goal
 
 abbrev pub invariant-mails : goal.invariant-mails
 invariant-mails g l = record {

@@ -5,7 +5,7 @@ use Rattle.mcs_core.specs.Orders.{ArePlanned, AreByMoment, due_now, to_come}
 use Rattle.mcs_core.specs.stored.Sound.{IsSound}
 use Rattle.mcs_core.specs.stored.Sound.Phase.{PastTick}
 use Rattle.mcs_core.proofs.Loops.{GoesOn}
-use Rattle.mcs_core.proofs.local.Local.orders.Given as goal
+use Rattle.mcs_core.proofs.local.Local.obey_due.Given as goal
 
 abbrev pub invariant-agenda : goal.invariant-agenda
 invariant-agenda g l = record {
