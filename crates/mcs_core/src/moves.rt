@@ -50,19 +50,20 @@ impl Local {
         let state = self.thread(thread);
         let mut place = state.place;
         let moved = place.advance(&part.script, here.system.call, part.rounds);
-        let ended = What::Round {
-            thread,
-            number: state.place.round,
-            response: here.moment.get().saturating_sub(state.since.get()),
-        };
-        let since = if moved == Moved::Next {
-            state.since
-        } else {
-            log.tell(here, ended)?;
-            here.moment
-        };
-        if moved != Moved::AllDone {
-            self.set_place(thread, place, since);
+        if moved == Moved::Next {
+            self.set_place(thread, place, state.since);
+            return Ok(moved);
+        }
+        log.tell(
+            here,
+            What::Round {
+                thread,
+                number: state.place.round,
+                response: here.moment.get().saturating_sub(state.since.get()),
+            },
+        )?;
+        if moved == Moved::RoundEnds {
+            self.set_place(thread, place, here.moment);
         }
         Ok(moved)
     }

@@ -109,6 +109,7 @@ impl Local {
         if !agenda.next().has_come(here.moment) {
             return Ok(());
         }
+        // A copy, since the caller can keep a value in registers if no call has its address.
         let here = Here {
             system: here.system,
             core: here.core,
