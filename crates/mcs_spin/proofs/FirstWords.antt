@@ -14,7 +14,7 @@ use Rattle.mcs_verdict.specs.Calls.{waited_on, first_wait, calls, bits_of, eithe
 use Rattle.mcs_verdict.specs.Takers.{waits_for, waits_on, takers, due_by, due_of}
 use Rattle.mcs_verdict.specs.Words.{hears, firsts_from, firsts_of}
 use Rattle.mcs_verdict.specs.Due.{calls_each}
-use Rattle.mcs_spin.specs.Spun.{is_compute, computes, only_computes, spun_part, spun, is_spun}
+use Rattle.mcs_spin.specs.Spun.{is_compute, computes, only_computes, spun_part, spun}
 
 -- a thread that only computes has no deadline, and its items are all `compute`
 pub no-deadline : (part : ThreadPart) → only_computes part ≡ true → part.deadline ≡ 0
@@ -91,16 +91,7 @@ calls-spun note word (part ∷ parts) =
     (λ e. rest ∙ sym (ap (λ waits. (not (waits_for note waits) || calls (bits_of part) word) && calls_each note word parts) (first-none part e)))
     (λ e. ap (λ rest. (not (waits_for note (first_wait part)) || calls (bits_of part) word) && rest) rest)
 
--- the part of a thread that does not only compute; and the deadline of each
-part-at : (threads : List ThreadPart) (x : ℕ) → only_computes (get_or threads x no_thread) ≡ false
-    → get_or (map spun_part threads) x no_thread ≡ get_or threads x no_thread
-part-at [] x e = refl
-part-at (part ∷ parts) zero e = rw e refl
-part-at (part ∷ parts) (suc x) e = part-at parts x e
-
-pub part-spun : (system : System) (x : ℕ) → is_spun system x ≡ false → thread_part (spun system) x ≡ thread_part system x
-part-spun system x e = part-at system.threads x e
-
+-- the deadline of each thread
 deadline-at : (threads : List ThreadPart) (x : ℕ) → (get_or (map spun_part threads) x no_thread).deadline ≡ (get_or threads x no_thread).deadline
 deadline-at [] x = refl
 deadline-at (part ∷ parts) zero = by-spun (λ p. p.deadline ≡ part.deadline) part (λ e. refl) (λ e. refl)

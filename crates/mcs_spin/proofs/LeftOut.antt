@@ -19,7 +19,8 @@ use Rattle.mcs_verdict.specs.Misses.{word_for}
 use Rattle.mcs_verdict.specs.Findings.{past_of}
 use Rattle.mcs_spin.specs.Spun.{spun, is_spun, stays_as, stays}
 use Rattle.mcs_spin.specs.laws.Verdicts.{PassesNoRound, has_passed}
-use Rattle.mcs_spin.proofs.FirstWords.{firsts-spun, part-spun}
+use Rattle.mcs_spin.proofs.FirstWords.{firsts-spun}
+use Rattle.mcs_spin.proofs.Parts.{part-other}
 
 -- a word that is taken is the same by both
 called-same : (firsts : List Held) (waits bits : Option ℕ) (thread : ℕ) (some all : List Row) (m : ℕ) (what : What) (begun before : Option ℕ)
@@ -181,7 +182,7 @@ module _ (system : System) where
     pub same : (past : List Row) → Same past
     same past =
         let part = thread_part system thread in
-        let is = part-spun system thread other in
+        let is = part-other system thread other in
         let some = left past in
         record {
           part_is = is;

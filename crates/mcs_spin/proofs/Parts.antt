@@ -159,10 +159,7 @@ spinning-kept part F e f g s =
     alike : (a b : Standing) (p q : ℕ) → a ≡ b → p ≡ q → state a p ≡ state b q
     alike a b p q e f = cc
 
--- what is left of an item that spins
-pub never-less : left_after 1 never ≡ never
-never-less = refl
-
+-- a tick counts for a thread; of an item that spins as much is left
 pub counted-state : (part : ThreadPart) (s : Thread) →
     spun_state part (record s { place = record (s.place) { left = left_after 1 s.place.left } })
     ≡ record (spun_state part s) { place = record ((spun_state part s).place) { left = left_after 1 (spun_state part s).place.left } }

@@ -23,7 +23,8 @@ use Rattle.mcs_verdict.specs.Rounds.{first_wait, activated_in, activated_of, beg
 use Rattle.mcs_verdict.specs.Words.{leaves, held_of, firsts_of}
 use Rattle.mcs_spin.specs.Spun.{spun_part, spun, is_spun, stays_as}
 use Rattle.mcs_spin.specs.laws.Verdicts.{other_jobs}
-use Rattle.mcs_spin.proofs.FirstWords.{no-deadline, firsts-spun, calls-spun, part-spun, deadline-spun, core-spun}
+use Rattle.mcs_spin.proofs.FirstWords.{no-deadline, firsts-spun, calls-spun, deadline-spun, core-spun}
+use Rattle.mcs_spin.proofs.Parts.{part-other}
 use Rattle.mcs_spin.proofs.LeftOut.{left, by-row, left-stays, left-out, past-left, word-left, first-left, Same, same}
 
 -- a thread without a deadline has no finding
@@ -62,7 +63,7 @@ module _ (system : System) where
     word-same : (past : List Row) → first_word (spun system) thread (left system past) ≡ first_word system thread past
     word-same past =
         let waits = first_wait (thread_part system thread) in
-        ap (λ part. word_for (firsts_of (spun system)) (first_wait part) (left system past)) (part-spun system thread other)
+        ap (λ part. word_for (firsts_of (spun system)) (first_wait part) (left system past)) (part-other system thread other)
         ∙ ap (λ firsts. word_for firsts waits (left system past)) (firsts-spun system)
         ∙ first-left system (firsts_of system) waits past
 

@@ -20,6 +20,7 @@ use Rattle.mcs_core.specs.Turn.{Turn, turn_with, stamped}
 use Rattle.mcs_core.specs.Clock as clocks
 use Rattle.mcs_core.specs.Clock.{World, Clock}
 use Rattle.mcs_spin.specs.Spun.{only_computes, spun_part, spun, stays_as, stays}
+use Rattle.mcs_spin.proofs.FirstWords.{core-spun}
 use Rattle.mcs_spin.proofs.Parts.{spinning, spun_state, spun_states, context-part}
 use Rattle.mcs_spin.proofs.Waiters.{WaitsOther, IsSound}
 use Rattle.mcs_spin.proofs.Turns.{spun_core, Goes, turn-goes}
@@ -73,13 +74,6 @@ module _ (system : System) where
   abbrev other : System
   other = spun system
 
-  core-same : (part : ThreadPart) → core_of other (spun_part part) ≡ core_of system part
-  core-same part = by (only_computes part)
-    where
-      by : (b : Bool) → core_of other (cond b (record part { script = Spin ∷ [] }) part) ≡ core_of system part
-      by true = refl
-      by false = refl
-
   module _ (c : ℕ) where
     opened-thread : (part : ThreadPart) → opening_thread other c (spun_part part) ≡ spun_state part (opening_thread system c part)
     opened-thread part = by (only_computes part)
@@ -97,7 +91,7 @@ module _ (system : System) where
     opened-releases : (number : ℕ) (parts : List ThreadPart) → opening_releases other c number (map spun_part parts) ≡ opening_releases system c number parts
     opened-releases number [] = refl
     opened-releases number (part ∷ parts) =
-        ap (λ core. made core (spun_part part).start (opening_releases other c (number + 1) (map spun_part parts))) (core-same part)
+        ap (λ core. made core (spun_part part).start (opening_releases other c (number + 1) (map spun_part parts))) (core-spun system part)
         ∙ ap (λ start. made (core_of system part) start (opening_releases other c (number + 1) (map spun_part parts))) (start-part part)
         ∙ ap (made (core_of system part) part.start) (opened-releases (number + 1) parts)
       where
