@@ -61,8 +61,7 @@ impl CoreState {
         let quiet = moment.get() - self.clock.get();
         let goes_on = !ends.has_come(moment);
         let mut log = Log { sink, signals };
-        self.failed = true;
-        let ends = self.local.turn(
+        let turned = self.local.turn(
             &here,
             quiet,
             goes_on,
@@ -70,10 +69,17 @@ impl CoreState {
             &mut self.alarms,
             mail,
             &mut log,
-        )?;
-        self.clock = Tick::at(moment.get() + 1);
-        self.failed = false;
-        Ok(ends)
+        );
+        match turned {
+            Ok(ends) => {
+                self.clock = Tick::at(moment.get() + 1);
+                Ok(ends)
+            }
+            Err(fault) => {
+                self.failed = true;
+                Err(fault)
+            }
+        }
     }
 
     /// Takes the quiet turns up to the next busy one, and that one, of those before `to`. `ends` is
