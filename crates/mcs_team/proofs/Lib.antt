@@ -13,4 +13,5 @@ mod Opened
 mod Gathering
 mod OneCore
 mod InStep
+mod StepCounts
 mod Waking

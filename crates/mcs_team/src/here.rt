@@ -8,6 +8,7 @@ ghost use Rattle.mcs_team.specs.Flow.{FailsFrom, IsClear, IsFlowFault, IsGivenBe
 ghost use Rattle.mcs_window.specs.Desk.{opening_table, AreEmpty};
 ghost use Rattle.mcs_step.specs.Steps.{opening_steps};
 
+use crate::close::{least_delay, writes_in_step};
 use crate::outflow::{Outflow, Relay, RowRelay};
 use crate::run::Run;
 use crate::whole::Kept;
@@ -35,28 +36,6 @@ const MOST: u64 = 256;
 /// Fewest rows to collect in all. They may all be from one core, and room for them is made at each
 /// core in turn.
 const IN_ALL: usize = 512;
-
-/// Fewest cores that are run in step. For fewer cores windows cost less.
-const TOGETHER: usize = 8;
-
-/// Most ticks of delay for each core at which cores are run in step. If delays are longer, a core
-/// runs ahead for so long that windows cost less.
-const CLOSE: u64 = 4;
-
-/// The minimum delay in ticks.
-fn least_delay(parts: &SystemParts) -> u64 {
-    let mut delay = parts.delay;
-    for link in parts.links.as_slice() {
-        delay = delay.min(link.delay);
-    }
-    delay
-}
-
-/// Whether the cores are many and close, so that they are run in step.
-fn are_close(parts: &SystemParts) -> bool {
-    let most = CLOSE.saturating_mul(parts.cores as u64);
-    parts.cores >= TOGETHER && least_delay(parts) <= most
-}
 
 /// Rows to collect on a desk of several cores before they are written.
 pub(crate) fn enough_of(parts: &SystemParts) -> usize {
@@ -247,7 +226,7 @@ pub(crate) fn flow_here<W: Relay, G: Gate>(
     ensures fault { IfErr result (IsFlowFault W.Part.Out.takes (arc_value system) horizon out.old out.new) }
 {
     let cores = system.parts().cores;
-    if are_close(system.parts()) {
+    if writes_in_step(system.parts()) {
         return flow_together(alloc, system, horizon, relay, gate, out);
     }
     let Ok(desk) = desk_for(alloc, relay, &system, horizon) else {

@@ -1,6 +1,7 @@
 //! Whole simulations, on one thread or on a team of threads.
 #![tactic(auto)]
 
+mod close;
 mod here;
 mod outflow;
 mod own_tally;
@@ -8,6 +9,7 @@ mod reporting;
 mod rest;
 mod run;
 mod shared_desk;
+mod step_tally;
 mod stream;
 mod team;
 mod telling;

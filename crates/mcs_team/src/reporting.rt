@@ -9,9 +9,11 @@ ghost use Rattle.mcs_team.specs.Counts.{AreWhole};
 ghost use Rattle.mcs_team.specs.Headline.{Headline};
 ghost use Rattle.mcs_window.specs.Desk.{taken_of, AllAreHere, IsFinished};
 
+use crate::close::counts_in_step;
 use crate::own_tally::{OwnTally, are_in_place, counted, counting, tallies_of_cores};
 use crate::run::{Run, reached};
 use crate::shared_desk::Brim;
+use crate::step_tally::report_in_step;
 use crate::team::{Team, crew, silent_desk};
 use crate::telling::{Tellings, Untold};
 use crate::{Gate, SimFault, simulate_alone};
@@ -36,7 +38,7 @@ const BRIM: Brim = Brim {
 /// Simulates the system up to the horizon, at most 2^40, and returns the reports of its schedule,
 /// for every number of workers. They equal those of `simulate_to`.
 ///
-/// Each core counts its own rows as its turns are taken. No row is merged or kept. The team has
+/// Rows are counted as the turns are taken. No row is merged or kept. The team has
 /// `workers` threads, at most one per core, and this thread is one of them. If that is fewer than
 /// two, this thread takes all turns. If pieces of work have few rows, the team ends after a while
 /// and this thread takes the remaining turns, see `simulate_to`. The gate is called for each piece
@@ -67,8 +69,25 @@ pub fn report<R: Threads + Wait + Sync, G: Gate + Sync>(
     }
 }
 
-/// Returns the reports from a run on this thread in which each core counts its own rows.
+/// Returns the reports from a run on this thread, in step if that costs less.
 fn report_here<G: Gate>(
+    alloc: Global,
+    system: Arc<System>,
+    horizon: Tick,
+    gate: &G,
+) -> Result<Reports, NoMemory>
+    requires { horizon ≤ 2 ^ 40 }
+    ensures { IfOk result
+        (λ reports. reports ≡ reports_of (arc_value system) horizon (schedule (arc_value system) horizon)) }
+{
+    if counts_in_step(system.parts()) {
+        return report_in_step(alloc, system, horizon, gate);
+    }
+    report_by_core(alloc, system, horizon, gate)
+}
+
+/// Returns the reports from a run on this thread in which each core counts its own rows.
+fn report_by_core<G: Gate>(
     alloc: Global,
     system: Arc<System>,
     horizon: Tick,

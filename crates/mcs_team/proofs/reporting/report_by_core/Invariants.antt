@@ -1,5 +1,5 @@
 use Rattle.std.specs.Arc.{arc_value}
-use Rattle.mcs_team.proofs.reporting.report_here.Given as goal
+use Rattle.mcs_team.proofs.reporting.report_by_core.Given as goal
 
 -- the system and the horizon of the run
 abbrev pub ghosts-count_here : goal.ghosts-count_here
