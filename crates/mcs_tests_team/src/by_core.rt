@@ -1,7 +1,7 @@
 //! Rows in a list for each core, which are given to a sink by moments.
 
 use super::sinks::comparing;
-use super::systems::{DEPLETES, IDLE, RING, SIGNALS, TWO_MAKERS, moment, system};
+use super::systems::{DEPLETES, EIGHT_CLOSE, IDLE, RING, SIGNALS, TWO_MAKERS, moment, system};
 use mcs_team::{FlowFault, Open, Plan, RowRelay, schedule_by_core, simulate_alone};
 use std::sync::Arc;
 use std::test::Fail;
@@ -9,7 +9,7 @@ use std::test::Fail;
 #[test]
 fn outputs_get_the_schedule(rt: HostRuntime) -> Result<(), Fail> {
     let alloc = rt.alloc();
-    for text in [DEPLETES, IDLE, SIGNALS, TWO_MAKERS, RING] {
+    for text in [DEPLETES, IDLE, SIGNALS, TWO_MAKERS, RING, EIGHT_CLOSE] {
         let shared = system(alloc, text)?;
         let horizon = moment(40)?;
         let whole = simulate_alone(alloc, Arc::try_clone(&shared)?, horizon)?;

@@ -1,6 +1,6 @@
 //! Reports of simulations whose rows are not kept, for different numbers of worker threads.
 
-use super::systems::{ONE_ROUND, SIGNALS, moment, system};
+use super::systems::{EIGHT_APART, EIGHT_CLOSE, ONE_ROUND, SIGNALS, moment, system};
 use mcs_report::{CoreReport, Reports, ThreadReport};
 use mcs_team::{Open, report};
 use std::process::Abort;
@@ -54,6 +54,24 @@ fn a_run_ends_at_the_horizon(rt: HostRuntime) -> Result<(), Fail> {
         let system = system(alloc, ONE_ROUND)?;
         let reports = report(&rt, alloc, system, horizon, workers, &Open)?;
         are(&rt, &reports, &threads, &cores);
+    }
+    Ok(())
+}
+
+/// The first thread computes for a tick and signals for one. The last one runs for a tick until it
+/// waits, and for another one when it is woken.
+#[test]
+fn cores_in_step_and_in_windows_have_the_same_reports(rt: HostRuntime) -> Result<(), Fail> {
+    let alloc = rt.alloc();
+    let horizon = moment(20)?;
+    let (busy, idle) = (core(2, 18), core(0, 20));
+    let cores = [busy, idle, idle, idle, idle, idle, idle, busy];
+    for text in [EIGHT_CLOSE, EIGHT_APART] {
+        for workers in [0usize, 1, 2, 64] {
+            let system = system(alloc, text)?;
+            let reports = report(&rt, alloc, system, horizon, workers, &Open)?;
+            are(&rt, &reports, &[ran(2, 2), ran(2, 1)], &cores);
+        }
     }
     Ok(())
 }

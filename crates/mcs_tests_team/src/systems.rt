@@ -160,3 +160,36 @@ thread = [
     { name = "B", context = "b", priority = 5, script = ["compute 1", "signal m 1"] },
 ]
 "#;
+
+/// The first of eight cores signals the last one, with the longest delay at which their rows are
+/// counted in step.
+pub const EIGHT_CLOSE: &str = r#"
+version = 1
+cores = 8
+delay = 4
+context = [
+    { name = "s", core = 0, budget = 5, period = 10 },
+    { name = "w", core = 7, budget = 5, period = 10 },
+]
+note = [{ name = "n", core = 7 }]
+thread = [
+    { name = "S", context = "s", priority = 5, rounds = 1, script = ["compute 1", "signal n 1"] },
+    { name = "W", context = "w", priority = 5, rounds = 1, script = ["wait n", "compute 1"] },
+]
+"#;
+
+/// The first of eight cores signals the last one, with a delay that is one tick longer.
+pub const EIGHT_APART: &str = r#"
+version = 1
+cores = 8
+delay = 5
+context = [
+    { name = "s", core = 0, budget = 5, period = 10 },
+    { name = "w", core = 7, budget = 5, period = 10 },
+]
+note = [{ name = "n", core = 7 }]
+thread = [
+    { name = "S", context = "s", priority = 5, rounds = 1, script = ["compute 1", "signal n 1"] },
+    { name = "W", context = "w", priority = 5, rounds = 1, script = ["wait n", "compute 1"] },
+]
+"#;
