@@ -32,6 +32,7 @@ BEGIN, END = '<!-- table of checks/measure/checker_costs.py -->', '<!-- end of t
 HEAD = ['System', 'Horizon', 'Workers', 'Check: %s', 'MB', 'Reports: %s', 'MB', 'Both: %s', 'MB', 'To reports', 'To both', f'Aim {AIM}']
 # what is not measured counts as so many seconds
 LEAST = 0.005
+# a run may find something, or judge nothing
 FOUND = (0, 5, 6)
 
 
