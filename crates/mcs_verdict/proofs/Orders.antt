@@ -1,6 +1,5 @@
 -- Rows in the order of their times, and what stays since a thread's latest telling row.
-use Rattle.std.proofs.Common.{◌≡◌, ℕ, Bool, true, false, eqb, max, ◌≤◌, ◌<◌, List, [], ◌∷◌, get_or, Option, Some, None, refl, arith}
-use Rattle.std.proofs.lemmas.Bool.{cond_both}
+use Rattle.std.proofs.Common.{◌≡◌, ℕ, Bool, true, false, max, ◌≤◌, ◌<◌, List, [], ◌∷◌, get_or, Option, Some, None, refl, arith}
 use Rattle.std.proofs.lemmas.Bool.Decides.{nat_tests}
 use Rattle.mcs_ticks.specs.declared.row.Row.{Row}
 use Rattle.mcs_ticks.specs.declared.row.What.{What}
@@ -9,18 +8,10 @@ use Rattle.mcs_verdict.specs.Standing.{tells, telling}
 use Rattle.mcs_verdict.specs.Words.{no_word, held_after, held, word_for}
 use Rattle.mcs_verdict.specs.Findings.{UpTo}
 use Rattle.mcs_verdict.specs.Account.{since_of, before_telling, set_before}
-use Rattle.mcs_verdict.specs.laws.ByCore.{rows_on}
 
 pub up_to-later : (m n : ℕ) (past : List Row) → m ≤ n → UpTo m past → UpTo n past
 up_to-later m n [] h up = tt
 up_to-later m n (r ∷ past) h up = (omega (arith, up.0), up.1)
-
--- the rows of one core are in order, too
-pub up_to-on : (c m : ℕ) (past : List Row) → UpTo m past → UpTo m (rows_on c past)
-up_to-on c m [] up = tt
-up_to-on c m (r ∷ past) up =
-    let rest = up_to-on c r.moment past up.1 in
-    cond_both (eqb r.core c) (r ∷ rows_on c past) (rows_on c past) (UpTo m) (λ e. (up.0, rest)) (λ e. up_to-later r.moment m (rows_on c past) up.0 rest)
 
 -- the latest telling row is of no later moment than all rows
 pub since-up_to : (thread m : ℕ) (past : List Row) → UpTo m past → since_of (telling thread past) ≤ m

@@ -26,7 +26,7 @@ use Rattle.mcs_verdict.specs.Words.{merges}
 use Rattle.mcs_verdict.specs.Account.{account_of}
 use Rattle.mcs_verdict.specs.Calls.{called_for}
 use Rattle.mcs_verdict.specs.Watch.{Watch, watch_of}
-use Rattle.mcs_verdict.specs.Later.{IsLaterThread, IsSameWord, IsLaterWord, IsSetWord}
+use Rattle.mcs_verdict.specs.Later.{IsLaterThread, IsSameWord, IsLaterWord}
 
 -- a thread: its context, deadline and script
 abbrev thread : ℕ → ℕ → List Item → ThreadPart
@@ -249,15 +249,12 @@ later_word = record { known_before = lit< tt; known_after = lit< tt; later = λ 
 same_word : IsSameWord first second 0
 same_word = record { known_before = lit< tt; known_after = lit< tt; same = λ d. refl }
 
-set_word : IsSetWord (kept (signalled 0 [])) 0
-set_word = record { known = lit< tt; set = λ d. lit< tt }
-
 -- a thread and a notification that the system does not have
 of_no_thread_later : IsLaterThread 10 first second 2 → ⊥
 of_no_thread_later h = absurd (omega (arith, h.known_before))
 
-of_no_note : IsSetWord first 1 → ⊥
-of_no_note h = absurd (omega (arith, h.known))
+of_no_note : IsSameWord first second 1 → ⊥
+of_no_note h = absurd (omega (arith, h.known_before))
 
 -- Thread 0 on core 0 signals twice to a notification of core 1. The first word is still pending
 -- when the second signal arrives.

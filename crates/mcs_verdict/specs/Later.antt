@@ -1,8 +1,7 @@
 -- Accounts and words that are equal except that each time is `by` ticks later.
-use Rattle.std.specs.Prelude.{◌≡◌, ℕ, ◌+◌, ◌<◌, length, get_or, Option, None, option_map}
+use Rattle.std.specs.Prelude.{◌≡◌, ℕ, ◌+◌, ◌<◌, length, get_or, Option, option_map}
 use Rattle.mcs_verdict.specs.declared.account.Account.{Account}
 use Rattle.mcs_verdict.specs.declared.held.Held.{Held}
-use Rattle.mcs_verdict.specs.declared.standing.Standing.TheVariants.{Done}
 use Rattle.mcs_verdict.specs.Stood.{no_ticks}
 use Rattle.mcs_verdict.specs.Watch.{Watch}
 
@@ -44,18 +43,3 @@ pub record IsLaterWord (by : ℕ) (before after : Watch) (note : ℕ) : Type 0 w
   pub known_before : note < length before.words
   pub known_after : note < length after.words
   pub later : (d : Held) → (get_or after.words note d).since ≡ (get_or before.words note d).since + by
-
--- the watch knows the notification, and its word is not 0
-pub record IsSetWord (watch : Watch) (note : ℕ) : Type 0 where
-  pub known : note < length watch.words
-  pub set : (d : Held) → 0 < (get_or watch.words note d).word
-
--- the watch knows the thread, and no round of it is under way
-pub record IsBetweenRounds (watch : Watch) (thread : ℕ) : Type 0 where
-  pub known : thread < length watch.accounts
-  pub none : (d : Account) → (get_or watch.accounts thread d).begun ≡ None
-
--- the watch knows the thread, and its last round ended
-pub record IsDoneThread (watch : Watch) (thread : ℕ) : Type 0 where
-  pub known : thread < length watch.accounts
-  pub done : (d : Account) → (get_or watch.accounts thread d).standing ≡ Done

@@ -112,8 +112,8 @@ impl Account {
         }
     }
 
-    /// When the ticks of the round under way begin to count. Between rounds, those of the round that
-    /// the word which was set at `set` would begin.
+    /// When the ticks of the round under way begin to count. Between rounds, those of the round
+    /// that the word which was set at `set` would begin.
     #[inline(always)]
     fn counting(&self, set: Tick) -> Option<Tick>
         ensures { result ≡ counting self.now.waits self.now.begun self.now.free self.now.called self.now.active set }
@@ -156,8 +156,8 @@ impl Account {
         }
     }
 
-    /// How the thread stood in the round under way, whose ticks count from `from` on, up to `moment`,
-    /// if no row changed how it stands after `since`.
+    /// How the thread stood in the round under way, whose ticks count from `from` on, up to
+    /// `moment`, if no row changed how it stands after `since`.
     pub(crate) fn stood_since(&self, from: Tick, moment: Tick) -> Stood
         ensures { all_kept self.now + moment < 2 ^ 64 → result ≡ stood_since (Some from) moment self.now.standing self.now }
     {
@@ -235,8 +235,8 @@ impl Account {
         }
     }
 
-    /// Ends the round under way, the last one with the number `rounds`. `begun` is when the next one
-    /// began, if it has begun.
+    /// Ends the round under way, the last one with the number `rounds`. `begun` is when the next
+    /// one began, if it has begun.
     fn end(&mut self, moment: Tick, rounds: u64, begun: Option<Tick>)
         ensures { self.new ≡ ends moment rounds begun self.old }
     {

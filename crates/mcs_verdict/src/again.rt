@@ -1,9 +1,8 @@
-ghost use Rattle.std.specs.Prelude.{◌≡◌, ◌+◌, ◌<◌, false, length, get_or, IfOk, IsTrue, ◌↔◌};
-ghost use Rattle.mcs_verdict.specs.declared.held.Held.{Held as TheHeld};
-ghost use Rattle.mcs_verdict.specs.Later.{later_moment, IsLaterAccount, IsLaterThread, IsSameWord, IsLaterWord, IsSetWord, IsBetweenRounds, IsDoneThread};
+ghost use Rattle.std.specs.Prelude.{◌≡◌, ◌+◌, IfOk, IsTrue, ◌↔◌};
+ghost use Rattle.mcs_verdict.specs.Later.{later_moment, IsLaterAccount, IsLaterThread, IsSameWord, IsLaterWord};
 
+use crate::Watch;
 use crate::account::Account;
-use crate::{Standing, Watch};
 use mcs_ticks::{NoMemory, NoteId, ThreadId, Tick};
 use std::alloc::Global;
 
@@ -75,8 +74,8 @@ impl Watch {
     }
 
     /// Whether the account of the thread is that of `before` with each time `by` ticks later. The
-    /// number of its rounds and how it stood from time 0 on are not compared, since they grow. False
-    /// if either watch does not know the thread.
+    /// number of its rounds and how it stood from time 0 on are not compared, since they grow.
+    /// False if either watch does not know the thread.
     pub fn thread_is_later(&self, before: &Watch, thread: ThreadId, by: u64) -> bool
         ensures { IsTrue result ↔ IsLaterThread by before.now self.now thread }
     {
@@ -104,27 +103,5 @@ impl Watch {
         note.0 < before.words.len()
             && note.0 < self.words.len()
             && is_later(self.words[note.0].since, before.words[note.0].since, by)
-    }
-
-    /// Whether the notification's word is not 0. False if there is no such notification.
-    pub fn word_is_set(&self, note: NoteId) -> bool
-        ensures set { IsTrue result ↔ IsSetWord self.now note }
-        ensures unset { result ≡ false → note < length self.now.words → (d : TheHeld) → (get_or self.now.words note d).word ≡ 0 }
-    {
-        note.0 < self.words.len() && self.words[note.0].word != 0
-    }
-
-    /// Whether no round of the thread is under way. False if there is no such thread.
-    pub fn is_between_rounds(&self, thread: ThreadId) -> bool
-        ensures { IsTrue result ↔ IsBetweenRounds self.now thread }
-    {
-        thread.0 < self.accounts.len() && self.accounts[thread.0].begun.is_none()
-    }
-
-    /// Whether the last round of the thread ended. False if there is no such thread.
-    pub fn is_done(&self, thread: ThreadId) -> bool
-        ensures { IsTrue result ↔ IsDoneThread self.now thread }
-    {
-        thread.0 < self.accounts.len() && self.accounts[thread.0].standing == Standing::Done
     }
 }
