@@ -45,7 +45,7 @@ ALWAYS_TRIED = (
     'mcs_load/values_number_repairs_a_bad_file',
     'mcs_cli/streams_read_text_blames_a_source_that_did_not_fail',
     # verdicts: a round that is let go
-    'mcs_verdict/account_see_lets_a_taken_word_begin_no_round',
+    'mcs_verdict/tracked_see_lets_a_taken_word_begin_no_round',
     'mcs_ever_found/course_missed_by_takes_what_is_overdue',
     # for all time: what is forgotten when two moments are compared
     'mcs_ever/marks_joined_forgets_the_round',

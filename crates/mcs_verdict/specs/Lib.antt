@@ -13,6 +13,7 @@ pub mod Dues
 pub mod Findings
 pub mod Found
 pub mod Account
+pub mod Counts
 pub mod Watch
 pub mod Later
 pub mod laws

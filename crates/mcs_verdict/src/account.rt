@@ -1,14 +1,19 @@
 //! The account of a thread: a few numbers, updated row by row.
-ghost use Rattle.std.specs.Prelude.{◌≡◌, ℕ, ◌+◌, ◌<◌, ◌^◌, [], Some, max};
-ghost use Rattle.mcs_verdict.specs.Account.{all_kept, account_of, counting, stood_from, stood_since, total_at, active_since, or_first, told, ends, preempted, given, turned, seen_own, activated_since};
+ghost use Rattle.std.specs.Prelude.{◌≡◌, ℕ, ◌+◌, ◌≤◌, ◌<◌, ◌^◌, ◌&&◌, [], Some, max};
+ghost use Rattle.std.specs.Option.{is_none};
+ghost use Rattle.mcs_verdict.specs.Account.{all_kept, account_of, counting, stood_from, stood_since, total_at, active_since, or_first, stands_from, ends, preempted, begins_at, activated_since};
+ghost use Rattle.mcs_verdict.specs.declared.tracked.Counts.TheVariants.{Nothing};
+ghost use Rattle.mcs_verdict.specs.Counts.{counts_after, counted_on, woken_at, Fits};
+ghost use Rattle.mcs_verdict.specs.Stood.{no_ticks};
 ghost use Rattle.mcs_verdict.specs.Activation.{is_active};
+ghost use Rattle.mcs_verdict.specs.Rounds.{begins_round};
 ghost use Rattle.mcs_verdict.specs.Takers.{waits_for};
 
 use crate::heard::{bits_of, calls, first_wait};
-use crate::standing::standing_after;
+use crate::tracked::Counts;
 use crate::{Standing, Stood};
 use mcs_system::ThreadPart;
-use mcs_ticks::{NoteId, Tick, What, Why};
+use mcs_ticks::{NoteId, Tick};
 
 /// The account of a thread. Times and counts are in ticks.
 #[derive(Clone, Copy, Debug, PartialEq, Eq)]
@@ -143,7 +148,9 @@ impl Account {
     /// leaves none.
     #[inline(always)]
     fn count(&mut self, from: Option<Tick>, moment: Tick)
-        ensures { all_kept self.old + moment < 2 ^ 64 → self.new ≡ record self.old { stood = stood_since from moment self.old.standing self.old } }
+        ensures counted { all_kept self.old + moment < 2 ^ 64 → self.new ≡ record self.old { stood = stood_since from moment self.old.standing self.old } }
+        ensures rest { self.new ≡ record self.old { stood = self.new.stood } }
+        ensures nothing { counts_after from moment self.old ≡ Nothing → self.new.stood ≡ no_ticks }
     {
         match from {
             Some(from) => {
@@ -203,41 +210,104 @@ impl Account {
         }
     }
 
-    /// Takes a row after which the thread stands differently. The word for which its script waits
-    /// first was set at `set`.
+    /// What the next rows count of the round whose ticks count from `from` on, if a row at `moment`
+    /// is the next one.
     #[inline(always)]
-    fn tell(&mut self, set: Tick, moment: Tick, what: &What)
-        ensures { all_kept self.old + moment < 2 ^ 64 → self.new ≡ told set moment what.now self.old }
+    fn counts_after(&self, from: Option<Tick>, moment: Tick) -> Counts
+        ensures { result ≡ counts_after from moment self.now }
+    {
+        let Some(from) = from else {
+            return Counts::Nothing;
+        };
+        if moment.get() <= from.get() {
+            if from.get() < self.since.get() {
+                Counts::Unknown
+            } else {
+                Counts::Nothing
+            }
+        } else if self.begun.is_some() && self.active.is_some() {
+            Counts::Each
+        } else {
+            Counts::Unknown
+        }
+    }
+
+    /// Takes a row after which the thread stands as `standing` says. The word for which its script
+    /// waits first was set at `set`. Returns what the next rows count of the round.
+    #[inline(always)]
+    pub(crate) fn tell(&mut self, set: Tick, moment: Tick, standing: Standing) -> Counts
+        ensures told { all_kept self.old + moment < 2 ^ 64 → self.new ≡ stands_from set moment standing self.old }
+        ensures fits { Fits result self.new }
     {
         let ticks = moment.get().saturating_sub(self.since.get());
         if let Some(begun) = self.begun {
             let from = later(self.since, begun);
             note_first(&mut self.active, is_active(self.standing), from, moment);
         }
-        self.count(self.counting(set), moment);
+        let from = self.counting(set);
+        let start = from;
+        let counts = self.counts_after(start, moment);
+        self.count(from, moment);
         self.total.count(self.standing, ticks);
-        self.standing = standing_after(what);
+        self.standing = standing;
+        self.since = moment;
+        counts
+    }
+
+    /// `tell` in a round that counts each tick.
+    #[inline(always)]
+    pub(crate) fn tell_each(&mut self, moment: Tick, standing: Standing)
+        requires { self.old.since ≤ moment }
+        ensures told { all_kept self.old + moment < 2 ^ 64 → self.new ≡ counted_on moment standing self.old }
+        ensures rest { self.new ≡ record self.old { standing = standing; since = moment; stood = self.new.stood; total = self.new.total } }
+    {
+        let ticks = moment.get() - self.since.get();
+        self.stood.count(self.standing, ticks);
+        self.total.count(self.standing, ticks);
+        self.standing = standing;
         self.since = moment;
     }
 
-    /// Takes a word that was set at `set` and that the thread has from `moment` on. It begins a
-    /// round if no round is under way, the script begins with a wait for it, and it leaves
-    /// something to do.
+    /// Takes a row that wakes the thread with a word that begins a round.
     #[inline(always)]
-    fn give(&mut self, moment: Tick, set: Tick, note: NoteId, word: u32)
-        ensures { self.new ≡ given moment set note word self.old }
+    pub(crate) fn wake(&mut self, moment: Tick, standing: Standing)
+        ensures woken { all_kept self.old + moment < 2 ^ 64 → self.new ≡ woken_at moment standing self.old }
+        ensures nothing { self.new.stood ≡ no_ticks }
     {
-        if self.begun.is_none() && waits_for(note, self.waits) && calls(self.bits, word) {
-            self.begun = Some(moment);
-            self.called = Some(set);
-            self.active = None;
-            self.count_from(later(set, self.free));
-        }
+        let ticks = moment.get().saturating_sub(self.since.get());
+        self.total.count(self.standing, ticks);
+        self.standing = standing;
+        self.since = moment;
+        self.begun = Some(moment);
+        self.called = Some(moment);
+        self.active = None;
+        self.stood = Stood::new();
+    }
+
+    /// Whether this word begins a round: no round is under way, the script begins with a wait for
+    /// it, and it leaves something to do.
+    #[inline(always)]
+    pub(crate) fn begins(&self, note: NoteId, word: u32) -> bool
+        ensures { result ≡ (is_none self.now.begun && begins_round self.now.waits self.now.bits note word) }
+    {
+        self.begun.is_none() && waits_for(note, self.waits) && calls(self.bits, word)
+    }
+
+    /// Begins a round with a word that was set at `set` and that the thread has from `moment` on.
+    #[inline(always)]
+    pub(crate) fn begin(&mut self, moment: Tick, set: Tick)
+        ensures { self.new ≡ begins_at moment set self.old }
+    {
+        self.begun = Some(moment);
+        self.called = Some(set);
+        self.active = None;
+        self.count_from(later(set, self.free));
     }
 
     /// Ends the round under way, the last one with the number `rounds`. `begun` is when the next
     /// one began, if it has begun.
-    fn end(&mut self, moment: Tick, rounds: u64, begun: Option<Tick>)
+    #[inline(always)]
+    pub(crate) fn end(&mut self, moment: Tick, rounds: u64, begun: Option<Tick>)
         ensures { self.new ≡ ends moment rounds begun self.old }
     {
         self.free = moment;
@@ -250,48 +320,11 @@ impl Account {
 
     /// Counts a preemption, if a round is under way.
     #[inline(always)]
-    fn preempt(&mut self)
+    pub(crate) fn preempt(&mut self)
         ensures { self.new ≡ preempted self.old }
     {
         if self.begun.is_some() {
             self.preemptions = self.preemptions.saturating_add(1);
-        }
-    }
-
-    /// Begins or ends a round, or counts a preemption, as the row says.
-    #[inline(always)]
-    fn turn(&mut self, moment: Tick, what: &What)
-        ensures { self.new ≡ turned moment what.now self.old }
-    {
-        match *what {
-            What::Stop { why: Why::Done, .. } => self.end(moment, self.rounds, None),
-            What::Stop {
-                why: Why::Preempt,
-                ..
-            } => self.preempt(),
-            What::Wake { note, word, .. } => self.give(moment, moment, note, word),
-            _ => {}
-        }
-    }
-
-    /// Takes a row of this thread. The word for which its script waits first was set at `set`.
-    #[inline(always)]
-    pub(crate) fn see(&mut self, set: Tick, moment: Tick, what: &What)
-        ensures { all_kept self.old + moment < 2 ^ 64 → self.new ≡ seen_own set moment what.now self.old }
-    {
-        match *what {
-            What::Got { note, word, .. } => self.give(moment, set, note, word),
-            What::Round { number, .. } => {
-                let begun = match self.waits {
-                    Some(_) => None,
-                    None => Some(moment),
-                };
-                self.end(moment, number, begun);
-            }
-            _ => {
-                self.tell(set, moment, what);
-                self.turn(moment, what);
-            }
         }
     }
 }

@@ -3,6 +3,7 @@ ghost use Rattle.mcs_verdict.specs.Later.{later_moment, IsLaterAccount, IsLaterT
 
 use crate::Watch;
 use crate::account::Account;
+use crate::tracked::Tracked;
 use mcs_ticks::{NoMemory, NoteId, ThreadId, Tick};
 use std::alloc::Global;
 
@@ -68,7 +69,11 @@ impl Watch {
         ensures { IfOk result (λ copy. copy ≡ self.now) }
     {
         Ok(Watch {
-            accounts: self.accounts.iter().copied().collect(alloc)?,
+            accounts: self
+                .accounts
+                .iter()
+                .map(|tracked| Tracked::of(*tracked.account()))
+                .collect(alloc)?,
             words: self.words.iter().copied().collect(alloc)?,
         })
     }
@@ -81,7 +86,11 @@ impl Watch {
     {
         thread.0 < before.accounts.len()
             && thread.0 < self.accounts.len()
-            && is_later_account(&self.accounts[thread.0], &before.accounts[thread.0], by)
+            && is_later_account(
+                self.accounts[thread.0].account(),
+                before.accounts[thread.0].account(),
+                by,
+            )
     }
 
     /// Whether the notification's word is the same as in `before`. False if either watch does not

@@ -15,6 +15,7 @@ mod job;
 mod laws;
 mod outcome;
 mod standing;
+mod tracked;
 mod watch;
 
 pub use all::{find_all, find_unended, keep_finding};

@@ -13,11 +13,11 @@ ghost use Rattle.mcs_verdict.specs.Findings.{finding, UpTo};
 ghost use Rattle.mcs_verdict.specs.Account.{account_of, subject};
 ghost use Rattle.mcs_verdict.specs.Watch.{accounts_of, words_of, watch_of};
 
-use crate::account::Account;
 use crate::due::{dues_of, untaken_by};
 use crate::heard::{bits_of, calls, either, first_wait};
 use crate::held::Held;
 use crate::outcome::set_at;
+use crate::tracked::Tracked;
 use crate::{Finding, Job, Stood};
 use mcs_system::{System, SystemParts, ThreadPart};
 use mcs_ticks::{Limits, NoMemory, NoteId, Row, ThreadId, Tick, What};
@@ -28,7 +28,7 @@ use std::marker::Model;
 /// each notification. All memory is taken when the watch is made; a row takes constant time.
 #[derive(Drop)]
 pub struct Watch {
-    pub(crate) accounts: Vec<Account>,
+    pub(crate) accounts: Vec<Tracked>,
     pub(crate) words: Vec<Held>,
 }
 
@@ -92,7 +92,7 @@ fn word_since(words: &[Held], note: NoteId) -> Tick
 
 /// When the word for which a script waits first was set; 0 if it does not begin with a wait.
 #[inline(always)]
-fn set_for(words: &[Held], waits: Option<NoteId>) -> Tick
+pub(crate) fn set_for(words: &[Held], waits: Option<NoteId>) -> Tick
     ensures { (firsts : List TheHeld) (past : List TheRow) → words.now ≡ words_of 0 firsts past →
         result ≡ (word_for firsts waits past).since }
 {
@@ -104,7 +104,7 @@ fn set_for(words: &[Held], waits: Option<NoteId>) -> Tick
 
 /// Updates the account of the row's thread.
 #[inline(always)]
-fn tell_accounts(accounts: &mut [Account], words: &[Held], row: &Row)
+fn tell_accounts(accounts: &mut [Tracked], words: &[Held], row: &Row)
     ensures { (firsts : List TheHeld) (parts : List TheThread) (past : List TheRow) → accounts.old ≡ accounts_of firsts 0 parts past →
         words.now ≡ words_of 0 firsts past → UpTo row.now.moment past →
         accounts.new ≡ accounts_of firsts 0 parts (row.now ∷ past) }
@@ -113,8 +113,7 @@ fn tell_accounts(accounts: &mut [Account], words: &[Held], row: &Row)
         if thread.0 < accounts.len() {
             // Keeps every count below 2^64.
             prove!(row.moment.get() <= Limits::TICK);
-            let set = set_for(words, accounts[thread.0].waits);
-            accounts[thread.0].see(set, row.moment, &row.what);
+            accounts[thread.0].see(words, row.moment, &row.what);
         }
     }
 }
@@ -164,40 +163,40 @@ fn is_merged(words: &[Held], note: NoteId, word: u32) -> bool
     adds(word_at(words, note).word, word)
 }
 
-fn miss(accounts: &[Account], moment: Tick, thread: ThreadId, number: u64) -> Option<Finding>
+fn miss(accounts: &[Tracked], moment: Tick, thread: ThreadId, number: u64) -> Option<Finding>
     ensures { (system : TheSystem) (past : List TheRow) → accounts.now ≡ accounts_of (firsts_of system) 0 system.threads past →
         UpTo moment past → result ≡ miss system past moment thread number }
 {
     if thread.0 < accounts.len() {
         // Keeps every count below 2^64.
         prove!(moment.get() <= Limits::TICK);
-        accounts[thread.0].miss(moment, thread, number)
+        accounts[thread.0].account().miss(moment, thread, number)
     } else {
         None
     }
 }
 
-fn job(accounts: &[Account], moment: Tick, thread: ThreadId, number: u64) -> Option<Job>
+fn job(accounts: &[Tracked], moment: Tick, thread: ThreadId, number: u64) -> Option<Job>
     ensures { (system : TheSystem) (past : List TheRow) → accounts.now ≡ accounts_of (firsts_of system) 0 system.threads past →
         UpTo moment past → result ≡ job_known system past moment thread number }
 {
     if thread.0 < accounts.len() {
         // Keeps every count below 2^64.
         prove!(moment.get() <= Limits::TICK);
-        Some(accounts[thread.0].job(moment, thread, number))
+        Some(accounts[thread.0].account().job(moment, thread, number))
     } else {
         None
     }
 }
 
-fn opened_accounts(alloc: Global, parts: &SystemParts) -> Result<Vec<Account>, NoMemory>
+fn opened_accounts(alloc: Global, parts: &SystemParts) -> Result<Vec<Tracked>, NoMemory>
     ensures { IfOk result (λ accounts. accounts.items ≡ map (λ part. account_of [] part 0 []) parts.now.threads) }
 {
     let accounts = parts
         .threads
         .as_slice()
         .iter()
-        .map(|part| Account::new(part))
+        .map(|part| Tracked::new(part))
         .collect(alloc)?;
     Ok(accounts)
 }
@@ -218,11 +217,12 @@ fn heard_at(note: usize, threads: &[ThreadPart]) -> Option<u32>
 }
 
 /// Whether the word leaves something to do to each thread that waits first on the notification.
-fn calls_each(accounts: &[Account], note: NoteId, word: u32) -> bool
+fn calls_each(accounts: &[Tracked], note: NoteId, word: u32) -> bool
     ensures { (firsts : List TheHeld) (parts : List TheThread) (past : List TheRow) → accounts.now ≡ accounts_of firsts 0 parts past →
         result ≡ calls_each note word parts }
 {
-    for account in accounts {
+    for tracked in accounts {
+        let account = tracked.account();
         if let Some(first) = account.waits {
             if first == note && !calls(account.bits, word) {
                 return false;
@@ -346,7 +346,7 @@ impl Watch {
         if thread.0 < self.accounts.len() {
             // Keeps every count below 2^64.
             prove!(horizon.get() <= Limits::TICK);
-            let account = &self.accounts[thread.0];
+            let account = self.accounts[thread.0].account();
             let held = word_for(self.words.as_slice(), account.waits);
             account.unended(horizon, thread, &held)
         } else {
@@ -375,7 +375,7 @@ impl Watch {
             thread < length system.threads → result ≡ activated_of system thread past moment }
     {
         if thread.0 < self.accounts.len() {
-            self.accounts[thread.0].activated_since(moment)
+            self.accounts[thread.0].account().activated_since(moment)
         } else {
             None
         }
@@ -387,7 +387,7 @@ impl Watch {
         ensures { (system : TheSystem) (past : List TheRow) → self.now ≡ watch_of system past → result ≡ word_set system past thread }
     {
         if thread.0 < self.accounts.len() {
-            let account = &self.accounts[thread.0];
+            let account = self.accounts[thread.0].account();
             let held = word_for(self.words.as_slice(), account.waits);
             set_at(account.bits, &held)
         } else {
@@ -403,6 +403,6 @@ impl Watch {
     {
         // Keeps every count below 2^64.
         prove!(moment.get() <= Limits::TICK);
-        self.accounts[thread.0].total_at(moment)
+        self.accounts[thread.0].account().total_at(moment)
     }
 }
