@@ -78,30 +78,8 @@ fn stood_by(stances: &[Stance], course: &Course, row: &Row) -> Stood
     }
 }
 
-/// Takes a row of this thread.
-fn go_own(
-    alloc: Global,
-    course: &mut Course,
-    stances: &mut [Stance],
-    aim: &Aim,
-    row: &Row,
-    effect: &Move,
-    thread: ThreadId,
-) -> Result<(), NoMemory>
-    ensures { (system : TheSystem) (past : List TheRow) → stances.old ≡ stances_of 0 course.old.carried past → UpTo row.now.moment past →
-        subject row.now.what ≡ Some thread → effect.now ≡ moves system (gone_after system past) row.now →
-        OnOk result ((course.new ≡ goes_on system aim.now past row.now course.old) × (stances.new ≡ stances_of 0 course.new.carried (row.now ∷ past))) }
-{
-    let stood = stood_by(stances, course, row);
-    let before = course.since(thread);
-    course.see(alloc, aim, row, stood, effect)?;
-    let after = course.since(thread);
-    stand(stances, thread, row, before, after);
-    Ok(())
-}
-
-/// Takes a row that says nothing of how a thread stands.
-fn go_other(
+/// The course takes one more row.
+fn follow(
     alloc: Global,
     course: &mut Course,
     stances: &[Stance],
@@ -110,8 +88,8 @@ fn go_other(
     effect: &Move,
 ) -> Result<(), NoMemory>
     ensures { (system : TheSystem) (past : List TheRow) → stances.now ≡ stances_of 0 course.old.carried past → UpTo row.now.moment past →
-        subject row.now.what ≡ None → effect.now ≡ moves system (gone_after system past) row.now →
-        OnOk result ((course.new ≡ goes_on system aim.now past row.now course.old) × (stances.now ≡ stances_of 0 course.new.carried (row.now ∷ past))) }
+        effect.now ≡ moves system (gone_after system past) row.now →
+        OnOk result (course.new ≡ goes_on system aim.now past row.now course.old) }
 {
     let stood = stood_by(stances, course, row);
     course.see(alloc, aim, row, stood, effect)
@@ -131,8 +109,14 @@ fn go(
         OnOk result ((course.new ≡ goes_on system aim.now past row.now course.old) × (stances.new ≡ stances_of 0 course.new.carried (row.now ∷ past))) }
 {
     match subject(&row.what) {
-        Some(thread) => go_own(alloc, course, stances, aim, row, effect, thread),
-        None => go_other(alloc, course, stances, aim, row, effect),
+        Some(thread) => {
+            let before = course.since(thread);
+            follow(alloc, course, stances, aim, row, effect)?;
+            let after = course.since(thread);
+            stand(stances, thread, row, before, after);
+            Ok(())
+        }
+        None => follow(alloc, course, stances, aim, row, effect),
     }
 }
 
