@@ -1,3 +1,4 @@
+ghost use Rattle.mcs_way.specs.laws.Legs.{LegsAreActive};
 ghost use Rattle.mcs_way.specs.laws.Ways.{AnswersHaveWays, PartsSum, TicksSum, WaysLead};
 
 /// A law of all rows in the order of their times: the way of an answer, once its row has come,
@@ -21,4 +22,10 @@ pub fn answers_have_ways()
 /// notifications, of signals between cores, and of threads, by how they stood.
 pub fn parts_sum()
     ensures { PartsSum }
+{}
+
+/// A law of all schedules: a thread that has the interrupt was pending or done in no tick of its
+/// leg.
+pub fn legs_are_active()
+    ensures { LegsAreActive }
 {}

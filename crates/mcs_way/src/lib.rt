@@ -17,7 +17,7 @@ mod sums;
 mod trace;
 mod trail;
 
-pub use laws::{answers_have_ways, parts_sum, ticks_sum, ways_lead};
+pub use laws::{answers_have_ways, legs_are_active, parts_sum, ticks_sum, ways_lead};
 pub use leg::{Carrier, Leg};
 pub use search::Search;
 pub use sought::Sought;
