@@ -123,20 +123,16 @@ counting_at set moment account =
     counting account.waits account.begun account.free account.called
     (active_since account.begun moment account.standing account) set
 
--- a row after which the thread stands so
-abbrev pub stands_from : ℕ → ℕ → Standing → Account → Account
-stands_from set moment standing account =
+-- a telling row
+abbrev pub told : ℕ → ℕ → What → Account → Account
+told set moment what account =
     record account {
-      standing = standing;
+      standing = standing_after what;
       since = moment;
       active = active_since account.begun moment account.standing account;
       stood = stood_since (counting_at set moment account) moment account.standing account;
       total = total_at moment account.standing account;
     }
-
--- a telling row
-abbrev pub told : ℕ → ℕ → What → Account → Account
-told set moment what account = stands_from set moment (standing_after what) account
 
 -- a round ends, and the next one, if it has begun, began at `began`; no tick is counted yet
 abbrev pub ends : ℕ → ℕ → Option ℕ → Account → Account
@@ -147,14 +143,10 @@ ends moment rounds began account =
 abbrev pub preempted : Account → Account
 preempted account = record account { preemptions = with_preemption account.begun account.preemptions }
 
--- a round begins with a word that was set at `set`
-abbrev pub begins_at : ℕ → ℕ → Account → Account
-begins_at moment set account =
-    record account { begun = Some moment; called = Some set; active = None; stood = stood_from (max set account.free) account }
-
 -- the thread has a word that was set at `set`; the Boolean is whether it begins a round
 abbrev pub given_by : ℕ → ℕ → Bool → Option ℕ → Account → Account
-given_by moment set true None account = begins_at moment set account
+given_by moment set true None account =
+    record account { begun = Some moment; called = Some set; active = None; stood = stood_from (max set account.free) account }
 given_by moment set _ _ account = account
 
 abbrev pub given : ℕ → ℕ → ℕ → ℕ → Account → Account

@@ -1,9 +1,9 @@
 //! The account of a thread: a few numbers, updated row by row.
 ghost use Rattle.std.specs.Prelude.{◌≡◌, ℕ, ◌+◌, ◌≤◌, ◌<◌, ◌^◌, ◌&&◌, [], Some, max};
 ghost use Rattle.std.specs.Option.{is_none};
-ghost use Rattle.mcs_verdict.specs.Account.{all_kept, account_of, counting, stood_from, stood_since, total_at, active_since, or_first, stands_from, ends, preempted, begins_at, activated_since};
+ghost use Rattle.mcs_verdict.specs.Account.{all_kept, account_of, counting, stood_from, stood_since, total_at, active_since, or_first, ends, preempted, activated_since};
 ghost use Rattle.mcs_verdict.specs.declared.tracked.Counts.TheVariants.{Nothing};
-ghost use Rattle.mcs_verdict.specs.Counts.{counts_after, counted_on, woken_at, Fits};
+ghost use Rattle.mcs_verdict.specs.Counts.{begins_at, counts_after, counted_on, stands_from, woken_at, Fits};
 ghost use Rattle.mcs_verdict.specs.Stood.{no_ticks};
 ghost use Rattle.mcs_verdict.specs.Activation.{is_active};
 ghost use Rattle.mcs_verdict.specs.Rounds.{begins_round};

@@ -2,7 +2,8 @@
 ghost use Rattle.std.specs.Prelude.{◌≡◌, ◌+◌, ◌<◌, ◌^◌, [], List};
 ghost use Rattle.mcs_ticks.specs.declared.row.Row.{Row as TheRow};
 ghost use Rattle.mcs_verdict.specs.declared.held.Held.{Held as TheHeld};
-ghost use Rattle.mcs_verdict.specs.Account.{account_of, all_kept, ends, given, seen_own, stands_from};
+ghost use Rattle.mcs_verdict.specs.Account.{account_of, all_kept, ends, given, seen_own};
+ghost use Rattle.mcs_verdict.specs.Counts.{stands_from};
 ghost use Rattle.mcs_verdict.specs.Watch.{words_of};
 ghost use Rattle.mcs_verdict.specs.Words.{word_for};
 
