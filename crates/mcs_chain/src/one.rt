@@ -1,14 +1,14 @@
 //! The state that a watch keeps of a chain, and of all chains.
-ghost use Rattle.std.specs.Prelude.{◌≡◌, ◌+◌, ◌∷◌, ◌++◌, [], ℕ, List, map, OnOk, IfOk};
+ghost use Rattle.std.specs.Prelude.{◌≡◌, ◌+◌, ◌∷◌, ◌++◌, ◌&&◌, [], ℕ, List, map, OnOk, IfOk};
 ghost use Rattle.mcs_ticks.specs.declared.row.Row.{Row as TheRow};
 ghost use Rattle.mcs_system.specs.System.{System as TheSystem, core_of, thread_part};
 ghost use Rattle.mcs_system.specs.declared.part.ChainPart.{ChainPart as TheChain};
-ghost use Rattle.mcs_chain.specs.Answers.{gone_after};
+ghost use Rattle.mcs_chain.specs.Answers.{gone_after, origins};
 ghost use Rattle.mcs_ticks.specs.Capped.{capped};
 ghost use Rattle.mcs_chain.specs.Found.{all_unanswered, found_at};
 ghost use Rattle.mcs_chain.specs.Moves.{moves};
 ghost use Rattle.mcs_chain.specs.Watch.{all_due, all_judged_many, all_slow_many, due_of_one, is_due, judged_at, late_at, one_if, one_of};
-ghost use Rattle.mcs_chain.specs.stored.Still.{are_still, have_late, is_still};
+ghost use Rattle.mcs_chain.specs.stored.Still.{are_apart, are_still, have_late, is_still};
 
 use crate::moves::Move;
 use crate::origins::Origins;
@@ -67,7 +67,16 @@ impl One {
         })
     }
 
+    /// Whether a row of this effect leaves all as it is.
+    #[inline(always)]
+    fn is_apart(&self, chain: &ChainPart, moved: &Move) -> bool
+        ensures { result ≡ (is_still self.now && are_apart chain.now moved.now self.now.origins) }
+    {
+        self.is_still() && self.origins.are_apart(chain, moved)
+    }
+
     /// Takes one row more, which moves this.
+    #[inline(always)]
     fn see(
         &mut self,
         alloc: Global,
@@ -78,7 +87,36 @@ impl One {
         ensures { (system : TheSystem) (past : List TheRow) → self.old ≡ one_of system chain.now past →
             moved.now ≡ moves system (gone_after system past) row.now → OnOk result (self.new ≡ one_of system chain.now (row.now ∷ past)) }
     {
+        if self.is_apart(chain, moved) {
+            return Ok(());
+        }
+        self.take(alloc, chain, row, moved)
+    }
+
+    /// `see` for any row.
+    fn take(
+        &mut self,
+        alloc: Global,
+        chain: &ChainPart,
+        row: &Row,
+        moved: &Move,
+    ) -> Result<(), NoMemory>
+        ensures { (system : TheSystem) (past : List TheRow) → self.old ≡ one_of system chain.now past →
+            moved.now ≡ moves system (gone_after system past) row.now → OnOk result (self.new ≡ one_of system chain.now (row.now ∷ past)) }
+    {
         self.origins.see(alloc, chain, row.moment, moved)?;
+        if self.late.is_empty() && self.origins.answered().is_empty() {
+            return Ok(());
+        }
+        self.judge(chain, row)
+    }
+
+    /// Judges the answers of this row, which the sets of origins have taken.
+    fn judge(&mut self, chain: &ChainPart, row: &Row) -> Result<(), NoMemory>
+        ensures { (system : TheSystem) (past : List TheRow) →
+            self.old ≡ record (one_of system chain.now past) { origins = origins system chain.now (row.now ∷ past) } →
+            OnOk result (self.new ≡ one_of system chain.now (row.now ∷ past)) }
+    {
         let finding = found::slow_of(chain.deadline, row.moment, self.origins.answered());
         self.late.retain(|late| late.moment == row.moment);
         self.slow = counted(self.slow, &finding);

@@ -1,7 +1,7 @@
 //! The sets of origins without an answer.
 ghost use Rattle.std.specs.Prelude.{◌≡◌, [], ◌++◌, ◌&&◌, map, filter, not, get_or, length, slice_set, take, OnOk, OnErr, IfOk};
 ghost use Rattle.mcs_chain.specs.Origins.{join, given, taken, sent, is_sent, is_one_of, without, is_answer, no_origins, rest, started, sets_out, lands, holds, takes, gets, ends, answers, moved};
-ghost use Rattle.mcs_chain.specs.stored.Still.{is_none};
+ghost use Rattle.mcs_chain.specs.stored.Still.{are_apart, is_none};
 
 use crate::mark::{Mark, Sent};
 use crate::moves::{Move, Taking, reach};
@@ -183,6 +183,14 @@ fn join_to(alloc: Global, sets: &mut [Set], number: usize, set: &Set) -> Result<
         sets[number] = joined;
     }
     Ok(())
+}
+
+/// Whether there is no origin in the set with this number.
+#[inline(always)]
+fn has_none(sets: &[Set], number: usize) -> bool
+    ensures { result ≡ is_none (get_or sets.now number []) }
+{
+    number >= sets.len() || sets[number].is_empty()
 }
 
 /// Leaves nothing in the set with this number.
@@ -381,6 +389,22 @@ impl Origins {
                 self.end(thread, answered);
                 Ok(())
             }
+        }
+    }
+
+    /// Whether a row of this effect moves no origin, if the row before it posts none.
+    #[inline(always)]
+    pub(crate) fn are_apart(&self, chain: &ChainPart, moves: &Move) -> bool
+        ensures { result ≡ are_apart chain.now moves.now self.now }
+    {
+        match *moves {
+            Move::Nothing | Move::Hold(_) | Move::Wake(..) => true,
+            Move::Start(source, _) => source != chain.source,
+            Move::Give(thread, ..) | Move::Send(thread, ..) | Move::End(thread, _) => {
+                has_none(&self.carried, thread.0)
+            }
+            Move::Got(_, note, _) => has_none(&self.held, note.0),
+            Move::Land(..) => self.under_way.is_empty(),
         }
     }
 
