@@ -226,7 +226,7 @@ pub(crate) fn flow_here<W: Relay, G: Gate>(
     ensures fault { IfErr result (IsFlowFault W.Part.Out.takes (arc_value system) horizon out.old out.new) }
 {
     let cores = system.parts().cores;
-    if writes_in_step(system.parts()) {
+    if writes_in_step(&system) {
         return flow_together(alloc, system, horizon, relay, gate, out);
     }
     let Ok(desk) = desk_for(alloc, relay, &system, horizon) else {

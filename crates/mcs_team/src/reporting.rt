@@ -80,7 +80,7 @@ fn report_here<G: Gate>(
     ensures { IfOk result
         (λ reports. reports ≡ reports_of (arc_value system) horizon (schedule (arc_value system) horizon)) }
 {
-    if counts_in_step(system.parts()) {
+    if counts_in_step(&system) {
         return report_in_step(alloc, system, horizon, gate);
     }
     report_by_core(alloc, system, horizon, gate)
