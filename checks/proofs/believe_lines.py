@@ -612,7 +612,7 @@ PLAIN = {
     'mcs_notify/specs/Note.antt': 'after_post after_wait posted quiet_note'.split(),
     'mcs_ever_told/specs/Lines.antt': (
         'abandoned_line abandoned_told count_lines end_line end_lines ever_line ever_lines ever_told '
-        'inactive_told is_own_note losses_of misses_of of_notes thread_lines thread_so_far '
+        'inactive_told is_own_note losses_of misses_of of_notes so_far_told thread_lines thread_so_far '
         'threads_so_far untaken_line untaken_told'
     ).split(),
     'mcs_ever_told/specs/Outlook.antt': 'IsTrueOf course_up_to found_of lines_of told_abandoned told_ever'.split(),

@@ -7,6 +7,8 @@ use Rattle.std.proofs.lemmas.List.FromFn.{get_or-map-range_with_len}
 use Rattle.mcs_stretch.proofs.Later.{takes_time}
 use Rattle.mcs_ticks.specs.Capped.{capped}
 use Rattle.mcs_ticks.specs.declared.row.Row.{Row}
+use Rattle.mcs_script.specs.declared.item.Item.{Item}
+use Rattle.mcs_script.specs.declared.item.Item.TheVariants.{Compute, Signal, Wait, Yield, On, Spin, Enter, Leave}
 use Rattle.mcs_system.specs.System.{System, thread_part, note_part, core_of}
 use Rattle.mcs_system.specs.WellFormed.{IsWellFormed}
 use Rattle.mcs_core.specs.Clock.{clock, turn_of, schedule}
@@ -39,8 +41,8 @@ use Rattle.mcs_ever_told.specs.declared.line.Line.{Line}
 use Rattle.mcs_ever_told.specs.declared.line.Line.TheVariants as line
 use Rattle.mcs_ever_told.specs.declared.outlook.told.Period.{Period}
 use Rattle.mcs_ever_told.specs.stored.Told.{if_some}
-use Rattle.mcs_ever_told.specs.Lines.{is_some, silent_from, inactive_told, ever_told, ever_line, abandoned_told, abandoned_line, misses_of, losses_of, miss_line, lost_line, thread_line, clean_lines, is_own_thread, is_own_note, of_threads, of_notes, count_lines, ever_lines, thread_lines}
-use Rattle.mcs_ever_told.specs.ForEver.{RowsRepeat, IsNeverLonger, IsNeverThrottled, IsSilentFrom, Happens, IsInactive, IsAbandoned}
+use Rattle.mcs_ever_told.specs.Lines.{is_some, silent_from, inactive_told, ever_told, ever_line, abandoned_told, abandoned_line, misses_of, losses_of, miss_line, lost_line, spins, thread_told, thread_line, clean_lines, is_own_thread, is_own_note, of_threads, of_notes, count_lines, ever_lines, thread_lines}
+use Rattle.mcs_ever_told.specs.ForEver.{RowsRepeat, IsNeverLonger, IsNeverThrottled, IsSilentFrom, ThreadIsSo, Happens, IsInactive, IsAbandoned}
 use Rattle.mcs_ever_told.specs.Outlook.{course_before, course_up_to, ended_between, unended_at, last_of, endless, abandoned, AreSettled, found_in_period, NothingIsEverFound, HoldsForEver, period_lines}
 use Rattle.mcs_ever_told.proofs.Numbers.{told-more}
 use Rattle.mcs_ever_told.proofs.Since.{rows-on}
@@ -83,6 +85,18 @@ second-of false b e = cc
 first-of : (a b : Bool) → (a && b) ≡ true → a ≡ true
 first-of true b e = refl
 first-of false b e = e
+
+spins-alone : (script : List Item) → spins script ≡ true → script ≡ Spin ∷ []
+spins-alone [] e = cc
+spins-alone (Spin ∷ []) e = refl
+spins-alone (Spin ∷ item ∷ script) e = cc
+spins-alone (Compute ticks ∷ script) e = cc
+spins-alone (Signal note badge ∷ script) e = cc
+spins-alone (Wait note ∷ script) e = cc
+spins-alone (Yield ∷ script) e = cc
+spins-alone (On badges ∷ script) e = cc
+spins-alone (Enter server priority ∷ script) e = cc
+spins-alone (Leave server priority ∷ script) e = cc
 
 -- the jobs of a thread of the group
 module _ (system : System) (group : ℕ → Bool) (thread : ℕ) (past : List Row) (mine : group (core_of system (thread_part system thread)) ≡ true) where
@@ -288,16 +302,26 @@ module _ (system : System) (well : IsWellFormed system) (allowed set own : List 
         law system (has set) shifts p.from well recurs.recurs thread mine
         (ends-none system (has set) shifts p.from well recurs.recurs more.0 more.1 thread mine none) h
 
+  -- a thread that spins and has ended no job computes without end
+  told-so : (thread : ℕ) (never : Bool) (silent : Option ℕ) (b : Bool) (response : Option ℕ) → (b ≡ true → (thread_part system thread).script ≡ Spin ∷ []) →
+      ThreadIsSo system p thread response never silent → Holds (thread_told b thread response never silent)
+  told-so thread never silent true None alone so = record { script = alone refl; endless = so.longest; throttled = so.throttled }
+  told-so thread never silent true (Some response) alone so = so
+  told-so thread never silent false None alone so = so
+  told-so thread never silent false (Some response) alone so = so
+
   thread-so : GreatestIsForever → NeverSpent → NoRoundEndsAgain → RowsTellTurns system → (thread : ℕ) → thread < length system.threads →
       IfSome (thread_line system own after p.from (ended_between system p.from (p.from + p.ticks)) thread) Holds
   thread-so greatest_law spent_law silent_law tell thread l =
       let ended = ended_between system p.from (p.from + p.ticks) in
+      let script = (thread_part system thread).script in
       if-so Holds (is_own_thread system own thread)
-      (line.Thread thread (get_or after.greatest thread None) (not (get_or after.spent thread false))
+      (thread_told (spins script) thread (get_or after.greatest thread None) (not (get_or after.spent thread false))
       (silent_from p.from (get_or (ended_between system p.from (p.from + p.ticks)) thread false)))
       (λ yes.
       let mine = within_set (core_of system (thread_part system thread)) yes in
-      record {
+      told-so thread (not (get_or after.spent thread false)) (silent_from p.from (get_or (ended_between system p.from (p.from + p.ticks)) thread false))
+      (spins script) (get_or after.greatest thread None) (spins-alone script) record {
         longest = longest-so thread l mine greatest_law;
         reached = reached-so thread l mine greatest_law;
         throttled = throttled-so thread l mine spent_law;

@@ -2,17 +2,17 @@
 use Rattle.std.specs.Prelude.{◌≡◌, Bool, true, false, List, [], ◌∷◌, ◌++◌, ℕ, Some, None, codes, refl}
 use Rattle.std.specs.Fmt.{digits}
 use Rattle.serde_json.proofs.OnLiterals.{serde_json_on_literals}
-use Rattle.mcs_script.specs.declared.item.Item.TheVariants.{Compute, Wait}
+use Rattle.mcs_script.specs.declared.item.Item.TheVariants.{Compute, Wait, Spin}
 use Rattle.mcs_control.specs.declared.config.Mode.TheVariants as mode
 use Rattle.mcs_system.specs.System.{System}
 use Rattle.mcs_ever_told.specs.declared.line.Totals.{Totals}
-use Rattle.mcs_ever_told.specs.declared.line.Line.TheVariants.{Repeats, Open, Miss, Lost, Overdue, Never, Untaken, Endless, Inactive, Abandoned, Thread, ThreadSoFar, Clean, Sets}
+use Rattle.mcs_ever_told.specs.declared.line.Line.TheVariants.{Repeats, Open, Miss, Lost, Overdue, Never, Untaken, Endless, Inactive, Abandoned, Thread, Computes, ThreadSoFar, Clean, Sets}
 use Rattle.mcs_ever_told.specs.declared.line.LineFormat.TheVariants as format
 use Rattle.mcs_ever_told.specs.declared.line.Often.TheVariants.{Forever, SoFar}
 use Rattle.mcs_ever_told.specs.Formats.{line_text, lines_text}
 use Rattle.mcs_verdict.specs.declared.finding.Finding.TheVariants as finding
 use Rattle.mcs_verdict.specs.Stood.{no_ticks}
-use Rattle.mcs_ever_told.specs.Lines.{clean_lines, end_lines, ever_lines}
+use Rattle.mcs_ever_told.specs.Lines.{clean_lines, end_lines, ever_lines, spins, thread_told, so_far_told}
 
 -- three cores, a thread T and a notification N
 system : System
@@ -179,6 +179,23 @@ no_round_object : line_text format.Json system (Thread 0 None false (Some 0)) �
 unfolding system digits serde_json_on_literals
 no_round_object = refl
 
+-- a thread that spins, and never exhausts its budget; and one that does
+computes : line_text format.Text system (Computes 0 true) ≡ codes "thread T: computes without end, throttled: never\n"
+unfolding system digits
+computes = refl
+
+computes_object : line_text format.Json system (Computes 0 true) ≡ codes "{\"kind\":\"computes\",\"thread\":\"T\",\"throttled\":\"never\"}\n"
+unfolding system digits serde_json_on_literals
+computes_object = refl
+
+computes_throttled : line_text format.Text system (Computes 0 false) ≡ codes "thread T: computes without end\n"
+unfolding system digits
+computes_throttled = refl
+
+computes_throttled_object : line_text format.Json system (Computes 0 false) ≡ codes "{\"kind\":\"computes\",\"thread\":\"T\"}\n"
+unfolding system digits serde_json_on_literals
+computes_throttled_object = refl
+
 thread_so_far : line_text format.Text system (ThreadSoFar 0 (Some 9)) ≡ codes "thread T: greatest response 9 so far\n"
 unfolding system digits
 thread_so_far = refl
@@ -246,6 +263,29 @@ never_activated = refl
 overdue_once : ever_lines system two (λ thread. None) (λ thread. Some (finding.Overdue thread 3 14 10 11 0 no_ticks)) (λ note. None) ≡ []
 unfolding system
 overdue_once = refl
+
+-- a script spins if it is the one item `spin`
+alone : spins (Spin ∷ []) ≡ true
+alone = refl
+
+not_alone : spins (Spin ∷ Spin ∷ []) ≡ false
+not_alone = refl
+
+not_at_all : spins (Compute 1000000 ∷ []) ≡ false
+not_at_all = refl
+
+-- the lines of a thread that spins and of one that does not, in a set that recurs and so far
+told_spinning : thread_told true 0 None true (Some 13) ≡ Computes 0 true
+told_spinning = refl
+
+told_not_spinning : thread_told false 0 None true (Some 13) ≡ Thread 0 None true (Some 13)
+told_not_spinning = refl
+
+spinning_so_far : so_far_told true 0 None ≡ Computes 0 false
+spinning_so_far = refl
+
+not_spinning_so_far : so_far_told false 0 None ≡ ThreadSoFar 0 None
+not_spinning_so_far = refl
 
 -- a set is clean if it has no finding
 no_finding : clean_lines two [] ≡ Clean two ∷ []

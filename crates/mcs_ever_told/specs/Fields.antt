@@ -67,6 +67,8 @@ module _ (system : System) where
   line_fields (line.Thread thread greatest never_throttled silent_from) =
       (codes "kind", name (codes "thread")) ∷ thread_field thread ∷ (codes "greatest", known greatest)
       ∷ (codes "throttled", throttled_value never_throttled) ∷ (codes "ends_no_round_from", known silent_from) ∷ []
+  line_fields (line.Computes thread never_throttled) =
+      (codes "kind", name (codes "computes")) ∷ thread_field thread ∷ (codes "throttled", throttled_value never_throttled) ∷ []
   line_fields (line.ThreadSoFar thread greatest) =
       (codes "kind", name (codes "thread_so_far")) ∷ thread_field thread ∷ (codes "greatest", known greatest) ∷ []
   line_fields (line.Clean cores) = (codes "kind", name (codes "clean")) ∷ cores_field cores ∷ []

@@ -1,7 +1,8 @@
 -- What single lines of a set that recurs say of all horizons.
-use Rattle.std.specs.Prelude.{◌≡◌, ℕ, ◌+◌, ◌-◌, ◌*◌, ◌^◌, ◌<◌, ◌≤◌, Bool, true, false, List, [], map, Option, Some, None}
+use Rattle.std.specs.Prelude.{◌≡◌, ℕ, ◌+◌, ◌-◌, ◌*◌, ◌^◌, ◌<◌, ◌≤◌, Bool, true, false, List, [], ◌∷◌, map, Option, Some, None}
 use Rattle.std.specs.List.{AllByRecursion}
 use Rattle.mcs_ticks.specs.declared.row.Row.{Row}
+use Rattle.mcs_script.specs.declared.item.Item.TheVariants.{Spin}
 use Rattle.mcs_system.specs.System.{System, thread_part}
 use Rattle.mcs_core.specs.Clock.{turn_of, schedule}
 use Rattle.mcs_verdict.specs.declared.finding.Finding.TheVariants.{Untaken, Never}
@@ -43,6 +44,13 @@ module _ (system : System) where
   abbrev pub IsSilentFrom : ℕ → Option ℕ → Type 0
   IsSilentFrom thread None = Unit {0}
   IsSilentFrom thread (Some from) = (h : ℕ) → EndsNoRound system thread from h
+
+  -- the line of a thread that computes without end: its script is the one item `spin`, and no job of
+  -- it ends up to any horizon
+  pub record ComputesForEver (thread : ℕ) (never_throttled : Bool) : Type 0 where
+    pub script : (thread_part system thread).script ≡ Spin ∷ []
+    pub endless : IsNeverLonger thread None
+    pub throttled : never_throttled ≡ true → IsNeverThrottled thread
 
   module _ (p : Period) where
     -- a number of times before the first period, and a number in each period, however late it is

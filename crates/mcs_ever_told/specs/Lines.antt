@@ -1,6 +1,8 @@
 -- The lines of one set of cores.
 use Rattle.std.specs.Prelude.{ℕ, ◌+◌, ◌-◌, Bool, true, false, ◌&&◌, not, ◌==◌, if◌then◌else◌, List, [], ◌∷◌, ◌++◌, length, get_or, Option, Some, None}
 use Rattle.std.specs.List.{filter_map, range_with_len}
+use Rattle.mcs_script.specs.declared.item.Item.{Item}
+use Rattle.mcs_script.specs.declared.item.Item.TheVariants.{Spin}
 use Rattle.mcs_system.specs.System.{System, thread_part, note_part, core_of}
 use Rattle.mcs_verdict.specs.declared.finding.Finding.{Finding}
 use Rattle.mcs_verdict.specs.declared.finding.Finding.TheVariants as finding
@@ -25,6 +27,21 @@ is_some (SoFar times) = not (times == 0)
 abbrev pub silent_from : ℕ → Bool → Option ℕ
 silent_from from true = None
 silent_from from false = Some from
+
+-- whether a script is the one item `spin`
+abbrev pub spins : List Item → Bool
+spins (Spin ∷ []) = true
+spins _ = false
+
+-- the line of a thread, with its maximum response, whether it never exhausted its budget, and the
+-- time from which on it ends no round; a thread that spins ends none at any time
+abbrev pub thread_told : Bool → ℕ → Option ℕ → Bool → Option ℕ → Line
+thread_told true thread None never_throttled silent_from = line.Computes thread never_throttled
+thread_told _ thread greatest never_throttled silent_from = line.Thread thread greatest never_throttled silent_from
+
+abbrev pub so_far_told : Bool → ℕ → Option ℕ → Line
+so_far_told true thread None = line.Computes thread false
+so_far_told _ thread greatest = line.ThreadSoFar thread greatest
 
 -- the line of a thread's finding at the horizon, and that of a notification's
 abbrev pub end_told : ℕ → ℕ → Option Finding → Option Line
@@ -115,7 +132,7 @@ module _ (system : System) (own : List Bool) where
   abbrev pub thread_line : Course → ℕ → List Bool → ℕ → Option Line
   thread_line course from ended thread =
       if is_own_thread thread
-      then Some (line.Thread thread (get_or course.greatest thread None) (not (get_or course.spent thread false))
+      then Some (thread_told (spins (thread_part system thread).script) thread (get_or course.greatest thread None) (not (get_or course.spent thread false))
       (silent_from from (get_or ended thread false)))
       else None
 
@@ -124,7 +141,9 @@ module _ (system : System) (own : List Bool) where
 
   abbrev pub thread_so_far : Course → ℕ → Option Line
   thread_so_far course thread =
-      if is_own_thread thread then Some (line.ThreadSoFar thread (get_or course.greatest thread None)) else None
+      if is_own_thread thread
+      then Some (so_far_told (spins (thread_part system thread).script) thread (get_or course.greatest thread None))
+      else None
 
   abbrev pub threads_so_far : Course → List Line
   threads_so_far course = of_threads system (thread_so_far course)

@@ -22,7 +22,7 @@ use Rattle.mcs_ever_told.specs.declared.line.Line.TheVariants as line
 use Rattle.mcs_ever_told.specs.declared.outlook.told.Period.{Period}
 use Rattle.mcs_ever_told.specs.declared.outlook.told.Told.{Told}
 use Rattle.mcs_ever_told.specs.Sets.{own_of, firsts}
-use Rattle.mcs_ever_told.specs.ForEver.{RowsRepeat, IsOften, ThreadIsSo, IsEndless, IsInactive, IsAbandoned}
+use Rattle.mcs_ever_told.specs.ForEver.{RowsRepeat, IsOften, ThreadIsSo, ComputesForEver, IsEndless, IsInactive, IsAbandoned}
 use Rattle.mcs_ever_told.specs.Lines.{count_lines, end_lines, ever_line, ever_lines, abandoned_line, thread_lines, threads_so_far, clean_lines, miss_line, lost_line, is_own_thread, is_own_note}
 
 module _ (system : System) where
@@ -148,6 +148,7 @@ module _ (system : System) (allowed own : List Bool) (p : Period) where
   HoldsForEver (line.Inactive thread) = IsInactive system p thread
   HoldsForEver (line.Abandoned note word set) = IsAbandoned system p note word set
   HoldsForEver (line.Thread thread response never_throttled silent_from) = ThreadIsSo system p thread response never_throttled silent_from
+  HoldsForEver (line.Computes thread never_throttled) = ComputesForEver system thread never_throttled
   HoldsForEver (line.Clean cores) = NothingIsEverFound system allowed own p
   HoldsForEver (line.Open cores horizon) = ⊥
   HoldsForEver (line.Overdue thread moment) = ⊥

@@ -69,6 +69,8 @@ words_text system (line.Abandoned note word set) =
 words_text system (line.Thread thread greatest never_throttled silent_from) =
     line (codes "thread") (named (thread_name system thread) ∷ codes "greatest response"
     ∷ (known_word greatest ++ throttled_text never_throttled ++ silent_text silent_from) ∷ [])
+words_text system (line.Computes thread never_throttled) =
+    line (codes "thread") (named (thread_name system thread) ∷ (codes "computes without end" ++ throttled_text never_throttled) ∷ [])
 words_text system (line.ThreadSoFar thread greatest) =
     line (codes "thread") (named (thread_name system thread) ∷ codes "greatest response" ∷ known_word greatest ∷ codes "so far" ∷ [])
 words_text system (line.Clean cores) = line (codes "nothing is ever found") []

@@ -114,6 +114,12 @@ pub enum Line {
         never_throttled: bool,
         silent_from: Option<Tick>,
     },
+    /// The thread computes without end: its script is the one item `spin`. No round of it ever ends.
+    /// Also whether it never stops with its budget exhausted; `false` if no recurrence was found.
+    Computes {
+        thread: ThreadId,
+        never_throttled: bool,
+    },
     /// The maximum response of the rounds of the thread that ended up to the horizon, if one did;
     /// no recurrence was found.
     ThreadSoFar {

@@ -5,6 +5,7 @@ mod lines;
 mod look;
 mod sets;
 mod tell;
+mod threads;
 mod told;
 
 ghost use Rattle.std.specs.Prelude.{◌≡◌, ◌≤◌, ◌<◌, ◌^◌, ◌&&◌, true, false, nat_le, IfOk};

@@ -30,6 +30,8 @@ overdue T round 3 activated 13 for ever
 never T for ever
 untaken N by T word 5 set 13 for ever
 thread T: greatest response 4, throttled: never, ends no round from 13 on
+thread T: computes without end, throttled: never
+thread T: computes without end
 thread T: greatest response 9 so far
 nothing is ever found
 sets 3 repeating 2 findings 0 threads 4 deadlines 1
@@ -46,6 +48,8 @@ const AS_OBJECTS: &str = r#"{"kind":"repeats","cores":"0 2","from":13,"period":1
 {"kind":"never","thread":"T"}
 {"kind":"untaken","note":"N","by":["T"],"word":5,"set":13}
 {"kind":"thread","thread":"T","greatest":4,"throttled":"never","ends_no_round_from":13}
+{"kind":"computes","thread":"T","throttled":"never"}
+{"kind":"computes","thread":"T"}
 {"kind":"thread_so_far","thread":"T","greatest":9}
 {"kind":"clean","cores":"0 2"}
 {"kind":"sets","sets":3,"repeating":2,"findings":0,"threads":4,"deadlines":1}
@@ -61,7 +65,7 @@ fn cores() -> CoreSet {
 }
 
 /// A line of each kind.
-fn lines() -> [Line; 14] {
+fn lines() -> [Line; 16] {
     let cores = cores();
     let thread = ThreadId(0);
     let note = NoteId(0);
@@ -107,6 +111,14 @@ fn lines() -> [Line; 14] {
             greatest: Some(4),
             never_throttled: true,
             silent_from: Some(from),
+        },
+        Line::Computes {
+            thread,
+            never_throttled: true,
+        },
+        Line::Computes {
+            thread,
+            never_throttled: false,
         },
         Line::ThreadSoFar {
             thread,

@@ -6,7 +6,7 @@ ghost use Rattle.mcs_ever_told.specs.Fields.{line_fields, often_fields, totals_f
 
 use crate::line::cores::cores_text;
 use crate::line::takers::taker_names;
-use crate::line::thread::{put_endless, put_inactive, put_so_far, put_thread};
+use crate::line::thread::{put_computes, put_endless, put_inactive, put_so_far, put_thread};
 use crate::line::{Line, Often, Totals};
 use mcs_ever::CoreSet;
 use mcs_fields::{Cell, put_object};
@@ -53,6 +53,10 @@ pub(crate) fn put_fields(
             let name = thread_name(system, thread);
             put_thread(alloc, text, name, greatest, never_throttled, silent_from)
         }
+        Line::Computes {
+            thread,
+            never_throttled,
+        } => put_computes(alloc, text, system, thread, never_throttled),
         Line::ThreadSoFar { thread, greatest } => put_so_far(alloc, text, system, thread, greatest),
         Line::Clean { cores } => put_clean(alloc, text, system, &cores),
         Line::Sets { totals } => put_sets(alloc, text, &totals),

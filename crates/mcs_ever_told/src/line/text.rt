@@ -2,7 +2,7 @@
 ghost use Rattle.std.specs.Prelude.{◌≡◌, ◌++◌, ◌∷◌, [], OnOk, Some, codes, decimal};
 ghost use Rattle.std.specs.Io.{StartsWith};
 ghost use Rattle.mcs_text.specs.Text.{line};
-ghost use Rattle.mcs_ever_told.specs.declared.line.Line.TheVariants.{Repeats, Open, Miss, Lost, Overdue, Never, Untaken, Endless, Inactive, Abandoned, ThreadSoFar};
+ghost use Rattle.mcs_ever_told.specs.declared.line.Line.TheVariants.{Repeats, Open, Miss, Lost, Overdue, Never, Untaken, Endless, Inactive, Abandoned, Computes, ThreadSoFar};
 ghost use Rattle.mcs_ever_told.specs.stored.Words.{word_of};
 ghost use Rattle.mcs_ever_told.specs.Texts.{known_word, named, often_words, silent_text, throttled_text, totals_words, words_text};
 
@@ -56,6 +56,10 @@ pub(crate) fn append_told(
             let name = thread_name(system, thread);
             append_thread(text, name, greatest, never_throttled, silent_from)
         }
+        Line::Computes {
+            thread,
+            never_throttled,
+        } => append_computes(text, system, thread, never_throttled),
         Line::ThreadSoFar { thread, greatest } => append_so_far(text, system, thread, greatest),
         Line::Clean { .. } => append_line(text, "nothing is ever found", &[]),
         Line::Sets { totals } => append_sets(text, &totals),
@@ -336,6 +340,25 @@ fn append_silence(text: &mut Vec<u8>, moment: Tick) -> Result<(), NoMemory>
 {
     let words = [Word::Number(moment.get()), Word::Plain("on")];
     append_words(text, ", ends no round from", &words)
+}
+
+fn append_computes(
+    text: &mut Vec<u8>,
+    system: &System,
+    thread: ThreadId,
+    never_throttled: bool,
+) -> Result<(), NoMemory>
+    ensures ok { OnOk result (text.new.items ≡ text.old.items ++ words_text system.now (Computes thread never_throttled)) }
+    ensures kept { StartsWith text.new.items text.old.items }
+{
+    let words = [
+        Word::Named(thread_name(system, thread)),
+        Word::Plain("computes without end"),
+    ];
+    append_words(text, "thread", &words)?;
+    append_throttled(text, never_throttled)?;
+    text.push(b'\n')?;
+    Ok(())
 }
 
 fn append_so_far(

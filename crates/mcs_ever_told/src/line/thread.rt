@@ -1,7 +1,7 @@
 //! Lines about a thread as JSON objects.
 ghost use Rattle.std.specs.Prelude.{◌≡◌, ◌++◌, ◌∷◌, [], OnOk, OnErr, codes};
 ghost use Rattle.mcs_fields.specs.Fields.{name, object_text, value_of};
-ghost use Rattle.mcs_ever_told.specs.declared.line.Line.TheVariants.{Endless, Inactive, ThreadSoFar};
+ghost use Rattle.mcs_ever_told.specs.declared.line.Line.TheVariants.{Computes, Endless, Inactive, ThreadSoFar};
 ghost use Rattle.mcs_ever_told.specs.Fields.{known, line_fields, throttled_value};
 
 use mcs_fields::{Cell, put_object};
@@ -57,6 +57,25 @@ pub(crate) fn put_thread(
         ("greatest", known(greatest)),
         ("throttled", throttled(never_throttled)),
         ("ends_no_round_from", known_moment(silent_from)),
+    ];
+    put_object(alloc, text, &fields)
+}
+
+pub(crate) fn put_computes(
+    alloc: Global,
+    text: &mut Vec<u8>,
+    system: &System,
+    thread: ThreadId,
+    never_throttled: bool,
+) -> Result<(), NoMemory>
+    ensures ok { OnOk result (text.new.items ≡ text.old.items ++ object_text (line_fields system.now (Computes thread never_throttled))) }
+    ensures err { OnErr result (text.new.items ≡ text.old.items) }
+{
+    let never = throttled(never_throttled);
+    let fields = [
+        ("kind", Cell::Name("computes")),
+        ("thread", Cell::Name(thread_name(system, thread))),
+        ("throttled", never),
     ];
     put_object(alloc, text, &fields)
 }

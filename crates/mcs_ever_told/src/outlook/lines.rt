@@ -6,7 +6,7 @@ ghost use Rattle.mcs_verdict.specs.Findings.{UpTo};
 ghost use Rattle.mcs_verdict.specs.Misses.{unended};
 ghost use Rattle.mcs_verdict.specs.Watch.{Watch as TheWatch, watch_of};
 ghost use Rattle.mcs_ever_found.specs.Period.{AreKept, endless_round, abandoned_word};
-ghost use Rattle.mcs_ever_told.specs.Lines.{often_of, is_some, is_own_thread, of_threads, of_notes, miss_line, lost_line, count_lines, end_told, end_line, untaken_told, untaken_line, end_lines, inactive_told, ever_told, ever_line, abandoned_told, abandoned_line, ever_lines, silent_from, thread_line, thread_lines, thread_so_far, threads_so_far};
+ghost use Rattle.mcs_ever_told.specs.Lines.{often_of, is_some, is_own_thread, of_threads, of_notes, miss_line, lost_line, count_lines, end_told, end_line, untaken_told, untaken_line, end_lines, inactive_told, ever_told, ever_line, abandoned_told, abandoned_line, ever_lines};
 ghost use Rattle.mcs_ever_told.specs.stored.Told.{if_some};
 
 use crate::line::{Line, Often};
@@ -240,52 +240,6 @@ fn abandoned_line(
     abandoned_told(note, &abandoned_word(system, watch, doings, note))
 }
 
-/// The time from which on the thread ends no round, if it ended none in the first period.
-fn silent_from(from: Tick, ended: bool) -> Option<Tick>
-    ensures { result ≡ silent_from from ended }
-{
-    if ended { None } else { Some(from) }
-}
-
-/// The line of a thread whose set recurs.
-fn thread_line(
-    system: &System,
-    own: &CoreSet,
-    course: &Course,
-    from: Tick,
-    ended: &[bool],
-    thread: ThreadId,
-) -> Option<Line>
-    requires { thread < length system.now.threads }
-    ensures { result ≡ thread_line system.now own.now course.now from ended.now thread }
-{
-    if is_own_thread(system, own, thread) {
-        Some(Line::Thread {
-            thread,
-            greatest: course.greatest(thread),
-            never_throttled: !course.was_spent(thread),
-            silent_from: silent_from(from, thread.0 < ended.len() && ended[thread.0]),
-        })
-    } else {
-        None
-    }
-}
-
-/// The line of a thread whose set was not found to recur.
-fn thread_so_far(system: &System, own: &CoreSet, course: &Course, thread: ThreadId) -> Option<Line>
-    requires { thread < length system.now.threads }
-    ensures { result ≡ thread_so_far system.now own.now course.now thread }
-{
-    if is_own_thread(system, own, thread) {
-        Some(Line::ThreadSoFar {
-            thread,
-            greatest: course.greatest(thread),
-        })
-    } else {
-        None
-    }
-}
-
 /// Appends the item, if there is one.
 pub(crate) fn push<T: Copy>(items: &mut Vec<T>, one: Option<T>) -> Result<(), NoMemory>
     ensures { OnOk result (items.new.items ≡ items.old.items ++ if_some one) }
@@ -436,36 +390,4 @@ pub(crate) fn push_ever(
 {
     push_endless(lines, system, own, watch, doings, last)?;
     push_abandoned(lines, system, own, watch, doings)
-}
-
-pub(crate) fn push_threads(
-    lines: &mut Vec<Line>,
-    system: &System,
-    own: &CoreSet,
-    course: &Course,
-    from: Tick,
-    ended: &[bool],
-) -> Result<(), NoMemory>
-    ensures { OnOk result (lines.new.items ≡ lines.old.items ++ thread_lines system.now own.now course.now from ended.now) }
-{
-    for thread in 0..system.parts().threads.len() {
-        let line = thread_line(system, own, course, from, ended, ThreadId(thread));
-        push(lines, line)?;
-    }
-    Ok(())
-}
-
-/// Appends the threads' lines, for a set that was not found to recur.
-pub(crate) fn push_so_far(
-    lines: &mut Vec<Line>,
-    system: &System,
-    own: &CoreSet,
-    course: &Course,
-) -> Result<(), NoMemory>
-    ensures { OnOk result (lines.new.items ≡ lines.old.items ++ threads_so_far system.now own.now course.now) }
-{
-    for thread in 0..system.parts().threads.len() {
-        push(lines, thread_so_far(system, own, course, ThreadId(thread)))?;
-    }
-    Ok(())
 }

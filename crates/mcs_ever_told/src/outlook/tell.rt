@@ -7,11 +7,10 @@ ghost use Rattle.mcs_ever_told.specs.stored.Looks.{IsLook, CanBeTold, IsClosedGr
 ghost use Rattle.mcs_ever_told.specs.stored.Left.{is_any_left};
 
 use crate::line::Line;
-use crate::outlook::lines::{
-    Span, push, push_counts, push_ends, push_ever, push_so_far, push_threads,
-};
+use crate::outlook::lines::{Span, push, push_counts, push_ends, push_ever};
 use crate::outlook::look::{Look, before, ended_flags, finds_again};
 use crate::outlook::sets::Group;
+use crate::outlook::threads::{push_so_far, push_threads};
 use crate::outlook::told::{Period, Told};
 use mcs_ever::{CoreSet, no_round_ends_again, turns_repeat};
 use mcs_ever_again::rows_tell_turns;

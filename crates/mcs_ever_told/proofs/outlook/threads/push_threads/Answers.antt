@@ -1,6 +1,6 @@
 use Rattle.mcs_ever_told.specs.Lines.{thread_line}
 use Rattle.mcs_ever_told.proofs.Numbers.{lines-more}
-use Rattle.mcs_ever_told.proofs.outlook.lines.push_threads.Goals as goal
+use Rattle.mcs_ever_told.proofs.outlook.threads.push_threads.Goals as goal
 
 pub loop-thread-preserved : goal.loop-thread-preserved
 loop-thread-preserved c =
