@@ -3,6 +3,7 @@ use Rattle.std.specs.Prelude.{◌≡◌, ℕ, Bool, not, ◌==◌, ◌||◌, if�
 use Rattle.std.specs.List.{sum_by}
 use Rattle.mcs_ticks.specs.Capped.{capped}
 use Rattle.mcs_system.specs.System.{System}
+use Rattle.mcs_spin.specs.Spun.{spun}
 use Rattle.mcs_check_run.specs.Allowed.{flags_of}
 use Rattle.mcs_check_words.specs.declared.asked.Format.{Format}
 use Rattle.mcs_check_words.specs.declared.asked.Format.TheVariants as format
@@ -61,10 +62,12 @@ status_of Clean = 0
 status_of Found = 5
 status_of Open = 6
 
--- these bytes are the text of the system for all time, if these notifications may lose signals, and
--- this is the verdict
+-- These bytes are the text of the system for all time, if these notifications may lose signals, and
+-- this is the verdict. Threads that only compute may as well spin, and they do in what is reported.
+-- Its rows are those of the system, except for the ends of such threads' rounds; its findings are
+-- those of the system (`mcs_spin`)
 pub record IsForetold (names : List (List ℕ)) (system : System) (horizon : ℕ) (how : Format) (verdict : Verdict) (text : List ℕ) : Type 0 where
   pub told : List Told
-  pub so : AreTold system (flags_of names system.notes) horizon told
-  pub text_is : text ≡ told_text how system told
-  pub verdict_is : verdict ≡ verdict_of system told
+  pub so : AreTold (spun system) (flags_of names system.notes) horizon told
+  pub text_is : text ≡ told_text how (spun system) told
+  pub verdict_is : verdict ≡ verdict_of (spun system) told

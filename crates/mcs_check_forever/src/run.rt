@@ -16,6 +16,7 @@ use mcs_check_run::{CheckFault, Progress, Quiet, flags_of, refuse_unknown};
 use mcs_check_words::{Format, Options};
 use mcs_cli::{FromRead, RunFault, Source, Target, read_system, write_text};
 use mcs_ever_told::{Outlook, Told};
+use mcs_spin::spin;
 use mcs_system::System;
 use mcs_team::SimFault;
 use mcs_ticks::{NoMemory, Tick};
@@ -68,9 +69,9 @@ pub fn foretell_with<H: Files, S: Source, T: Target, P: Progress>(
 ///
 /// A closed set is one that no core outside it signals. Its lines say from which time on it
 /// repeats, with which period, and its findings for ever; without a repetition, its findings so
-/// far. One thread searches, whatever the option `workers`. Neither device may have failed before;
-/// a device is blamed only if it has failed. After `Write` a prefix was written, after any other
-/// fault no byte.
+/// far. A thread that only computes is taken to spin. One thread searches, whatever the option
+/// `workers`. Neither device may have failed before; a device is blamed only if it has failed.
+/// After `Write` a prefix was written, after any other fault no byte.
 pub fn foretell<S: Source, T: Target, P: Progress>(
     alloc: Global,
     source: &mut S,
@@ -153,7 +154,8 @@ fn no_memory() -> ForeverFault
     ForeverFault::Check(CheckFault::Run(RunFault::Sim(SimFault::NoMemory)))
 }
 
-/// The verdict of the system and the text of its lines.
+/// The verdict of the system and the text of its lines. Threads that only compute spin in it: their
+/// places in their scripts decide nothing, and would keep their cores from repeating.
 fn foretold<P: Progress>(
     alloc: Global,
     system: System,
@@ -163,7 +165,8 @@ fn foretold<P: Progress>(
     ensures { IfOk result (λ told. IsForetold (names_of options.now) system options.now.horizon options.now.format told.0 told.1.items) }
 {
     let allowed = flags_of(alloc, system.parts(), options.allowed.as_slice())?;
-    let system = Arc::new(alloc, system)?;
+    let spinning = spin(alloc, system)?;
+    let system = Arc::new(alloc, spinning)?;
     let shared = Arc::try_clone(&system)?;
     let told = look(alloc, shared, allowed.as_slice(), options.horizon, progress);
     progress.wipe();

@@ -23,9 +23,35 @@ thread A: greatest response - so far
 sets 1 repeating 0 findings 0 threads 1 deadlines 1
 ";
 
+/// A loop of 3 ticks in each 10, and a guest that computes in the rest.
+const GUEST: &str = r#"
+version = 1
+cores = 1
+delay = 1
+context = [{ name = "loop", core = 0, budget = 3, period = 10 }, { name = "guest", core = 0, budget = 10, period = 10 }]
+thread = [
+    { name = "Loop", context = "loop", priority = 9, deadline = 5, script = ["compute 2", "yield"] },
+    { name = "Guest", context = "guest", priority = 1, script = ["compute 1000000"] },
+]
+"#;
+
+/// The guest has 7 of each 10 ticks, so its time slice of 10 ends at the same place after 100. The
+/// rest of its `compute` is not compared.
+const FOR_EVER: &str = "\
+cores 0: repeats from 173 with period 100
+thread Loop: greatest response 3, throttled: never
+thread Guest: computes without end
+nothing is ever found
+sets 1 repeating 1 findings 0 threads 2 deadlines 1
+";
+
 /// The text for all time with the verdict, or the line of the fault.
-fn foretold(alloc: Global, options: &Options) -> Result<(String, Option<Verdict>), Fail> {
-    let system = load(alloc, LATE.as_bytes())?;
+fn foretold(
+    alloc: Global,
+    text: &str,
+    options: &Options,
+) -> Result<(String, Option<Verdict>), Fail> {
+    let system = load(alloc, text.as_bytes())?;
     match foretell_alone(alloc, system, options) {
         Ok((verdict, text)) => {
             let text = str::from_utf8(text.as_slice()).unwrap_or("bytes that are no text");
@@ -48,20 +74,29 @@ fn options_that_do_not_go_with_all_time(rt: HostRuntime) -> Result<(), Fail> {
 #[test]
 fn all_time_is_told_in_memory(rt: HostRuntime) -> Result<(), Fail> {
     let far = options(rt.alloc(), 11, 1, &[])?;
-    let (text, verdict) = foretold(rt.alloc(), &far)?;
+    let (text, verdict) = foretold(rt.alloc(), LATE, &far)?;
     assert_eq!(rt; text.as_str(), SO_FAR);
     assert!(rt; verdict == Some(Verdict::Found));
     let near = options(rt.alloc(), 9, 1, &[])?;
-    let (text, verdict) = foretold(rt.alloc(), &near)?;
+    let (text, verdict) = foretold(rt.alloc(), LATE, &near)?;
     assert_eq!(rt; text.as_str(), NOTHING_YET);
     assert!(rt; verdict == Some(Verdict::Open));
     Ok(())
 }
 
 #[test]
+fn a_guest_that_only_computes_spins(rt: HostRuntime) -> Result<(), Fail> {
+    let options = options(rt.alloc(), 1_000, 1, &[])?;
+    let (text, verdict) = foretold(rt.alloc(), GUEST, &options)?;
+    assert_eq!(rt; text.as_str(), FOR_EVER);
+    assert!(rt; verdict == Some(Verdict::Clean));
+    Ok(())
+}
+
+#[test]
 fn an_unknown_name_is_refused_for_all_time(rt: HostRuntime) -> Result<(), Fail> {
     let options = options(rt.alloc(), 11, 1, &["tick"])?;
-    let (text, verdict) = foretold(rt.alloc(), &options)?;
+    let (text, verdict) = foretold(rt.alloc(), LATE, &options)?;
     let expected = "mcscheck: --allow-lost: no notification is called \"tick\": there is none";
     assert_eq!(rt; text.as_str(), expected);
     assert!(rt; verdict.is_none());
