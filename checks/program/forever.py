@@ -52,6 +52,34 @@ thread = [
     ] },
 ]
 '''
+# where the guest is in its script never comes again, and decides nothing else
+GUEST = '''version = 1
+cores = 1
+delay = 1
+context = [{ name = "loop", core = 0, budget = 3, period = 10 }, { name = "guest", core = 0, budget = 10, period = 10 }]
+thread = [
+    { name = "Loop", context = "loop", priority = 9, deadline = 5, script = ["compute 2", "yield"] },
+    { name = "Guest", context = "guest", priority = 1, script = ["compute 1000000"] },
+]
+'''
+# core 0 stands at 272 as at 172, but for what is left of the guest's compute: at 1434 it signals, and Loop is overdue from then on
+SIGNALS = '''version = 1
+cores = 1
+delay = 1
+context = [
+    { name = "loop", core = 0, budget = 3, period = 10 },
+    { name = "guest", core = 0, budget = 10, period = 10 },
+    { name = "alarm", core = 0, budget = 10, period = 10 },
+]
+note = [{ name = "n", core = 0 }]
+thread = [
+    { name = "Loop", context = "loop", priority = 9, deadline = 5, script = ["compute 2", "yield"] },
+    { name = "Alarm", context = "alarm", priority = 10, script = ["wait n", "compute 1000000000"] },
+    { name = "Guest", context = "guest", priority = 1, script = ["compute 1000", "signal n 1"] },
+]
+'''
+# a thread that may as well spin, and three that may not
+GUESTS = ({}, {}, {}, {'deadline': 500}, {'rounds': 9}, {'script': ['compute 9', 'yield']})
 HORIZONS = (30, 100, 400, 1000, 1000, 1500)
 # a schedule of more rows takes the plain reading too long
 MOST_ROWS = 10_000
@@ -61,7 +89,7 @@ SEEN = (
     'status 0', 'status 1', 'status 5', 'status 6', 'a set of several cores', 'a core of a larger set', 'repeats', 'open', 'at rest', 'rounds that go on',
     'miss in each period', 'miss before alone', 'miss so far', 'lost in each period', 'lost before alone', 'lost so far', 'overdue', 'overdue so far',
     'never', 'never so far', 'greatest', 'no greatest', 'throttled never', 'throttled', 'ends no round', 'ends rounds', 'clean', 'a lost signal that is allowed',
-    'an order', 'interrupts without end', 'interrupts that ended', 'a server that is entered', 'clean without a deadline', 'untaken', 'untaken so far',
+    'computes', 'computes so far', 'computes and is never throttled', 'an order', 'interrupts without end', 'interrupts that ended', 'a server that is entered', 'clean without a deadline', 'untaken', 'untaken so far',
 )
 
 
@@ -147,6 +175,9 @@ class Trial:
             self.seen[f'{kind}{so_far}'] += 1
         elif kind in ('miss', 'lost'):
             self.seen[f'{kind}{so_far or (" in each period" if values["each_period"] else " before alone")}'] += 1
+        elif kind == 'computes':
+            self.seen[f'{kind}{so_far}'] += 1
+            self.seen['computes and is never throttled'] += 'throttled' in values
         elif kind == 'thread':
             self.seen['greatest' if values['greatest'] is not None else 'no greatest'] += 1
             self.seen['throttled never' if 'throttled' in values else 'throttled'] += 1
@@ -162,6 +193,7 @@ class Trial:
                 clean = sum(each.claim.is_clean for each in told)
                 self.count.expect(f'{file.stem}: {clean} sets in which nothing is ever found', clean == repeating == len(told))
         self.taken()
+        self.guests()
         self.refused(next(iter(KNOWN)))
 
     def taken(self) -> None:
@@ -170,6 +202,13 @@ class Trial:
         self.count.expect(f'taken: {[each.claim for each in told]}', [each.claim.is_clean for each in told] == [True, True])
         ends = [common.run([self.checker, f'--horizon={horizon}'], TAKEN.encode()).status for horizon in (1000, 1022)]
         self.count.expect(f'taken: status {ends} at horizons 1000 and 1022', ends == [0, 0])
+
+    def guests(self) -> None:
+        """A guest that only computes is no reason not to repeat; one that signals later is."""
+        told = self.agrees(System('guest', GUEST, 1000))
+        self.count.expect(f'guest: {[each.claim for each in told]}', [each.claim.is_clean for each in told] == [True])
+        told = self.agrees(System('signals', SIGNALS, 1000))
+        self.count.expect(f'signals: {[each.claim for each in told]}', [each.claim.start for each in told] == [None])
 
     def refused(self, file: pathlib.Path) -> None:
         """Words that do not go with the option: one line says so."""
@@ -188,7 +227,19 @@ def random_system(name: str) -> tuple[System, list[str], list[str]]:
     notes = [note['name'] for note in tables.get('note', [])]
     allowed = [note for note in notes if rng.random() < 0.5] if rng.random() < 0.3 else []
     words = [*allowing(allowed), *['--workers=2'] * (rng.random() < 0.3)]
+    if rng.random() < 0.4:
+        add_guest(rng, tables)
     return System(name.replace(' ', '-'), text_of(tables), rng.choice(HORIZONS)), words, allowed
+
+
+def add_guest(rng: random.Random, tables: Tables) -> None:
+    """Adds a thread that only computes, or nearly so."""
+    period = rng.choice([10, 20, 40])
+    context = {'name': 'of_guest', 'core': rng.randrange(tables['cores']), 'budget': rng.randint(1, period), 'period': period}
+    thread = {'name': 'Guest', 'context': 'of_guest', 'priority': rng.choice([0, 1, 1, 5, 255])}
+    script = [f'compute {rng.choice([1, 7, 19, 53, 1000, 1000000])}' for _ in range(rng.choice([1, 1, 2, 3]))]
+    tables.setdefault('context', []).append(context)
+    tables.setdefault('thread', []).append({**thread, 'script': script, **rng.choice(GUESTS)})
 
 
 def main() -> None:

@@ -382,7 +382,8 @@ class Trial:
         tables = tomllib.loads(text)
         claims, groups = forever.claims_of(ran.stdout.decode()), forever.core_sets(tables)
         self.count.expect(f'{name}: {ran}', len(claims) == len(groups))
-        system = System(tables)
+        # threads that only compute spin in what is said
+        system = System({**tables, 'thread': [forever.spun(thread) for thread in tables.get('thread', [])]})
         for what, group, claim, seen in zip(self.names(name, groups), groups, claims, Search(system, groups).run(self.horizon)):
             if claim.start is not None:
                 wrong = Claimed(system, group, claim).wrong(claim.is_clean)

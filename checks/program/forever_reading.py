@@ -50,6 +50,15 @@ def core_sets(tables: Tables) -> list[CoreSet]:
     return [CoreSet(cores, tuple(own)) for cores, own in sets.items()]
 
 
+def only_computes(thread: Values) -> bool:
+    """Whether a thread may as well spin: it has no deadline and no last round, and computes alone."""
+    return not (thread.get('deadline', 0) or thread.get('rounds', 0)) and all(item.split()[0] == 'compute' for item in thread['script'])
+
+
+def spun(thread: Values) -> Values:
+    return {**thread, 'script': ['spin']} if only_computes(thread) else thread
+
+
 class Claim(NamedTuple):
     """What is claimed of a set: from which moment on it repeats with which period, or neither, and whether nothing is ever found."""
 
@@ -101,19 +110,27 @@ def moment_of(line: str) -> int:
 
 
 class Told:
-    """What is to be told of a set, by the rows of all cores, which are to go as far as its claim does."""
+    """What is to be told of a set, by the rows of all cores, which are to go as far as its claim does.
+
+    Threads that only compute spin in it, so the ends of their rounds are no rows of it."""
 
     def __init__(self, tables: Tables, lines: Sequence[str], group: CoreSet, claim: Claim, horizon: int) -> None:
         self.group, self.claim, self.horizon = group, claim, horizon
         places = {context['name']: context['core'] for context in tables.get('context', [])}
         threads = [thread for thread in tables.get('thread', []) if places[thread['context']] in group.cores]
-        self.tables = {**tables, 'thread': threads}
+        self.tables = {**tables, 'thread': [spun(thread) for thread in threads]}
+        self.left_out = {thread['name'] for thread in threads if only_computes(thread)}
         self.own = [thread['name'] for thread in threads if places[thread['context']] in group.own]
         self.notes = [note['name'] for note in tables.get('note', []) if note['core'] in group.own]
-        self.lines = [line for line in lines if core_of(line) in group.cores]
+        self.lines = [line for line in lines if core_of(line) in group.cores and not self.is_left_out(line)]
         self.whole = self.reading(claim.far(horizon))
         # the last moment of the first period, or the horizon
         self.end = horizon if claim.end is None else claim.end - 1
+
+    def is_left_out(self, line: str) -> bool:
+        """Whether a row is the end of a round of a thread that only computes."""
+        words = line.split()
+        return words[2] == 'round' and words[3] in self.left_out
 
     @functools.cache
     def reading(self, horizon: int) -> Reading:
@@ -309,11 +326,13 @@ class Told:
         rounds = [row for row in self.whole.rows if row.kind == 'round' and row.what[1] == thread]
         responses = [row.moment - self.whole.ended_by(row).since for row in rounds]
         greatest = max(responses, default=None)
+        is_spent = any(row.kind == 'stop' and row.what[2] == 'spent' for row in self.whole.whole.of_thread(thread))
+        never = {} if is_spent or self.claim.start is None else {'throttled': 'never'}
+        if self.whole.threads[thread]['script'] == ['spin']:
+            return {'kind': 'computes', 'thread': thread, **never}
         if self.claim.start is None:
             return {'kind': 'thread_so_far', 'thread': thread, 'greatest': greatest}
-        is_spent = any(row.kind == 'stop' and row.what[2] == 'spent' for row in self.whole.whole.of_thread(thread))
         ends_again = any(self.claim.start <= row.moment for row in rounds)
-        never = {} if is_spent else {'throttled': 'never'}
         return {'kind': 'thread', 'thread': thread, 'greatest': greatest, **never, **({} if ends_again else {'ends_no_round_from': self.claim.start})}
 
     def findings(self, allowed: Sequence[str]) -> Iterator[Values]:
@@ -369,6 +388,8 @@ def line_of(values: Values) -> str:
             return f'overdue {thread} at {moment}'
         case {'kind': 'never', 'thread': thread, 'moment': moment}:
             return f'never {thread} up to {moment}'
+        case {'kind': 'computes', 'thread': thread}:
+            return f'thread {thread}: computes without end{", throttled: never" if "throttled" in values else ""}'
         case {'kind': 'thread_so_far', 'thread': thread, 'greatest': greatest}:
             return f'thread {thread}: greatest response {dashed(greatest)} so far'
         case {'kind': 'thread', 'thread': thread, 'greatest': greatest}:

@@ -186,6 +186,60 @@ SHARED_TEXT = IN_TIME.replace('never\nnothing is ever found\n', 'never\nthread S
     'threads 2', 'threads 3')
 
 
+# G has 4 ticks of each 10 behind T, and only computes: each third of its ticks ends a round of it, and the other rows repeat
+GUEST = '''version = 1
+cores = 1
+delay = 1
+context = [{ name = "t", core = 0, budget = 1, period = 10 }, { name = "g", core = 0, budget = 4, period = 10 }]
+thread = [
+    { name = "T", context = "t", priority = 9, deadline = 12, script = ["compute 1"] },
+    { name = "G", context = "g", priority = 1, script = ["compute 3"] },
+]
+'''
+GUEST_FIRST = '''0 0 release T
+0 0 release G
+0 0 run T
+1 0 round T 1 1
+1 0 stop T spent 1 until 10
+1 0 run G
+5 0 stop G spent 4 until 10
+'''
+GUEST_NEXT = '''{0}0 0 release T
+{0}0 0 release G
+{0}0 0 run T
+{0}1 0 round T {1} 10
+{0}1 0 stop T spent 1 until {1}0
+{0}1 0 run G
+{0}5 0 stop G spent 4 until {1}0
+'''
+GUEST_TEXT = '''cores 0: repeats from 5 with period 10
+thread T: greatest response 1
+thread G: computes without end
+nothing is ever found
+sets 1 repeating 1 findings 0 threads 2 deadlines 1
+'''
+GUEST_AS_JSON = '''{"kind":"repeats","cores":"0","from":5,"period":10}
+{"kind":"thread","thread":"T","greatest":1}
+{"kind":"computes","thread":"G"}
+{"kind":"clean","cores":"0"}
+{"kind":"sets","sets":1,"repeating":1,"findings":0,"threads":2,"deadlines":1}
+'''
+
+
+def with_rounds(text: str) -> str:
+    """The rows with the rounds of G: the tick 3 k of it is one of its four ticks in some 10."""
+    found = text.splitlines(keepends=True)
+    far = forever_reading.moment_of(found[-1])
+    for number in range(1, far):
+        turn, place = divmod(3 * number - 1, 4)
+        moment = 10 * turn + 2 + place
+        if moment > far:
+            return ''.join(found)
+        behind = next(at for at, line in enumerate(found) if forever_reading.moment_of(line) >= moment)
+        found.insert(behind, f'{moment} 0 round G {number} 9\n')
+    return ''.join(found)
+
+
 def rows(first: str, later: str, far: int) -> str:
     """The rows up to a moment."""
     text = first + ''.join(later.format(n, n + 1) for n in range(1, far // 10 + 1))
@@ -215,6 +269,8 @@ def as_json(text: str) -> str:
                 found.append({'kind': 'never', 'thread': name})
             case ['overdue' | 'never' as kind, name, *_, moment]:
                 found.append({'kind': kind, 'thread': name, 'moment': int(moment)})
+            case ['thread', name, 'computes', 'without', 'end', *rest]:
+                found.append({'kind': 'computes', 'thread': name, **({'throttled': 'never'} if rest else {})})
             case ['thread', name, 'greatest', 'response', greatest, *rest]:
                 number = {} if greatest == '-' else {'greatest': int(greatest)}
                 of = 'thread_so_far' if rest == ['so', 'far'] else 'thread'
@@ -295,7 +351,29 @@ class RightPrograms(Programs):
         self.assertEqual((self.seen['overdue'], self.seen['untaken'], self.seen['lost in each period']), (1, 1, 1))
 
 
+    def test_a_thread_that_computes_without_end(self) -> None:
+        self.assertEqual(as_json(GUEST_TEXT), GUEST_AS_JSON)
+        self.assertEqual(self.failed(GUEST, GUEST_TEXT, 0, GUEST_FIRST, GUEST_NEXT, rows_wrong=with_rounds), 0)
+        self.assertEqual((self.seen['computes'], self.seen['computes and is never throttled'], self.seen['clean']), (1, 0, 1))
+        # the same without the rounds, if it spins
+        spins = GUEST.replace('version = 1', 'version = 3').replace('compute 3', 'spin')
+        self.assertEqual(self.failed(spins, GUEST_TEXT, 0, GUEST_FIRST, GUEST_NEXT), 0)
+
+
 class WrongPrograms(Programs):
+    def test_a_thread_that_computes_without_end(self) -> None:
+        for old, new in (
+            ('without end', 'without end, throttled: never'), ('G: computes without end', 'G: greatest response 9'),
+            ('T: greatest response 1', 'T: computes without end'), ('thread G: computes without end\n', ''),
+        ):
+            self.assertIn(old, GUEST_TEXT)
+            written = GUEST_TEXT.replace(old, new)
+            self.assertGreaterEqual(self.failed(GUEST, written, 0, GUEST_FIRST, GUEST_NEXT, rows_wrong=with_rounds), 1, new)
+        # its place decides something if it has a deadline, a last round, or an item that does something
+        for old, new in (('priority = 1', 'priority = 1, deadline = 99'), ('priority = 1', 'priority = 1, rounds = 99'), ('"compute 3"', '"compute 3", "yield"')):
+            self.assertIn(old, GUEST)
+            self.assertGreaterEqual(self.failed(GUEST.replace(old, new), GUEST_TEXT, 0, GUEST_FIRST, GUEST_NEXT, rows_wrong=with_rounds), 1, new)
+
     def test_a_line_for_ever_that_the_rows_contradict(self) -> None:
         for old, new in (
             ('round 1 activated 1', 'round 2 activated 1'), ('activated 1', 'activated 2'), ('set 11', 'set 21'), ('word 1', 'word 2'), ('by U', 'by T'),
