@@ -298,6 +298,18 @@ class Foretold(unittest.TestCase):
         self.assertEqual([(one.unsettled, one.is_clean) for one in found.sets], [(('A', 'B'), False)])
         self.assertEqual((found.is_clean, found.is_judged), (True, False))
 
+    def test_a_guest_that_only_computes(self) -> None:
+        # the loop has 3 ticks of each 10 and the guest the rest; where the guest is in its script never comes again
+        system = mcsim.System(
+            contexts=[mcsim.Context('loop', 0, 3, 10), mcsim.Context('guest', 0, 10, 10)],
+            threads=[
+                mcsim.Thread('Loop', 'loop', 9, ['compute 2', 'yield'], deadline=5),
+                mcsim.Thread('Guest', 'guest', 1, ['compute 1000000']),
+            ],
+        )
+        one, = system.forever(1000).sets
+        self.assertEqual((one.is_clean, one.responses[1]), (True, mcsim.Response('Guest', computes_without_end=True)))
+
     def test_an_outlook_that_was_cut_off(self) -> None:
         with self.assertRaises(EOFError):
             forever.outlook_of(b'{"kind":"open","cores":"0","horizon":9}\n')

@@ -62,15 +62,18 @@ class EndsUntaken:
 class Response:
     """The greatest response of the jobs of a thread that ever end, None if none does; of those up to the horizon if `is_so_far`.
 
-    `throttled` is 'never' if the thread never exhausts its budget. No job of it ends from the time `ends_no_round_from` on, if that is not None."""
+    `throttled` is 'never' if the thread never exhausts its budget. No job of it ends from the time `ends_no_round_from` on, if that is not None. With
+    `computes_without_end` the thread spins, or may as well, and has no response."""
 
     thread: str
     greatest: Optional[int] = None
     throttled: Optional[str] = None
     ends_no_round_from: Optional[int] = None
     is_so_far: bool = False
+    computes_without_end: bool = False
 
 
+RESPONSES = ('thread', 'computes', 'thread_so_far')
 EverFinding = Union[Misses, Losses, EndsOverdue, EndsNever, EndsUntaken]
 FINDINGS: Mapping[str, type[EverFinding]] = {
     'miss': Misses, 'lost': Losses, 'overdue': EndsOverdue, 'never': EndsNever, 'untaken': EndsUntaken,
@@ -133,7 +136,8 @@ class Outlook:
 
 
 def response_of(kind: str, values: dict[str, Any]) -> Response:
-    return Response(values['thread'], values.get('greatest'), values.get('throttled'), values.get('ends_no_round_from'), kind == 'thread_so_far')
+    is_so_far, computes = kind == 'thread_so_far', kind == 'computes'
+    return Response(values['thread'], values.get('greatest'), values.get('throttled'), values.get('ends_no_round_from'), is_so_far, computes)
 
 
 def finding_of(kind: str, values: dict[str, Any]) -> EverFinding:
@@ -148,7 +152,7 @@ def set_of(values: dict[str, Any], told: Sequence[tuple[str, dict[str, Any]]]) -
     return CoreSet(
         tuple(map(int, values['cores'].split())), values.get('from'), values.get('period'),
         tuple(finding_of(kind, found) for kind, found in told if kind in FINDINGS),
-        tuple(response_of(kind, found) for kind, found in told if kind in ('thread', 'thread_so_far')),
+        tuple(response_of(kind, found) for kind, found in told if kind in RESPONSES),
         tuple(found['thread'] for kind, found in told if kind == 'unsettled'),
         any(kind == 'clean' for kind, _ in told),
     )
