@@ -81,8 +81,8 @@ pub enum Line {
         thread: ThreadId,
         moment: Tick,
     },
-    /// Nobody has taken the word of the notification, and whoever takes it misses its deadline at
-    /// this time; no recurrence was found.
+    /// Nobody has taken the word of the notification, and each thread that takes it misses its
+    /// deadline at this time; no recurrence was found.
     Untaken {
         note: NoteId,
         moment: Tick,
@@ -114,8 +114,9 @@ pub enum Line {
         never_throttled: bool,
         silent_from: Option<Tick>,
     },
-    /// The thread computes without end: its script is the one item `spin`. No round of it ever ends.
-    /// Also whether it never stops with its budget exhausted; `false` if no recurrence was found.
+    /// The thread computes without end: its script is the one item `spin`, and no round of it ever
+    /// ends. Also whether it never stops with its budget exhausted; `false` if no recurrence was
+    /// found.
     Computes {
         thread: ThreadId,
         never_throttled: bool,
