@@ -321,12 +321,13 @@ module _ (system : System) (well : IsWellFormed system) (allowed set own : List 
       (λ yes.
       let mine = within_set (core_of system (thread_part system thread)) yes in
       told-so thread (not (get_or after.spent thread false)) (silent_from p.from (get_or (ended_between system p.from (p.from + p.ticks)) thread false))
-      (spins script) (get_or after.greatest thread None) (spins-alone script) record {
+      (spins script) (get_or after.greatest thread None) (spins-alone script)
+      (record {
         longest = longest-so thread l mine greatest_law;
         reached = reached-so thread l mine greatest_law;
         throttled = throttled-so thread l mine spent_law;
         silent = silent-so thread l mine silent_law tell (get_or (ended_between system p.from (p.from + p.ticks)) thread false) refl;
-      })
+      }))
 
   clean-so : (found : List Line) → (found ≡ [] → NothingIsEverFound system allowed own p) → AllByRecursion Holds (clean_lines set found)
   clean-so [] nothing = (nothing refl, tt)

@@ -114,9 +114,9 @@ pub enum Line {
         never_throttled: bool,
         silent_from: Option<Tick>,
     },
-    /// The thread computes without end: its script is the one item `spin`, and no round of it ever
-    /// ends. Also whether it never stops with its budget exhausted; `false` if no recurrence was
-    /// found.
+    /// The thread computes without end: its script is the one item `spin`, and none of its rounds
+    /// ever ends. Also whether it never stops with its budget exhausted; `false` if no recurrence
+    /// was found.
     Computes {
         thread: ThreadId,
         never_throttled: bool,
