@@ -351,10 +351,22 @@ fn append_computes(
     ensures ok { OnOk result (text.new.items ≡ text.old.items ++ words_text system.now (Computes thread never_throttled)) }
     ensures kept { StartsWith text.new.items text.old.items }
 {
-    let words = [
-        Word::Named(thread_name(system, thread)),
-        Word::Plain("computes without end"),
-    ];
+    let name = thread_name(system, thread);
+    append_doing(text, name, "computes without end", never_throttled)
+}
+
+/// Appends what a thread does for ever, and that it is never throttled, if that is so.
+fn append_doing<'s>(
+    text: &mut Vec<u8>,
+    name: &'s str,
+    does: &'s str,
+    never_throttled: bool,
+) -> Result<(), NoMemory>
+    ensures ok { OnOk result (text.new.items ≡ text.old.items ++ line (codes "thread") (named name.now
+        ∷ (does.now ++ throttled_text never_throttled) ∷ [])) }
+    ensures kept { StartsWith text.new.items text.old.items }
+{
+    let words = [Word::Named(name), Word::Plain(does)];
     append_words(text, "thread", &words)?;
     append_throttled(text, never_throttled)?;
     text.push(b'\n')?;
