@@ -13,7 +13,7 @@ import random
 import sys
 import tomllib
 from collections.abc import Sequence
-from typing import Optional
+from typing import Any, Optional
 
 sys.dont_write_bytecode = True
 sys.path[0] = str(pathlib.Path(__file__).resolve().parents[2])
@@ -79,7 +79,7 @@ thread = [
 ]
 '''
 # a thread that may as well spin, and three that may not
-GUESTS = ({}, {}, {}, {'deadline': 500}, {'rounds': 9}, {'script': ['compute 9', 'yield']})
+GUESTS: tuple[dict[str, Any], ...] = ({}, {}, {}, {'deadline': 500}, {'rounds': 9}, {'script': ['compute 9', 'yield']})
 HORIZONS = (30, 100, 400, 1000, 1000, 1500)
 # a schedule of more rows takes the plain reading too long
 MOST_ROWS = 10_000
@@ -236,7 +236,7 @@ def add_guest(rng: random.Random, tables: Tables) -> None:
     """Adds a thread that only computes, or nearly so."""
     period = rng.choice([10, 20, 40])
     context = {'name': 'of_guest', 'core': rng.randrange(tables['cores']), 'budget': rng.randint(1, period), 'period': period}
-    thread = {'name': 'Guest', 'context': 'of_guest', 'priority': rng.choice([0, 1, 1, 5, 255])}
+    thread: dict[str, Any] = {'name': 'Guest', 'context': 'of_guest', 'priority': rng.choice([0, 1, 1, 5, 255])}
     script = [f'compute {rng.choice([1, 7, 19, 53, 1000, 1000000])}' for _ in range(rng.choice([1, 1, 2, 3]))]
     tables.setdefault('context', []).append(context)
     tables.setdefault('thread', []).append({**thread, 'script': script, **rng.choice(GUESTS)})
