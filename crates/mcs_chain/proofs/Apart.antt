@@ -65,12 +65,12 @@ apart-stays chain moment (Start source badge) o e p a =
     not-then (source == chain.source) (started moment badge o) (rest o) e ∙ rest-is o p a
 apart-stays chain moment (Give thread places badge) o e p a =
     ap (λ marks. record (rest o) { posted = given places badge marks }) (none-is (get_or o.carried thread []) e) ∙ rest-is o p a
-apart-stays chain moment (Send thread places badge maker made) o e p a =
-    ap (λ marks. sets_out maker made (given places badge marks) o) (none-is (get_or o.carried thread []) e)
+apart-stays chain moment (Send thread places badge note maker made) o e p a =
+    ap (λ marks. sets_out note maker made (given places badge marks) o) (none-is (get_or o.carried thread []) e)
     ∙ ap (λ sent. record (rest o) { under_way = sent }) (append-nil o.under_way) ∙ rest-is o p a
-apart-stays chain moment (Land maker made) o e p a =
+apart-stays chain moment (Land note maker made) o e p a =
     let none = none-is o.under_way e in
-    ap (λ all. record (rest o) { posted = map (λ (sent : Sent). sent.mark) (filter (is_sent maker made) all); under_way = filter (λ sent. not (is_sent maker made sent)) all }) none
+    ap (λ all. record (rest o) { posted = map (λ (sent : Sent). sent.mark) (filter (is_sent note maker made) all); under_way = filter (λ sent. not (is_sent note maker made sent)) all }) none
     ∙ ap (λ sent. record (rest o) { under_way = sent }) (sym none) ∙ rest-is o p a
 apart-stays chain moment (Hold note) o e p a =
     ap (λ sets. record (rest o) { held = sets }) (sym (joins-none o.posted o.held note p)) ∙ rest-is o p a

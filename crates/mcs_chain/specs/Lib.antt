@@ -2,6 +2,8 @@ pub mod Steps
 pub mod Moves
 pub mod Origins
 pub mod Answers
+pub mod Later
+pub mod State
 pub mod Answering
 pub mod Found
 pub mod Watch

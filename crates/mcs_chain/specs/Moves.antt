@@ -43,14 +43,14 @@ abbrev pub gives : System → Row → ℕ → ℕ → ℕ → Step → Move
 gives system r thread note badge step =
     if is_server system note then Nothing
     else if (note_part system note).core == r.core then Give thread (reach step.handler) badge
-    else Send thread (reach step.handler) badge r.core r.moment
+    else Send thread (reach step.handler) badge note r.core r.moment
 
 -- what a row moves, if the threads are as far as given
 abbrev pub moves_by : System → List Gone → Row → What → Move
 moves_by system all r (row.Interrupt source note badge) = Start source badge
 moves_by system all r (row.Signal thread note badge) =
     gives system r thread note badge (step_of (thread_part system thread) (gone_of all thread))
-moves_by system all r (row.Arrive note badge maker) = Land maker (r.moment - delay_between system maker r.core)
+moves_by system all r (row.Arrive note badge maker) = Land note maker (r.moment - delay_between system maker r.core)
 moves_by system all r (row.Hold note word) = Hold note
 moves_by system all r (row.Wake thread note word until) =
     let part = thread_part system thread in

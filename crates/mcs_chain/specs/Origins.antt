@@ -74,9 +74,9 @@ is_one_of origins origin = list_any (λ other. other == origin) origins
 abbrev pub without : List ℕ → List Mark → List Mark
 without answered set = filter (λ mark. not (is_one_of answered mark.origin)) set
 
--- whether a signal is the one that this core made at this moment
-abbrev pub is_sent : ℕ → ℕ → Sent → Bool
-is_sent maker made sent = sent.maker == maker && sent.made == made
+-- whether a signal is the one that this core made at this moment for this notification
+abbrev pub is_sent : ℕ → ℕ → ℕ → Sent → Bool
+is_sent note maker made sent = sent.note == note && (sent.maker == maker && sent.made == made)
 
 -- whether a round that this word began answers, if the chain has these badges
 abbrev pub is_answer : ℕ → ℕ → Bool
@@ -103,17 +103,17 @@ abbrev pub started : ℕ → ℕ → Origins → Origins
 started moment badge o =
     record (rest o) { posted = record { origin = moment; places = badge } ∷ []; unanswered = o.unanswered ++ moment ∷ [] }
 
-abbrev pub sent : ℕ → ℕ → Mark → Sent
-sent maker made mark = record { maker = maker; made = made; mark = mark }
+abbrev pub sent : ℕ → ℕ → ℕ → Mark → Sent
+sent note maker made mark = record { note = note; maker = maker; made = made; mark = mark }
 
-abbrev pub sets_out : ℕ → ℕ → List Mark → Origins → Origins
-sets_out maker made set o = record (rest o) { under_way = o.under_way ++ map (sent maker made) set }
+abbrev pub sets_out : ℕ → ℕ → ℕ → List Mark → Origins → Origins
+sets_out note maker made set o = record (rest o) { under_way = o.under_way ++ map (sent note maker made) set }
 
-abbrev pub lands : ℕ → ℕ → Origins → Origins
-lands maker made o =
+abbrev pub lands : ℕ → ℕ → ℕ → Origins → Origins
+lands note maker made o =
     record (rest o) {
-      posted = map (λ sent. sent.mark) (filter (is_sent maker made) o.under_way);
-      under_way = filter (λ sent. not (is_sent maker made sent)) o.under_way;
+      posted = map (λ sent. sent.mark) (filter (is_sent note maker made) o.under_way);
+      under_way = filter (λ sent. not (is_sent note maker made sent)) o.under_way;
     }
 
 abbrev pub holds : ℕ → Origins → Origins
@@ -152,8 +152,8 @@ module _ (chain : ChainPart) where
   moved moment Nothing o = rest o
   moved moment (Start source badge) o = if source == chain.source then started moment badge o else rest o
   moved moment (Give thread places badge) o = record (rest o) { posted = given places badge (get_or o.carried thread []) }
-  moved moment (Send thread places badge maker made) o = sets_out maker made (given places badge (get_or o.carried thread [])) o
-  moved moment (Land maker made) o = lands maker made o
+  moved moment (Send thread places badge note maker made) o = sets_out note maker made (given places badge (get_or o.carried thread [])) o
+  moved moment (Land note maker made) o = lands note maker made o
   moved moment (Hold note) o = holds note o
   moved moment (Wake thread taking) o = takes thread (taken taking o.posted) o
   moved moment (Got thread note taking) o = gets thread note taking o

@@ -34,11 +34,12 @@ pub enum Move {
     Start(SourceId, u32),
     /// The thread posts with this badge what it has at these places.
     Give(ThreadId, u64, u32),
-    /// The thread's signal leaves this core at this moment, with this badge, and carries what the
-    /// thread has at these places.
-    Send(ThreadId, u64, u32, CoreId, u64),
-    /// The signal arrives that this core made at this moment. It posts what it carries.
-    Land(CoreId, u64),
+    /// The thread's signal to the notification leaves this core at this moment, with this badge,
+    /// and carries what the thread has at these places.
+    Send(ThreadId, u64, u32, NoteId, CoreId, u64),
+    /// The signal to the notification arrives that this core made at this moment. It posts what it
+    /// carries.
+    Land(NoteId, CoreId, u64),
     /// The notification holds what was posted.
     Hold(NoteId),
     /// The thread takes what was posted.
@@ -140,6 +141,7 @@ fn gives(
             thread,
             reach(step.handler),
             badge,
+            note,
             row.core,
             row.moment.get(),
         )
@@ -157,9 +159,9 @@ pub(crate) fn moves(parts: &SystemParts, all: &[Gone], row: &Row) -> Move
             note,
             badge,
         } => gives(parts, row, thread, note, badge, step_at(parts, all, thread)),
-        What::Arrive { maker, .. } => {
+        What::Arrive { note, maker, .. } => {
             let delay = delay_between(parts, maker, row.core);
-            Move::Land(maker, row.moment.get().saturating_sub(delay))
+            Move::Land(note, maker, row.moment.get().saturating_sub(delay))
         }
         What::Hold { note, .. } => Move::Hold(note),
         What::Wake { thread, .. } => Move::Wake(thread, how_taken(parts, all, thread)),

@@ -33,7 +33,7 @@ pub(crate) struct One {
     /// The slow answers of the latest moment.
     late: Vec<Late>,
     /// How many slow answers there are, at most 2^64 - 1.
-    slow: u64,
+    pub(crate) slow: u64,
     /// How many answers are judged, at most 2^64 - 1.
     judged: u64,
 }

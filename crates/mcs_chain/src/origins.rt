@@ -1,5 +1,5 @@
 //! The sets of origins without an answer.
-ghost use Rattle.std.specs.Prelude.{◌≡◌, [], ◌++◌, ◌&&◌, map, filter, not, get_or, length, slice_set, take, OnOk, OnErr, IfOk};
+ghost use Rattle.std.specs.Prelude.{◌≡◌, [], ◌++◌, ◌&&◌, map, filter, not, get_or, length, reverse, slice_set, take, OnOk, OnErr, IfOk};
 ghost use Rattle.mcs_chain.specs.Origins.{join, given, taken, sent, is_sent, is_one_of, without, is_answer, no_origins, rest, started, sets_out, lands, holds, takes, gets, ends, answers, moved};
 ghost use Rattle.mcs_chain.specs.stored.Still.{are_apart, is_none};
 
@@ -14,9 +14,9 @@ use std::marker::Model;
 /// The sets of origins of a chain.
 #[derive(Debug, Drop)]
 pub(crate) struct Origins {
-    held: Vec<Set>,
-    carried: Vec<Set>,
-    under_way: Vec<Sent>,
+    pub(crate) held: Vec<Set>,
+    pub(crate) carried: Vec<Set>,
+    pub(crate) under_way: Vec<Sent>,
     posted: Set,
     unanswered: Vec<Tick>,
     answered: Vec<Tick>,
@@ -35,6 +35,16 @@ fn none_held(alloc: Global, parts: &SystemParts) -> Result<Vec<Set>, NoMemory>
 {
     let notes = parts.notes.as_slice();
     Ok(notes.iter().map(|_| Set::empty()).collect(alloc)?)
+}
+
+fn copied(alloc: Global, sets: &[Set]) -> Result<Vec<Set>, NoMemory>
+    ensures { IfOk result (λ copy. copy.items ≡ sets.now) }
+{
+    let mut copy = Vec::with_capacity(alloc, sets.len())?;
+    for set in sets {
+        copy.push(set.copied(alloc)?)?;
+    }
+    Ok(copy)
 }
 
 fn none_carried(alloc: Global, parts: &SystemParts) -> Result<Vec<Set>, NoMemory>
@@ -83,63 +93,78 @@ fn drop_from_origins(origins: &mut Vec<Tick>, answered: &[Tick])
     origins.retain(|origin| !is_one_of(answered, *origin));
 }
 
-/// Adds a set to the signals to other cores, which this core made at this moment. If memory runs
-/// out, they are unchanged.
-fn send(under_way: &mut Vec<Sent>, maker: CoreId, made: u64, set: &Set) -> Result<(), NoMemory>
-    ensures ok { OnOk result (under_way.new.items ≡ under_way.old.items ++ map (sent maker made) set.now) }
+/// Adds a set to the signals to other cores: this core made one for the notification at this
+/// moment. If memory runs out, they are unchanged.
+fn send(
+    under_way: &mut Vec<Sent>,
+    note: NoteId,
+    maker: CoreId,
+    made: u64,
+    set: &Set,
+) -> Result<(), NoMemory>
+    ensures ok { OnOk result (under_way.new.items ≡ under_way.old.items ++ map (sent note maker made) set.now) }
     ensures err { OnErr result (under_way.new.items ≡ under_way.old.items) }
 {
     let start = under_way.len();
-    let result = append_sent(under_way, maker, made, set.as_slice());
+    let result = append_sent(under_way, note, maker, made, set.as_slice());
     if result.is_err() {
         under_way.truncate(start);
     }
     result
 }
 
+/// Appends the origins that a signal carries, which are given the earliest first.
 fn append_sent(
     under_way: &mut Vec<Sent>,
+    note: NoteId,
     maker: CoreId,
     made: u64,
     marks: &[Mark],
 ) -> Result<(), NoMemory>
-    ensures ok { OnOk result (under_way.new.items ≡ under_way.old.items ++ map (sent maker made) marks.now) }
+    ensures ok { OnOk result (under_way.new.items ≡ under_way.old.items ++ map (sent note maker made) (reverse marks.now)) }
     ensures kept { take (length under_way.old.items) under_way.new.items ≡ under_way.old.items }
 {
-    for mark in marks {
+    for i in (0..marks.len()).rev() {
         under_way.push(Sent {
+            note,
             maker,
             made,
-            mark: *mark,
+            mark: marks[i],
         })?;
     }
     Ok(())
 }
 
-/// Returns what this core sent at this moment.
-fn landed(alloc: Global, under_way: &[Sent], maker: CoreId, made: u64) -> Result<Set, NoMemory>
-    ensures { IfOk result (λ set. set ≡ map (λ sent. sent.mark) (filter (is_sent maker made) under_way.now)) }
+/// Returns what the signal to the notification carries that this core made at this moment.
+fn landed(
+    alloc: Global,
+    under_way: &[Sent],
+    note: NoteId,
+    maker: CoreId,
+    made: u64,
+) -> Result<Set, NoMemory>
+    ensures { IfOk result (λ set. set ≡ map (λ sent. sent.mark) (filter (is_sent note maker made) under_way.now)) }
 {
     let mut landed = Set::empty();
-    for sent in under_way {
-        if is_sent(sent, maker, made) {
-            landed.push(alloc, sent.mark)?;
+    for i in (0..under_way.len()).rev() {
+        if is_sent(&under_way[i], note, maker, made) {
+            landed.push(alloc, under_way[i].mark)?;
         }
     }
     Ok(landed)
 }
 
-fn is_sent(sent: &Sent, maker: CoreId, made: u64) -> bool
-    ensures { result ≡ is_sent maker made sent.now }
+fn is_sent(sent: &Sent, note: NoteId, maker: CoreId, made: u64) -> bool
+    ensures { result ≡ is_sent note maker made sent.now }
 {
-    sent.maker == maker && sent.made == made
+    sent.note == note && (sent.maker == maker && sent.made == made)
 }
 
-/// Lets go of what this core sent at this moment.
-fn drop_sent(under_way: &mut Vec<Sent>, maker: CoreId, made: u64)
-    ensures { under_way.new.items ≡ filter (λ sent. not (is_sent maker made sent)) under_way.old.items }
+/// Lets go of the signal to the notification that this core made at this moment.
+fn drop_sent(under_way: &mut Vec<Sent>, note: NoteId, maker: CoreId, made: u64)
+    ensures { under_way.new.items ≡ filter (λ sent. not (is_sent note maker made sent)) under_way.old.items }
 {
-    under_way.retain(|sent| !is_sent(sent, maker, made));
+    under_way.retain(|sent| !is_sent(sent, note, maker, made));
 }
 
 /// Returns what a signal of the thread carries.
@@ -170,7 +195,7 @@ fn taken_from(alloc: Global, held: &[Set], note: NoteId, taking: Taking) -> Resu
     }
 }
 
-/// Joins a set to the one with this number.
+/// Adds the origins of a set to the one with this number.
 fn join_to(alloc: Global, sets: &mut [Set], number: usize, set: &Set) -> Result<(), NoMemory>
     ensures ok { OnOk result (sets.new ≡ slice_set sets.old number (join set.now (get_or sets.old number []))) }
     ensures err { OnErr result (sets.new ≡ sets.old) }
@@ -179,8 +204,7 @@ fn join_to(alloc: Global, sets: &mut [Set], number: usize, set: &Set) -> Result<
         return Ok(());
     }
     if number < sets.len() {
-        let joined = set.join(alloc, &sets[number])?;
-        sets[number] = joined;
+        sets[number].join(alloc, set)?;
     }
     Ok(())
 }
@@ -214,6 +238,20 @@ impl Origins {
             posted: Set::empty(),
             unanswered: Vec::new(alloc),
             answered: Vec::new(alloc),
+        })
+    }
+
+    /// Returns a copy.
+    pub(crate) fn copied(&self, alloc: Global) -> Result<Self, NoMemory>
+        ensures { IfOk result (λ copy. copy ≡ self.now) }
+    {
+        Ok(Origins {
+            held: copied(alloc, &self.held)?,
+            carried: copied(alloc, &self.carried)?,
+            under_way: Vec::from_slice(alloc, self.under_way.as_slice())?,
+            posted: self.posted.copied(alloc)?,
+            unanswered: Vec::from_slice(alloc, self.unanswered.as_slice())?,
+            answered: Vec::from_slice(alloc, self.answered.as_slice())?,
         })
     }
 
@@ -256,32 +294,29 @@ impl Origins {
         Ok(())
     }
 
-    /// A signal leaves for another core with what the thread has at these places.
-    fn set_out(
-        &mut self,
-        alloc: Global,
-        thread: ThreadId,
-        places: u64,
-        badge: u32,
-        maker: CoreId,
-        made: u64,
-    ) -> Result<(), NoMemory>
-        ensures ok { OnOk result (self.new ≡ sets_out maker made (given places badge (get_or self.old.carried thread [])) self.old) }
+    /// A signal to the notification leaves for another core, and carries this set.
+    fn set_out(&mut self, note: NoteId, maker: CoreId, made: u64, set: &Set) -> Result<(), NoMemory>
+        ensures ok { OnOk result (self.new ≡ sets_out note maker made set.now self.old) }
         ensures err { OnErr result (self.new ≡ self.old) }
     {
-        let given = given_by(alloc, &self.carried, thread, places, badge)?;
-        send(&mut self.under_way, maker, made, &given)?;
+        send(&mut self.under_way, note, maker, made, set)?;
         self.rest();
         Ok(())
     }
 
     /// A signal of another core arrives.
-    fn land(&mut self, alloc: Global, maker: CoreId, made: u64) -> Result<(), NoMemory>
-        ensures ok { OnOk result (self.new ≡ lands maker made self.old) }
+    fn land(
+        &mut self,
+        alloc: Global,
+        note: NoteId,
+        maker: CoreId,
+        made: u64,
+    ) -> Result<(), NoMemory>
+        ensures ok { OnOk result (self.new ≡ lands note maker made self.old) }
         ensures err { OnErr result (self.new ≡ self.old) }
     {
-        let posted = landed(alloc, &self.under_way, maker, made)?;
-        drop_sent(&mut self.under_way, maker, made);
+        let posted = landed(alloc, &self.under_way, note, maker, made)?;
+        drop_sent(&mut self.under_way, note, maker, made);
         self.posted = posted;
         self.answered.clear();
         Ok(())
@@ -377,10 +412,11 @@ impl Origins {
                 Ok(())
             }
             Move::Give(thread, places, badge) => self.give(alloc, thread, places, badge),
-            Move::Send(thread, places, badge, maker, made) => {
-                self.set_out(alloc, thread, places, badge, maker, made)
+            Move::Send(thread, places, badge, note, maker, made) => {
+                let given = given_by(alloc, &self.carried, thread, places, badge)?;
+                self.set_out(note, maker, made, &given)
             }
-            Move::Land(maker, made) => self.land(alloc, maker, made),
+            Move::Land(note, maker, made) => self.land(alloc, note, maker, made),
             Move::Hold(note) => self.hold(alloc, note),
             Move::Wake(thread, taking) => self.wake(alloc, thread, taking),
             Move::Got(thread, note, taking) => self.get(alloc, thread, note, taking),

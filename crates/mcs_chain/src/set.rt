@@ -1,6 +1,7 @@
 //! Sets of origins.
-ghost use Rattle.std.specs.Prelude.{◌≡◌, ◌↔◌, [], ◌∷◌, ◌++◌, map, IfOk, OnOk, OnErr, IsTrue};
-ghost use Rattle.mcs_chain.specs.Origins.{join, is_at, at_places, put_at, keep_at, given, taken, is_one_of, without};
+ghost use Rattle.std.specs.Prelude.{◌≡◌, ◌↔◌, [], ◌∷◌, ◌++◌, map, reverse, take, IfOk, OnOk, OnErr, IsTrue};
+ghost use Rattle.mcs_chain.specs.Origins.{both, join, is_at, at_places, put_at, keep_at, given, taken, is_one_of, without};
+ghost use Rattle.mcs_chain.specs.stored.Sets.{marks_of};
 
 use crate::mark::Mark;
 use crate::moves::Taking;
@@ -16,6 +17,7 @@ pub(crate) struct Set {
     marks: Marks,
 }
 
+/// Many origins have the latest one at the end, so adding a later one is a push.
 #[derive(Debug, Drop)]
 enum Marks {
     Empty,
@@ -88,16 +90,16 @@ impl Set {
     }
 
     fn many(marks: Vec<Mark>) -> Self
-        ensures { result ≡ marks.items }
+        ensures { result ≡ reverse marks.items }
     {
         Set {
             marks: Marks::Many(marks),
         }
     }
 
-    /// The origins.
+    /// The origins, the earliest first.
     pub(crate) fn as_slice(&self) -> &[Mark]
-        ensures { result.now ≡ self.now }
+        ensures { result.now ≡ reverse self.now }
     {
         match &self.marks {
             Marks::Empty => &[],
@@ -118,9 +120,9 @@ impl Set {
         }
     }
 
-    /// Adds an origin after the others. If memory runs out, the set is unchanged.
+    /// Adds an origin as the latest one. If memory runs out, the set is unchanged.
     pub(crate) fn push(&mut self, alloc: Global, mark: Mark) -> Result<(), NoMemory>
-        ensures ok { OnOk result (self.new ≡ self.old ++ mark ∷ []) }
+        ensures ok { OnOk result (self.new ≡ mark ∷ self.old) }
         ensures err { OnErr result (self.new ≡ self.old) }
     {
         match &mut self.marks {
@@ -131,21 +133,21 @@ impl Set {
         Ok(())
     }
 
-    /// The origins of both sets.
-    pub(crate) fn join(&self, alloc: Global, others: &Set) -> Result<Self, NoMemory>
-        ensures { IfOk result (λ set. set ≡ join self.now others.now) }
+    /// Adds the origins of another set. If memory runs out, the set is unchanged.
+    pub(crate) fn join(&mut self, alloc: Global, set: &Set) -> Result<(), NoMemory>
+        ensures ok { OnOk result (self.new ≡ join set.now self.old) }
+        ensures err { OnErr result (self.new ≡ self.old) }
     {
-        match &self.marks {
-            Marks::Empty => others.copied(alloc),
-            Marks::One(mark) if others.is_empty() => Ok(Set::one(*mark)),
-            _ => {
-                let marks = joined(alloc, self.as_slice(), others.as_slice())?;
-                Ok(Set::many(marks))
-            }
+        match &mut self.marks {
+            Marks::Empty => *self = set.copied(alloc)?,
+            Marks::One(mark) => self.marks = join_to_one(alloc, *mark, set)?,
+            Marks::Many(marks) => join_to_many(alloc, marks, set.as_slice())?,
         }
+        Ok(())
     }
 
-    fn copied(&self, alloc: Global) -> Result<Self, NoMemory>
+    /// Returns a copy.
+    pub(crate) fn copied(&self, alloc: Global) -> Result<Self, NoMemory>
         ensures { IfOk result (λ set. set ≡ self.now) }
     {
         match &self.marks {
@@ -201,14 +203,21 @@ impl Set {
     pub(crate) fn origins_at(&self, alloc: Global, places: u64) -> Result<Vec<Tick>, NoMemory>
         ensures { IfOk result (λ origins. origins.items ≡ map (λ mark. mark.origin) (at_places places self.now)) }
     {
-        let origins = self
-            .as_slice()
-            .iter()
-            .filter(|mark| is_at(mark, places))
-            .map(|mark| mark.origin)
-            .collect(alloc)?;
-        Ok(origins)
+        origins_of(alloc, self.as_slice(), places)
     }
+}
+
+/// The origins at these places, in the opposite order.
+fn origins_of(alloc: Global, marks: &[Mark], places: u64) -> Result<Vec<Tick>, NoMemory>
+    ensures { IfOk result (λ origins. origins.items ≡ map (λ mark. mark.origin) (at_places places (reverse marks.now))) }
+{
+    let origins = marks
+        .iter()
+        .rev()
+        .filter(|mark| is_at(mark, places))
+        .map(|mark| mark.origin)
+        .collect(alloc)?;
+    Ok(origins)
 }
 
 fn two(alloc: Global, first: Mark, second: Mark) -> Result<Vec<Mark>, NoMemory>
@@ -291,32 +300,80 @@ fn drop_from_many(marks: &mut Vec<Mark>, answered: &[Tick])
     marks.retain(|mark| !is_one_of(answered, mark.origin));
 }
 
-/// The origins of two sets in one.
-fn joined(alloc: Global, set: &[Mark], others: &[Mark]) -> Result<Vec<Mark>, NoMemory>
-    ensures { IfOk result (λ all. all.items ≡ join set.now others.now) }
+/// One origin of two sets.
+fn both(a: Mark, b: Mark) -> Mark
+    ensures { result ≡ both a b }
+{
+    Mark {
+        origin: a.origin,
+        places: a.places | b.places,
+    }
+}
+
+/// The origins of a set and this one.
+fn join_to_one(alloc: Global, mark: Mark, set: &Set) -> Result<Marks, NoMemory>
+    ensures { IfOk result (λ marks. marks_of marks ≡ join set.now (mark ∷ [])) }
+{
+    if let Marks::One(other) = &set.marks
+        && other.origin == mark.origin
+    {
+        return Ok(Marks::One(both(*other, mark)));
+    }
+    let mut marks = Vec::new(alloc);
+    marks.push(mark)?;
+    join_to_many(alloc, &mut marks, set.as_slice())?;
+    Ok(Marks::Many(marks))
+}
+
+/// Adds origins to many. If memory runs out, these are unchanged. It looks only at those that are
+/// not earlier than all added ones.
+fn join_to_many(alloc: Global, marks: &mut Vec<Mark>, set: &[Mark]) -> Result<(), NoMemory>
+    ensures ok { OnOk result (reverse marks.new.items ≡ join (reverse set.now) (reverse marks.old.items)) }
+    ensures err { OnErr result (marks.new.items ≡ marks.old.items) }
+{
+    if set.len() == 1 && is_latest(set[0], marks) {
+        marks.push(set[0])?;
+        return Ok(());
+    }
+    let (mut joined, kept) = joined(alloc, set, marks)?;
+    joined.reverse();
+    marks.reserve(joined.len())?;
+    marks.truncate(kept);
+    marks.extend_from_slice(&joined)?;
+    Ok(())
+}
+
+/// Whether an origin is later than the last one of many.
+fn is_latest(mark: Mark, marks: &[Mark]) -> bool
+    ensures { IsTrue result → join (mark ∷ []) (reverse marks.now) ≡ mark ∷ reverse marks.now }
+{
+    match marks.last() {
+        Some(last) => last.origin < mark.origin,
+        None => true,
+    }
+}
+
+/// Returns the origins of a set and those of many that are not earlier than all of the set, the
+/// latest first; and how many of the many are left.
+fn joined(alloc: Global, set: &[Mark], marks: &[Mark]) -> Result<(Vec<Mark>, usize), NoMemory>
+    ensures { IfOk result (λ r. r.0.items ++ reverse (take r.1 marks.now) ≡ join (reverse set.now) (reverse marks.now)) }
 {
     let mut all = Vec::new(alloc);
-    let mut i = 0;
-    let mut k = 0;
-    while i < set.len() && k < others.len() {
-        let a = set[i];
-        let b = others[k];
-        if b.origin < a.origin {
+    let mut i = set.len();
+    let mut k = marks.len();
+    while i > 0 {
+        let a = set[i - 1];
+        if k == 0 || marks[k - 1].origin < a.origin {
             all.push(a)?;
-            i += 1;
-        } else if a.origin < b.origin {
-            all.push(b)?;
-            k += 1;
+            i -= 1;
+        } else if a.origin < marks[k - 1].origin {
+            all.push(marks[k - 1])?;
+            k -= 1;
         } else {
-            all.push(Mark {
-                origin: a.origin,
-                places: a.places | b.places,
-            })?;
-            i += 1;
-            k += 1;
+            all.push(both(a, marks[k - 1]))?;
+            i -= 1;
+            k -= 1;
         }
     }
-    all.extend_from_slice(&set[i..])?;
-    all.extend_from_slice(&others[k..])?;
-    Ok(all)
+    Ok((all, k))
 }

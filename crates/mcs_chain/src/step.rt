@@ -12,7 +12,7 @@ use std::alloc::Global;
 
 /// A step of a script, and the handler in which it lies.
 #[derive(Clone, Copy, Debug, PartialEq, Eq)]
-pub(crate) struct Step {
+pub struct Step {
     /// The number of the item, from 0.
     pub item: usize,
     /// The badges of the handler; 0 if the step lies in none.
@@ -21,7 +21,7 @@ pub(crate) struct Step {
 
 /// How far a thread is in its script, by the rows so far.
 #[derive(Clone, Copy, Debug, PartialEq, Eq)]
-pub(crate) struct Gone {
+pub struct Gone {
     /// The first item that the thread may still have to go through.
     pub next: Step,
     /// The word of the row that began the round; 0 before it, and if the script does not begin with

@@ -1,12 +1,16 @@
-ghost use Rattle.std.specs.Prelude.{◌≡◌, ℕ, List, [], ◌∷◌, length, map, IfOk};
+ghost use Rattle.std.specs.Prelude.{◌≡◌, ◌<◌, ℕ, List, [], ◌∷◌, length, map, slice_get, Some, IfOk};
 ghost use Rattle.mcs_ticks.specs.declared.row.Row.{Row as TheRow};
+ghost use Rattle.mcs_ticks.specs.Capped.{capped};
 ghost use Rattle.mcs_system.specs.System.{System as TheSystem};
+ghost use Rattle.mcs_system.specs.declared.part.ChainPart.{ChainPart as TheChain};
+ghost use Rattle.mcs_table.specs.Rounds.{greatest};
+ghost use Rattle.mcs_chain.specs.Answers.{interrupts, latencies};
 ghost use Rattle.mcs_chain.specs.Figures.{all_figures, figures_of, tallies_of, tally_of};
 ghost use Rattle.mcs_chain.specs.Watch.{one_of, watch_of};
 
 use crate::one::One;
 use crate::tally::Tally;
-use crate::{Figures, Watch};
+use crate::{ChainId, Figures, Watch};
 use mcs_system::{ChainPart, System};
 use mcs_ticks::{NoMemory, Row, Tick};
 use std::alloc::Global;
@@ -47,6 +51,33 @@ impl Tallies {
     {
         let chains = system.parts().chains.as_slice();
         all_count(&mut self.each, chains, watch.each.as_slice(), row);
+    }
+
+    /// How many interrupts the source of the chain made, at most 2^64 - 1.
+    pub fn interrupts_of(&self, chain: ChainId) -> u64
+        requires { chain < length self.now }
+        ensures { (horizon : ℕ) (system : TheSystem) (past : List TheRow) (part : TheChain) → self.now ≡ tallies_of horizon system past →
+            slice_get system.chains chain ≡ Some part → result ≡ capped (interrupts part past) }
+    {
+        self.each[chain.0].interrupts
+    }
+
+    /// How many answers the chain has, at most 2^64 - 1.
+    pub fn answers_of(&self, chain: ChainId) -> u64
+        requires { chain < length self.now }
+        ensures { (horizon : ℕ) (system : TheSystem) (past : List TheRow) (part : TheChain) → self.now ≡ tallies_of horizon system past →
+            slice_get system.chains chain ≡ Some part → result ≡ capped (length (latencies system part past)) }
+    {
+        self.each[chain.0].answers()
+    }
+
+    /// The maximum latency of the chain, if there is an answer.
+    pub fn greatest_of(&self, chain: ChainId) -> Option<u64>
+        requires { chain < length self.now }
+        ensures { (horizon : ℕ) (system : TheSystem) (past : List TheRow) (part : TheChain) → self.now ≡ tallies_of horizon system past →
+            slice_get system.chains chain ≡ Some part → result ≡ greatest (latencies system part past) }
+    {
+        self.each[chain.0].greatest()
     }
 
     /// The figures of each chain, in file order.

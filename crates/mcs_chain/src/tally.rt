@@ -1,10 +1,10 @@
-ghost use Rattle.std.specs.Prelude.{◌≡◌, ℕ, List, [], ◌∷◌, ◌++◌, ◌-◌, ◌+◌, map, min, max, sum, if◌then◌else◌, IfOk};
+ghost use Rattle.std.specs.Prelude.{◌≡◌, ℕ, List, [], ◌∷◌, ◌++◌, ◌-◌, ◌+◌, length, map, min, max, sum, if◌then◌else◌, IfOk};
 ghost use Rattle.mcs_ticks.specs.declared.row.Row.{Row as TheRow};
 ghost use Rattle.mcs_ticks.specs.Capped.{capped};
 ghost use Rattle.mcs_system.specs.System.{System as TheSystem};
 ghost use Rattle.mcs_system.specs.declared.part.ChainPart.{ChainPart as TheChain};
 ghost use Rattle.mcs_table.specs.Rounds.{greatest, margin};
-ghost use Rattle.mcs_chain.specs.Answers.{is_interrupt, interrupts, origins};
+ghost use Rattle.mcs_chain.specs.Answers.{is_interrupt, interrupts, latencies, origins};
 ghost use Rattle.mcs_chain.specs.Figures.{least, tally_with, tally_of, figures_of};
 
 use crate::Figures;
@@ -18,7 +18,7 @@ use std::marker::Model;
 /// Counts of a chain's interrupts and answers. All room is taken when it is made.
 #[derive(Drop)]
 pub(crate) struct Tally {
-    interrupts: u64,
+    pub(crate) interrupts: u64,
     least: Option<u64>,
     greatest: Option<u64>,
     total: u64,
@@ -143,6 +143,22 @@ impl Tally {
     {
         self.answer_all(row.moment, answered);
         self.start(is_interrupt(chain.source, &row.what));
+    }
+
+    /// How many answers there are, at most 2^64 - 1.
+    pub(crate) fn answers(&self) -> u64
+        ensures { (horizon : ℕ) (system : TheSystem) (chain : TheChain) (past : List TheRow) → self.now ≡ tally_of horizon system chain past →
+            result ≡ capped (length (latencies system chain past)) }
+    {
+        self.latencies.count()
+    }
+
+    /// The maximum latency, if there is an answer.
+    pub(crate) fn greatest(&self) -> Option<u64>
+        ensures { (horizon : ℕ) (system : TheSystem) (chain : TheChain) (past : List TheRow) → self.now ≡ tally_of horizon system chain past →
+            result ≡ greatest (latencies system chain past) }
+    {
+        self.greatest
     }
 
     /// The figures of the chain.

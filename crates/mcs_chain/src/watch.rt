@@ -1,16 +1,21 @@
-ghost use Rattle.std.specs.Prelude.{◌≡◌, ℕ, false, List, [], ◌∷◌, Option, OnOk, IfOk};
+ghost use Rattle.std.specs.Prelude.{◌≡◌, ◌<◌, ℕ, false, List, [], ◌∷◌, length, slice_get, Option, Some, OnOk, IfOk};
 ghost use Rattle.mcs_ticks.specs.declared.row.Row.{Row as TheRow};
+ghost use Rattle.mcs_system.specs.System.{System as TheSystem};
+ghost use Rattle.mcs_system.specs.declared.part.ChainPart.{ChainPart as TheChain};
 ghost use Rattle.mcs_chain.specs.Answering.{answers_at};
+ghost use Rattle.mcs_chain.specs.Answers.{unanswered};
+ghost use Rattle.mcs_chain.specs.State.{state_of};
 ghost use Rattle.mcs_chain.specs.Found.{all_unanswered};
-ghost use Rattle.mcs_chain.specs.Watch.{all_due, all_judged_many, all_slow_many, gone_for, watch_of};
+ghost use Rattle.mcs_chain.specs.Watch.{all_due, all_judged_many, all_slow_many, gone_for, slow_many, watch_of};
 
 use crate::answer::answers_at;
+use crate::found::unanswered_of as finding_of;
 use crate::moves::moves;
 use crate::one::{
     One, all_new, all_see, are_still, due_of, have_late, judged_of, many_of, unanswered_of,
 };
 use crate::step::{Gone, all_fresh, all_go, is_quiet};
-use crate::{Answer, Found};
+use crate::{Answer, ChainId, Finding, Found, State};
 use mcs_system::{System, SystemParts};
 use mcs_ticks::{NoMemory, Row, Tick};
 use std::alloc::Global;
@@ -139,5 +144,38 @@ impl Watch {
             IfOk result (λ found. found.items ≡ all_unanswered system.now past horizon 0 system.now.chains) }
     {
         unanswered_of(alloc, system.parts(), horizon, self.each.as_slice())
+    }
+
+    /// How many slow answers the chain has, at most 2^64 - 1.
+    pub fn slow_of(&self, chain: ChainId) -> u64
+        requires { chain < length self.now.each }
+        ensures { (system : TheSystem) (past : List TheRow) (part : TheChain) → self.now ≡ watch_of system past →
+            slice_get system.chains chain ≡ Some part → result ≡ slow_many system part past }
+    {
+        self.each[chain.0].slow
+    }
+
+    /// The finding at the horizon, if the chain's deadline has passed without an answer.
+    pub fn unanswered_of(&self, system: &System, horizon: Tick, chain: ChainId) -> Option<Finding>
+        requires known { chain < length self.now.each }
+        requires there { chain < length system.now.chains }
+        ensures { (past : List TheRow) (part : TheChain) → self.now ≡ watch_of system.now past →
+            slice_get system.now.chains chain ≡ Some part → result ≡ unanswered system.now part past horizon }
+    {
+        let deadline = system.parts().chains.as_slice()[chain.0].deadline;
+        finding_of(deadline, horizon, self.each[chain.0].origins.unanswered())
+    }
+
+    /// Returns the chain at this moment, to be compared with it at a later one. `NoMemory` if an
+    /// allocation failed.
+    pub fn state(&self, alloc: Global, chain: ChainId) -> Result<State, NoMemory>
+        requires { chain < length self.now.each }
+        ensures { (system : TheSystem) (past : List TheRow) (part : TheChain) → self.now ≡ watch_of system past →
+            slice_get system.chains chain ≡ Some part → IfOk result (λ state. state ≡ state_of system part past) }
+    {
+        Ok(State {
+            gone: Vec::from_slice(alloc, self.gone.as_slice())?,
+            origins: self.each[chain.0].origins.copied(alloc)?,
+        })
     }
 }

@@ -103,8 +103,8 @@ way-stays : (aim : Aim) (r : Row) (stood : Stood) (c : Course) (move : Move) →
 way-stays aim r stood c Nothing h e = h e
 way-stays aim r stood c (Start source badge) h e = if-way (is_origin aim source r.moment) (started r.moment badge c) (rest c) h h e
 way-stays aim r stood c (Give thread places badge) h e = h e
-way-stays aim r stood c (Send thread places badge maker made) h e = h e
-way-stays aim r stood c (Land maker made) h e = h e
+way-stays aim r stood c (Send thread places badge note maker made) h e = h e
+way-stays aim r stood c (Land note maker made) h e = h e
 way-stays aim r stood c (Hold note) h e = h e
 way-stays aim r stood c (Wake thread taking) h e = h e
 way-stays aim r stood c (Got thread note taking) h e = h e

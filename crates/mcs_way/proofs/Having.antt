@@ -221,7 +221,7 @@ come-covered origin k new s spots sets h c =
 abbrev pub IsSentWith : List Sent → MarkSent → Type 0
 IsSentWith [] their = ⊥
 IsSentWith (sent ∷ mine) their =
-    ((sent.maker ≡ their.maker) × (sent.made ≡ their.made) × Covers (Some sent.trace) their.mark) ⊎ IsSentWith mine their
+    ((sent.note ≡ their.note) × (sent.maker ≡ their.maker) × (sent.made ≡ their.made) × Covers (Some sent.trace) their.mark) ⊎ IsSentWith mine their
 
 abbrev pub AllSentWith : ℕ → List Sent → List MarkSent → Type 0
 AllSentWith origin mine [] = Unit {0}
@@ -232,21 +232,21 @@ sent-before [] more their h = absurd h
 sent-before (sent ∷ mine) more their (inl h) = inl h
 sent-before (sent ∷ mine) more their (inr h) = inr (sent-before mine more their h)
 
-sent-last : (mine : List Sent) (new : Option Trace) (maker made : ℕ) (mark : Mark) → Covers new mark
-    → IsSentWith (mine ++ sent_with maker made new) (marks.sent maker made mark)
-sent-last [] None maker made mark h = absurd h
-sent-last [] (Some trace) maker made mark h = inl (refl, refl, h)
-sent-last (sent ∷ mine) new maker made mark h = inr (sent-last mine new maker made mark h)
+sent-last : (mine : List Sent) (new : Option Trace) (note maker made : ℕ) (mark : Mark) → Covers new mark
+    → IsSentWith (mine ++ sent_with note maker made new) (marks.sent note maker made mark)
+sent-last [] None note maker made mark h = absurd h
+sent-last [] (Some trace) note maker made mark h = inl (refl, refl, refl, h)
+sent-last (sent ∷ mine) new note maker made mark h = inr (sent-last mine new note maker made mark h)
 
 all-before : (origin : ℕ) (mine more : List Sent) (theirs : List MarkSent) → AllSentWith origin mine theirs → AllSentWith origin (mine ++ more) theirs
 all-before origin mine more [] h = tt
 all-before origin mine more (their ∷ theirs) h = ((λ o. sent-before mine more their (h.0 o)), all-before origin mine more theirs h.1)
 
-all-last : (origin : ℕ) (mine : List Sent) (new : Option Trace) (maker made : ℕ) (set : List Mark) → Covered origin new set
-    → AllSentWith origin (mine ++ sent_with maker made new) (map (marks.sent maker made) set)
-all-last origin mine new maker made [] h = tt
-all-last origin mine new maker made (mark ∷ set) h =
-    ((λ o. sent-last mine new maker made mark (h.0 o)), all-last origin mine new maker made set h.1)
+all-last : (origin : ℕ) (mine : List Sent) (new : Option Trace) (note maker made : ℕ) (set : List Mark) → Covered origin new set
+    → AllSentWith origin (mine ++ sent_with note maker made new) (map (marks.sent note maker made) set)
+all-last origin mine new note maker made [] h = tt
+all-last origin mine new note maker made (mark ∷ set) h =
+    ((λ o. sent-last mine new note maker made mark (h.0 o)), all-last origin mine new note maker made set h.1)
 
 all-more : (origin : ℕ) (mine : List Sent) (theirs more : List MarkSent) → AllSentWith origin mine theirs → AllSentWith origin mine more
     → AllSentWith origin mine (theirs ++ more)
@@ -254,31 +254,32 @@ all-more origin mine [] more h k = k
 all-more origin mine (their ∷ theirs) more h k = (h.0, all-more origin mine theirs more h.1 k)
 
 -- what a signal brings
-from-before : (maker made home moment : ℕ) (before : Option Trace) (mine : List Sent) (mark : Mark) → Covers before mark
-    → Covers (fold (with_arrived maker made home moment) before mine) mark
-from-before maker made home moment before [] mark h = h
-from-before maker made home moment before (sent ∷ mine) mark h =
-    from-before maker made home moment (with_arrived maker made home moment before sent) mine mark
-    (if-both (λ s. Covers s mark) (is_sent maker made sent) (joined (Some (arrived home moment sent)) before) before
+from-before : (note maker made home moment : ℕ) (before : Option Trace) (mine : List Sent) (mark : Mark) → Covers before mark
+    → Covers (fold (with_arrived note maker made home moment) before mine) mark
+from-before note maker made home moment before [] mark h = h
+from-before note maker made home moment before (sent ∷ mine) mark h =
+    from-before note maker made home moment (with_arrived note maker made home moment before sent) mine mark
+    (if-both (λ s. Covers s mark) (is_sent note maker made sent) (joined (Some (arrived home moment sent)) before) before
     (λ e. joined-old (Some (arrived home moment sent)) before mark h) (λ e. h))
 
-sent-is : (sent : Sent) (maker made : ℕ) → sent.maker ≡ maker → sent.made ≡ made → is_sent maker made sent ≡ true
-sent-is sent maker made e f = grind (arith, nat_tests)
+sent-is : (sent : Sent) (note maker made : ℕ) → sent.note ≡ note → sent.maker ≡ maker → sent.made ≡ made → is_sent note maker made sent ≡ true
+sent-is sent note maker made d e f = grind (arith, nat_tests)
 
-landed-mark : (maker made home moment : ℕ) (before : Option Trace) (mine : List Sent) (their : MarkSent) → their.maker ≡ maker → their.made ≡ made
-    → IsSentWith mine their → Covers (fold (with_arrived maker made home moment) before mine) their.mark
-landed-mark maker made home moment before [] their e f h = absurd h
-landed-mark maker made home moment before (sent ∷ mine) their e f (inr h) =
-    landed-mark maker made home moment (with_arrived maker made home moment before sent) mine their e f h
-landed-mark maker made home moment before (sent ∷ mine) their e f (inl h) =
-    from-before maker made home moment (with_arrived maker made home moment before sent) mine their.mark
+landed-mark : (note maker made home moment : ℕ) (before : Option Trace) (mine : List Sent) (their : MarkSent) → their.note ≡ note → their.maker ≡ maker → their.made ≡ made
+    → IsSentWith mine their → Covers (fold (with_arrived note maker made home moment) before mine) their.mark
+landed-mark note maker made home moment before [] their d e f h = absurd h
+landed-mark note maker made home moment before (sent ∷ mine) their d e f (inr h) =
+    landed-mark note maker made home moment (with_arrived note maker made home moment before sent) mine their d e f h
+landed-mark note maker made home moment before (sent ∷ mine) their d e f (inl h) =
+    from-before note maker made home moment (with_arrived note maker made home moment before sent) mine their.mark
     (subst (λ b. Covers (if b then joined (Some (arrived home moment sent)) before else before) their.mark)
-    (sym (sent-is sent maker made (h.0 ∙ e) (h.1 ∙ f))) (joined-new (Some (arrived home moment sent)) before their.mark h.2))
+    (sym (sent-is sent note maker made (h.0 ∙ d) (h.1 ∙ e) (h.2 ∙ f))) (joined-new (Some (arrived home moment sent)) before their.mark h.3))
 
-their-sent : (their : MarkSent) (maker made : ℕ) → marks.is_sent maker made their ≡ true → (their.maker ≡ maker) × (their.made ≡ made)
-their-sent their maker made e = (
-  eqb-true their.maker maker (first-is (their.maker == maker) (their.made == made) e),
-  eqb-true their.made made (second-is (their.maker == maker) (their.made == made) e),
+their-sent : (their : MarkSent) (note maker made : ℕ) → marks.is_sent note maker made their ≡ true → (their.note ≡ note) × (their.maker ≡ maker) × (their.made ≡ made)
+their-sent their note maker made e = (
+  eqb-true their.note note (first-is (their.note == note) (their.maker == maker && their.made == made) e),
+  eqb-true their.maker maker (first-is (their.maker == maker) (their.made == made) (second-is (their.note == note) (their.maker == maker && their.made == made) e)),
+  eqb-true their.made made (second-is (their.maker == maker) (their.made == made) (second-is (their.note == note) (their.maker == maker && their.made == made) e)),
 )
   where
     first-is : (a b : Bool) → (a && b) ≡ true → a ≡ true
@@ -289,40 +290,42 @@ their-sent their maker made e = (
     second-is true b e = e
     second-is false b e = absurd (cc)
 
-landed-covered : (origin maker made home moment : ℕ) (mine : List Sent) (theirs : List MarkSent) → AllSentWith origin mine theirs
-    → Covered origin (landed maker made home moment mine) (map (λ sent. sent.mark) (filter (marks.is_sent maker made) theirs))
-landed-covered origin maker made home moment mine [] h = tt
-landed-covered origin maker made home moment mine (their ∷ theirs) h =
-    let rest = landed-covered origin maker made home moment mine theirs h.1 in
-    if-both (λ (xs : List MarkSent). Covered origin (landed maker made home moment mine) (map (λ sent. sent.mark) xs)) (marks.is_sent maker made their)
-    (their ∷ filter (marks.is_sent maker made) theirs) (filter (marks.is_sent maker made) theirs)
-    (λ e. ((λ o. landed-mark maker made home moment None mine their (their-sent their maker made e).0 (their-sent their maker made e).1 (h.0 o)), rest))
+landed-covered : (origin note maker made home moment : ℕ) (mine : List Sent) (theirs : List MarkSent) → AllSentWith origin mine theirs
+    → Covered origin (landed note maker made home moment mine) (map (λ sent. sent.mark) (filter (marks.is_sent note maker made) theirs))
+landed-covered origin note maker made home moment mine [] h = tt
+landed-covered origin note maker made home moment mine (their ∷ theirs) h =
+    let rest = landed-covered origin note maker made home moment mine theirs h.1 in
+    if-both (λ (xs : List MarkSent). Covered origin (landed note maker made home moment mine) (map (λ sent. sent.mark) xs)) (marks.is_sent note maker made their)
+    (their ∷ filter (marks.is_sent note maker made) theirs) (filter (marks.is_sent note maker made) theirs)
+    (λ e. let is = their-sent their note maker made e in ((λ o. landed-mark note maker made home moment None mine their is.0 is.1 is.2 (h.0 o)), rest))
     (λ e. rest)
 
 -- and what stays under way
-same-test : (sent : Sent) (their : MarkSent) (maker made : ℕ) → sent.maker ≡ their.maker → sent.made ≡ their.made
-    → is_sent maker made sent ≡ marks.is_sent maker made their
-same-test sent their maker made e f = ap (λ x. x == maker && sent.made == made) e ∙ ap (λ y. their.maker == maker && y == made) f
+same-test : (sent : Sent) (their : MarkSent) (note maker made : ℕ) → sent.note ≡ their.note → sent.maker ≡ their.maker → sent.made ≡ their.made
+    → is_sent note maker made sent ≡ marks.is_sent note maker made their
+same-test sent their note maker made d e f =
+    ap (λ w. w == note && (sent.maker == maker && sent.made == made)) d ∙ ap (λ x. their.note == note && (x == maker && sent.made == made)) e
+    ∙ ap (λ y. their.note == note && (their.maker == maker && y == made)) f
 
-left-with : (maker made : ℕ) (mine : List Sent) (their : MarkSent) → not (marks.is_sent maker made their) ≡ true → IsSentWith mine their
-    → IsSentWith (filter (λ sent. not (is_sent maker made sent)) mine) their
-left-with maker made [] their e h = absurd h
-left-with maker made (sent ∷ mine) their e (inl h) =
-    subst (λ b. IsSentWith (if b then sent ∷ filter (λ sent. not (is_sent maker made sent)) mine else filter (λ sent. not (is_sent maker made sent)) mine) their)
-    (sym (ap not (same-test sent their maker made h.0 h.1) ∙ e)) (inl h)
-left-with maker made (sent ∷ mine) their e (inr h) =
-    if-both (λ xs. IsSentWith xs their) (not (is_sent maker made sent)) (sent ∷ filter (λ sent. not (is_sent maker made sent)) mine)
-    (filter (λ sent. not (is_sent maker made sent)) mine)
-    (λ f. inr (left-with maker made mine their e h)) (λ f. left-with maker made mine their e h)
+left-with : (note maker made : ℕ) (mine : List Sent) (their : MarkSent) → not (marks.is_sent note maker made their) ≡ true → IsSentWith mine their
+    → IsSentWith (filter (λ sent. not (is_sent note maker made sent)) mine) their
+left-with note maker made [] their e h = absurd h
+left-with note maker made (sent ∷ mine) their e (inl h) =
+    subst (λ b. IsSentWith (if b then sent ∷ filter (λ sent. not (is_sent note maker made sent)) mine else filter (λ sent. not (is_sent note maker made sent)) mine) their)
+    (sym (ap not (same-test sent their note maker made h.0 h.1 h.2) ∙ e)) (inl h)
+left-with note maker made (sent ∷ mine) their e (inr h) =
+    if-both (λ xs. IsSentWith xs their) (not (is_sent note maker made sent)) (sent ∷ filter (λ sent. not (is_sent note maker made sent)) mine)
+    (filter (λ sent. not (is_sent note maker made sent)) mine)
+    (λ f. inr (left-with note maker made mine their e h)) (λ f. left-with note maker made mine their e h)
 
-all-left : (origin maker made : ℕ) (mine : List Sent) (theirs : List MarkSent) → AllSentWith origin mine theirs
-    → AllSentWith origin (filter (λ sent. not (is_sent maker made sent)) mine) (filter (λ sent. not (marks.is_sent maker made sent)) theirs)
-all-left origin maker made mine [] h = tt
-all-left origin maker made mine (their ∷ theirs) h =
-    let rest = all-left origin maker made mine theirs h.1 in
-    if-both (AllSentWith origin (filter (λ sent. not (is_sent maker made sent)) mine)) (not (marks.is_sent maker made their))
-    (their ∷ filter (λ sent. not (marks.is_sent maker made sent)) theirs) (filter (λ sent. not (marks.is_sent maker made sent)) theirs)
-    (λ e. ((λ o. left-with maker made mine their e (h.0 o)), rest)) (λ e. rest)
+all-left : (origin note maker made : ℕ) (mine : List Sent) (theirs : List MarkSent) → AllSentWith origin mine theirs
+    → AllSentWith origin (filter (λ sent. not (is_sent note maker made sent)) mine) (filter (λ sent. not (marks.is_sent note maker made sent)) theirs)
+all-left origin note maker made mine [] h = tt
+all-left origin note maker made mine (their ∷ theirs) h =
+    let rest = all-left origin note maker made mine theirs h.1 in
+    if-both (AllSentWith origin (filter (λ sent. not (is_sent note maker made sent)) mine)) (not (marks.is_sent note maker made their))
+    (their ∷ filter (λ sent. not (marks.is_sent note maker made sent)) theirs) (filter (λ sent. not (marks.is_sent note maker made sent)) theirs)
+    (λ e. ((λ o. left-with note maker made mine their e (h.0 o)), rest)) (λ e. rest)
 
 all-kept : (origin : ℕ) (answered : List ℕ) (mine : List Sent) (theirs : List MarkSent) → AllSentWith origin mine theirs
     → AllSentWith origin mine (filter (λ sent. not (marks.is_one_of answered sent.mark.origin)) theirs)
@@ -384,22 +387,22 @@ moved-covered chain aim r stood o c (Give thread places badge) e h =
       posted = given-covered aim.answer.origin places badge r.moment _ (get_or c.carried thread None) (get_or o.carried thread [])
           (get-covered aim.answer.origin c.carried o.carried thread h.carried);
     }
-moved-covered chain aim r stood o c (Send thread places badge maker made) e h =
+moved-covered chain aim r stood o c (Send thread places badge note maker made) e h =
     record {
       held = h.held;
       carried = h.carried;
       under_way = all-more aim.answer.origin _ o.under_way _ (all-before aim.answer.origin c.under_way _ o.under_way h.under_way)
-          (all-last aim.answer.origin c.under_way _ maker made _
+          (all-last aim.answer.origin c.under_way _ note maker made _
           (given-covered aim.answer.origin places badge r.moment _ (get_or c.carried thread None) (get_or o.carried thread [])
           (get-covered aim.answer.origin c.carried o.carried thread h.carried)));
       posted = tt;
     }
-moved-covered chain aim r stood o c (Land maker made) e h =
+moved-covered chain aim r stood o c (Land note maker made) e h =
     record {
       held = h.held;
       carried = h.carried;
-      under_way = all-left aim.answer.origin maker made c.under_way o.under_way h.under_way;
-      posted = landed-covered aim.answer.origin maker made r.core r.moment c.under_way o.under_way h.under_way;
+      under_way = all-left aim.answer.origin note maker made c.under_way o.under_way h.under_way;
+      posted = landed-covered aim.answer.origin note maker made r.core r.moment c.under_way o.under_way h.under_way;
     }
 moved-covered chain aim r stood o c (Hold note) e h =
     record {

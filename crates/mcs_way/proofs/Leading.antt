@@ -151,34 +151,34 @@ sent-later origin now later [] up h = tt
 sent-later origin now later (sent ∷ others) up h =
     (led-later origin now later (Some sent.trace) up h.0, sent-later origin now later others up h.1)
 
-sent-with : (origin now maker made : ℕ) (new : Option Trace) → IsLedTo origin now new → AllSent origin now (sent_with maker made new)
-sent-with origin now maker made None h = tt
-sent-with origin now maker made (Some trace) h = (h, tt)
+sent-with : (origin now note maker made : ℕ) (new : Option Trace) → IsLedTo origin now new → AllSent origin now (sent_with note maker made new)
+sent-with origin now note maker made None h = tt
+sent-with origin now note maker made (Some trace) h = (h, tt)
 
 sent-append : (origin now : ℕ) (all more : List Sent) → AllSent origin now all → AllSent origin now more → AllSent origin now (all ++ more)
 sent-append origin now [] more h k = k
 sent-append origin now (sent ∷ others) more h k = (h.0, sent-append origin now others more h.1 k)
 
-sent-left : (origin now maker made : ℕ) (all : List Sent) → AllSent origin now all
-    → AllSent origin now (filter (λ sent. not (is_sent maker made sent)) all)
-sent-left origin now maker made [] h = tt
-sent-left origin now maker made (sent ∷ others) h =
-    if-by (AllSent origin now) (not (is_sent maker made sent))
-    (sent ∷ filter (λ sent. not (is_sent maker made sent)) others) (filter (λ sent. not (is_sent maker made sent)) others)
-    (λ e. (h.0, sent-left origin now maker made others h.1)) (sent-left origin now maker made others h.1)
+sent-left : (origin now note maker made : ℕ) (all : List Sent) → AllSent origin now all
+    → AllSent origin now (filter (λ sent. not (is_sent note maker made sent)) all)
+sent-left origin now note maker made [] h = tt
+sent-left origin now note maker made (sent ∷ others) h =
+    if-by (AllSent origin now) (not (is_sent note maker made sent))
+    (sent ∷ filter (λ sent. not (is_sent note maker made sent)) others) (filter (λ sent. not (is_sent note maker made sent)) others)
+    (λ e. (h.0, sent-left origin now note maker made others h.1)) (sent-left origin now note maker made others h.1)
 
-landed-from : (origin now moment maker made home : ℕ) (before : Option Trace) (all : List Sent) → AllSent origin now all → now ≤ moment
-    → IsLedTo origin moment before → IsLedTo origin moment (fold (with_arrived maker made home moment) before all)
-landed-from origin now moment maker made home before [] h up led = led
-landed-from origin now moment maker made home before (sent ∷ others) h up led =
-    landed-from origin now moment maker made home (with_arrived maker made home moment before sent) others h.1 up
-    (if-by (IsLedTo origin moment) (is_sent maker made sent) (joined (Some (arrived home moment sent)) before) before
+landed-from : (origin now moment note maker made home : ℕ) (before : Option Trace) (all : List Sent) → AllSent origin now all → now ≤ moment
+    → IsLedTo origin moment before → IsLedTo origin moment (fold (with_arrived note maker made home moment) before all)
+landed-from origin now moment note maker made home before [] h up led = led
+landed-from origin now moment note maker made home before (sent ∷ others) h up led =
+    landed-from origin now moment note maker made home (with_arrived note maker made home moment before sent) others h.1 up
+    (if-by (IsLedTo origin moment) (is_sent note maker made sent) (joined (Some (arrived home moment sent)) before) before
     (λ e. joined-led origin moment (Some (arrived home moment sent)) before
     (left-led origin now moment sent.trace.places (by.Signal sent.maker home) sent.trace h.0 up tt) led) led)
 
-landed-led : (origin now moment maker made home : ℕ) (all : List Sent) → AllSent origin now all → now ≤ moment
-    → IsLedTo origin moment (landed maker made home moment all)
-landed-led origin now moment maker made home all h up = landed-from origin now moment maker made home None all h up tt
+landed-led : (origin now moment note maker made home : ℕ) (all : List Sent) → AllSent origin now all → now ≤ moment
+    → IsLedTo origin moment (landed note maker made home moment all)
+landed-led origin now moment note maker made home all h up = landed-from origin now moment note maker made home None all h up tt
 
 -- what is led to each carrier, and the way that is found
 record AreLed (aim : Aim) (now : ℕ) (c : Course) : Type 0 where
@@ -264,7 +264,7 @@ ended-led aim now r c thread stood h up split =
 -- the ways in which the thread stood that a row moves the origin from
 abbrev MovesSplit : Row → Stood → Course → Move → Type 0
 MovesSplit r stood c (Give thread places badge) = SplitsTo r.moment stood (get_or c.carried thread None)
-MovesSplit r stood c (Send thread places badge maker made) = SplitsTo r.moment stood (get_or c.carried thread None)
+MovesSplit r stood c (Send thread places badge note maker made) = SplitsTo r.moment stood (get_or c.carried thread None)
 MovesSplit r stood c (End thread word) = SplitsTo r.moment stood (get_or c.carried thread None)
 MovesSplit r stood c _ = Unit {0}
 
@@ -276,25 +276,25 @@ moved-led aim now r stood c (Give thread places badge) h up split =
     led-posted aim r.moment c _ (led-from aim now r.moment c up h)
     (given-led aim.answer.origin now r.moment places badge thread stood (get_or c.carried thread None)
     (all-get aim.answer.origin now c.carried thread h.carried) up split)
-moved-led aim now r stood c (Send thread places badge maker made) h up split =
+moved-led aim now r stood c (Send thread places badge note maker made) h up split =
     let next = led-from aim now r.moment c up h in
     record {
       held = next.held;
       carried = next.carried;
       under_way = sent-append aim.answer.origin r.moment c.under_way _ next.under_way
-          (sent-with aim.answer.origin r.moment maker made _
+          (sent-with aim.answer.origin r.moment note maker made _
           (given-led aim.answer.origin now r.moment places badge thread stood (get_or c.carried thread None)
           (all-get aim.answer.origin now c.carried thread h.carried) up split));
       posted = tt;
       way = next.way;
     }
-moved-led aim now r stood c (Land maker made) h up split =
+moved-led aim now r stood c (Land note maker made) h up split =
     let next = led-from aim now r.moment c up h in
     record {
       held = next.held;
       carried = next.carried;
-      under_way = sent-left aim.answer.origin r.moment maker made c.under_way next.under_way;
-      posted = landed-led aim.answer.origin now r.moment maker made r.core c.under_way h.under_way up;
+      under_way = sent-left aim.answer.origin r.moment note maker made c.under_way next.under_way;
+      posted = landed-led aim.answer.origin now r.moment note maker made r.core c.under_way h.under_way up;
       way = next.way;
     }
 moved-led aim now r stood c (Hold note) h up split =
@@ -323,16 +323,16 @@ moved-led aim now r stood c (Got thread note taking) h up split =
 moved-led aim now r stood c (End thread word) h up split = ended-led aim now r c thread stood h up split
 
 -- how the thread of a row stood is what the move asks for
-signal-splits : (b d : Bool) (r : Row) (stood : Stood) (c : Course) (thread places badge maker made : ℕ) → SplitsTo r.moment stood (get_or c.carried thread None)
-    → MovesSplit r stood c (if b then Nothing else if d then Give thread places badge else Send thread places badge maker made)
-signal-splits true d r stood c thread places badge maker made h = tt
-signal-splits false true r stood c thread places badge maker made h = h
-signal-splits false false r stood c thread places badge maker made h = h
+signal-splits : (b d : Bool) (r : Row) (stood : Stood) (c : Course) (thread places badge note maker made : ℕ) → SplitsTo r.moment stood (get_or c.carried thread None)
+    → MovesSplit r stood c (if b then Nothing else if d then Give thread places badge else Send thread places badge note maker made)
+signal-splits true d r stood c thread places badge note maker made h = tt
+signal-splits false true r stood c thread places badge note maker made h = h
+signal-splits false false r stood c thread places badge note maker made h = h
 
 row-splits : (system : System) (all : List Gone) (past : List Row) (r : Row) (c : Course) (what : What)
     → MovesSplit r (stood_by past r.moment (goer what) c) c (moves_by system all r what)
 row-splits system all past r c (row.Signal x note badge) =
-    signal-splits (is_server system note) ((note_part system note).core == r.core) r _ c x _ badge r.core r.moment
+    signal-splits (is_server system note) ((note_part system note).core == r.core) r _ c x _ badge note r.core r.moment
     (splits x past r.moment (get_or c.carried x None))
 row-splits system all past r c (row.Round x number response) = splits x past r.moment (get_or c.carried x None)
 row-splits system all past r c (row.Release x) = tt

@@ -81,27 +81,27 @@ abbrev AllSent : List Sent → Type 0
 AllSent [] = Unit {0}
 AllSent (sent ∷ others) = AreActive sent.trace.legs × AllSent others
 
-sent-with : (maker made : ℕ) (new : Option Trace) → IsFine new → AllSent (sent_with maker made new)
-sent-with maker made None h = tt
-sent-with maker made (Some trace) h = (h, tt)
+sent-with : (note maker made : ℕ) (new : Option Trace) → IsFine new → AllSent (sent_with note maker made new)
+sent-with note maker made None h = tt
+sent-with note maker made (Some trace) h = (h, tt)
 
 sent-append : (all more : List Sent) → AllSent all → AllSent more → AllSent (all ++ more)
 sent-append [] more h k = k
 sent-append (sent ∷ others) more h k = (h.0, sent-append others more h.1 k)
 
-sent-left : (maker made : ℕ) (all : List Sent) → AllSent all → AllSent (filter (λ sent. not (is_sent maker made sent)) all)
-sent-left maker made [] h = tt
-sent-left maker made (sent ∷ others) h =
-    if-each AllSent (not (is_sent maker made sent))
-    (sent ∷ filter (λ sent. not (is_sent maker made sent)) others) (filter (λ sent. not (is_sent maker made sent)) others)
-    (h.0, sent-left maker made others h.1) (sent-left maker made others h.1)
+sent-left : (note maker made : ℕ) (all : List Sent) → AllSent all → AllSent (filter (λ sent. not (is_sent note maker made sent)) all)
+sent-left note maker made [] h = tt
+sent-left note maker made (sent ∷ others) h =
+    if-each AllSent (not (is_sent note maker made sent))
+    (sent ∷ filter (λ sent. not (is_sent note maker made sent)) others) (filter (λ sent. not (is_sent note maker made sent)) others)
+    (h.0, sent-left note maker made others h.1) (sent-left note maker made others h.1)
 
-landed-from : (moment maker made home : ℕ) (before : Option Trace) (all : List Sent) → AllSent all → IsFine before
-    → IsFine (fold (with_arrived maker made home moment) before all)
-landed-from moment maker made home before [] h fine = fine
-landed-from moment maker made home before (sent ∷ others) h fine =
-    landed-from moment maker made home (with_arrived maker made home moment before sent) others h.1
-    (if-each IsFine (is_sent maker made sent) (joined (Some (arrived home moment sent)) before) before
+landed-from : (moment note maker made home : ℕ) (before : Option Trace) (all : List Sent) → AllSent all → IsFine before
+    → IsFine (fold (with_arrived note maker made home moment) before all)
+landed-from moment note maker made home before [] h fine = fine
+landed-from moment note maker made home before (sent ∷ others) h fine =
+    landed-from moment note maker made home (with_arrived note maker made home moment before sent) others h.1
+    (if-each IsFine (is_sent note maker made sent) (joined (Some (arrived home moment sent)) before) before
     (joined-fine (Some (arrived home moment sent)) before
     (left-fine (by.Signal sent.maker home) moment sent.trace.places sent.trace h.0 tt) fine) fine)
 
@@ -138,21 +138,21 @@ moved-fine aim r stood (Start source badge) c active h =
     if-each AreFine (is_origin aim source r.moment) (started r.moment badge c) (rest c) (fine-posted c _ h tt) (fine-posted c None h tt)
 moved-fine aim r stood (Give thread places badge) c active h =
     fine-posted c _ h (given-fine places badge r.moment (by.Thread thread stood) _ (all-get c.carried thread h.carried) active)
-moved-fine aim r stood (Send thread places badge maker made) c active h =
+moved-fine aim r stood (Send thread places badge note maker made) c active h =
     record {
       held = h.held;
       carried = h.carried;
       under_way = sent-append c.under_way _ h.under_way
-          (sent-with maker made _ (given-fine places badge r.moment (by.Thread thread stood) _ (all-get c.carried thread h.carried) active));
+          (sent-with note maker made _ (given-fine places badge r.moment (by.Thread thread stood) _ (all-get c.carried thread h.carried) active));
       posted = tt;
       way = h.way;
     }
-moved-fine aim r stood (Land maker made) c active h =
+moved-fine aim r stood (Land note maker made) c active h =
     record {
       held = h.held;
       carried = h.carried;
-      under_way = sent-left maker made c.under_way h.under_way;
-      posted = landed-from r.moment maker made r.core None c.under_way h.under_way tt;
+      under_way = sent-left note maker made c.under_way h.under_way;
+      posted = landed-from r.moment note maker made r.core None c.under_way h.under_way tt;
       way = h.way;
     }
 moved-fine aim r stood (Hold note) c active h =

@@ -107,17 +107,17 @@ carried-next system aim all r stood c (row.Order context) thread e = absurd (cc)
 carried-next system aim all r stood c (row.Interrupt source note badge) thread e = absurd (cc)
 
 -- a signal moves nothing, or posts
-signal-carried : (b d : Bool) (aim : Aim) (r : Row) (stood : Stood) (c : Course) (thread places badge maker made : ℕ)
-    → (moved aim r stood (if b then Nothing else if d then Give thread places badge else Send thread places badge maker made) c).carried ≡ c.carried
-signal-carried true d aim r stood c thread places badge maker made = refl
-signal-carried false true aim r stood c thread places badge maker made = refl
-signal-carried false false aim r stood c thread places badge maker made = refl
+signal-carried : (b d : Bool) (aim : Aim) (r : Row) (stood : Stood) (c : Course) (thread places badge note maker made : ℕ)
+    → (moved aim r stood (if b then Nothing else if d then Give thread places badge else Send thread places badge note maker made) c).carried ≡ c.carried
+signal-carried true d aim r stood c thread places badge note maker made = refl
+signal-carried false true aim r stood c thread places badge note maker made = refl
+signal-carried false false aim r stood c thread places badge note maker made = refl
 
 -- a row of no thread, and a signal
 pub carried-same : (system : System) (aim : Aim) (all : List Gone) (r : Row) (stood : Stood) (c : Course) (what : What)
     → subject what ≡ None → (moved aim r stood (moves_by system all r what) c).carried ≡ c.carried
 carried-same system aim all r stood c (row.Signal x note badge) e =
-    signal-carried (is_server system note) ((note_part system note).core == r.core) aim r stood c x _ badge r.core r.moment
+    signal-carried (is_server system note) ((note_part system note).core == r.core) aim r stood c x _ badge note r.core r.moment
 carried-same system aim all r stood c (row.Arrive note badge maker) e = refl
 carried-same system aim all r stood c (row.Hold note word) e = refl
 carried-same system aim all r stood c (row.Order context) e = refl

@@ -15,7 +15,8 @@ use Rattle.mcs_way.specs.Trace.{Trace, begun, left, given, taken, joined, ended_
 
 -- a signal to another core that carries the origin
 pub record Sent : Type 0 where
-  -- the core that made it, and when
+  -- the notification that it is for, the core that made it, and when
+  pub note : ℕ
   pub maker : ℕ
   pub made : ℕ
   pub trace : Trace
@@ -52,34 +53,34 @@ abbrev pub started : ℕ → ℕ → Course → Course
 started moment badge c = record c { posted = Some (begun moment badge) }
 
 -- a signal that leaves for another core
-abbrev pub sent_with : ℕ → ℕ → Option Trace → List Sent
-sent_with maker made None = []
-sent_with maker made (Some trace) = record { maker = maker; made = made; trace = trace } ∷ []
+abbrev pub sent_with : ℕ → ℕ → ℕ → Option Trace → List Sent
+sent_with note maker made None = []
+sent_with note maker made (Some trace) = record { note = note; maker = maker; made = made; trace = trace } ∷ []
 
-abbrev pub sets_out : ℕ → ℕ → Option Trace → Course → Course
-sets_out maker made given c = record (rest c) { under_way = c.under_way ++ sent_with maker made given }
+abbrev pub sets_out : ℕ → ℕ → ℕ → Option Trace → Course → Course
+sets_out note maker made given c = record (rest c) { under_way = c.under_way ++ sent_with note maker made given }
 
--- whether a signal is the one that this core made at this moment
-abbrev pub is_sent : ℕ → ℕ → Sent → Bool
-is_sent maker made sent = sent.maker == maker && sent.made == made
+-- whether a signal is the one that this core made at this moment for this notification
+abbrev pub is_sent : ℕ → ℕ → ℕ → Sent → Bool
+is_sent note maker made sent = sent.note == note && (sent.maker == maker && sent.made == made)
 
 -- what a signal brings to this core
 abbrev pub arrived : ℕ → ℕ → Sent → Trace
 arrived home moment sent = left (Signal sent.maker home) moment sent.trace.places sent.trace
 
--- what the signal brings that this core made at this moment
-abbrev pub with_arrived : ℕ → ℕ → ℕ → ℕ → Option Trace → Sent → Option Trace
-with_arrived maker made home moment trace sent =
-    if is_sent maker made sent then joined (Some (arrived home moment sent)) trace else trace
+-- what the signal to this notification brings that this core made at this moment
+abbrev pub with_arrived : ℕ → ℕ → ℕ → ℕ → ℕ → Option Trace → Sent → Option Trace
+with_arrived note maker made home moment trace sent =
+    if is_sent note maker made sent then joined (Some (arrived home moment sent)) trace else trace
 
-abbrev pub landed : ℕ → ℕ → ℕ → ℕ → List Sent → Option Trace
-landed maker made home moment all = fold (with_arrived maker made home moment) None all
+abbrev pub landed : ℕ → ℕ → ℕ → ℕ → ℕ → List Sent → Option Trace
+landed note maker made home moment all = fold (with_arrived note maker made home moment) None all
 
-abbrev pub lands : ℕ → ℕ → ℕ → ℕ → Course → Course
-lands maker made home moment c =
+abbrev pub lands : ℕ → ℕ → ℕ → ℕ → ℕ → Course → Course
+lands note maker made home moment c =
     record c {
-      posted = landed maker made home moment c.under_way;
-      under_way = filter (λ sent. not (is_sent maker made sent)) c.under_way;
+      posted = landed note maker made home moment c.under_way;
+      under_way = filter (λ sent. not (is_sent note maker made sent)) c.under_way;
     }
 
 -- an origin that comes to the carrier with this number
@@ -131,9 +132,9 @@ moved aim r stood (Start source badge) c =
     if is_origin aim source r.moment then started r.moment badge c else rest c
 moved aim r stood (Give thread places badge) c =
     record c { posted = given places badge (Thread thread stood) r.moment (get_or c.carried thread None) }
-moved aim r stood (Send thread places badge maker made) c =
-    sets_out maker made (given places badge (Thread thread stood) r.moment (get_or c.carried thread None)) c
-moved aim r stood (Land maker made) c = lands maker made r.core r.moment c
+moved aim r stood (Send thread places badge note maker made) c =
+    sets_out note maker made (given places badge (Thread thread stood) r.moment (get_or c.carried thread None)) c
+moved aim r stood (Land note maker made) c = lands note maker made r.core r.moment c
 moved aim r stood (Hold note) c = holds note c
 moved aim r stood (Wake thread taking) c = takes thread (taken taking (note_of r.what) r.moment c.posted) c
 moved aim r stood (Got thread note taking) c = gets thread note (taken taking note r.moment (get_or c.held note None)) c

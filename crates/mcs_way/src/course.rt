@@ -142,28 +142,34 @@ impl Course {
         Ok(())
     }
 
-    /// A signal leaves for another core.
-    fn set_out(&mut self, maker: CoreId, made: u64, given: Option<Trace>) -> Result<(), NoMemory>
-        ensures { OnOk result (self.new ≡ sets_out maker made given self.old) }
+    /// A signal to the notification leaves for another core.
+    fn set_out(
+        &mut self,
+        note: NoteId,
+        maker: CoreId,
+        made: u64,
+        given: Option<Trace>,
+    ) -> Result<(), NoMemory>
+        ensures { OnOk result (self.new ≡ sets_out note maker made given self.old) }
     {
-        send(&mut self.under_way, maker, made, given)?;
+        send(&mut self.under_way, note, maker, made, given)?;
         self.posted = None;
         Ok(())
     }
 
-    /// A signal of another core arrives.
+    /// A signal of another core to the notification arrives at this row.
     fn land(
         &mut self,
         alloc: Global,
+        note: NoteId,
         maker: CoreId,
         made: u64,
-        home: CoreId,
-        moment: Tick,
+        row: &Row,
     ) -> Result<(), NoMemory>
-        ensures { OnOk result (self.new ≡ lands maker made home moment self.old) }
+        ensures { OnOk result (self.new ≡ lands note maker made row.now.core row.now.moment self.old) }
     {
-        let posted = landed(alloc, self.under_way.as_slice(), maker, made, home, moment)?;
-        drop_sent(&mut self.under_way, maker, made);
+        let posted = landed(alloc, self.under_way.as_slice(), note, maker, made, row)?;
+        drop_sent(&mut self.under_way, note, maker, made);
         self.posted = posted;
         Ok(())
     }
@@ -259,12 +265,12 @@ impl Course {
             Move::Give(thread, places, badge) => {
                 self.give(alloc, thread, stood, moment, (places, badge))
             }
-            Move::Send(thread, places, badge, maker, made) => {
+            Move::Send(thread, places, badge, note, maker, made) => {
                 let carried = self.carried.as_slice();
                 let given = given_by(alloc, carried, thread, stood, moment, (places, badge))?;
-                self.set_out(maker, made, given)
+                self.set_out(note, maker, made, given)
             }
-            Move::Land(maker, made) => self.land(alloc, maker, made, row.core, moment),
+            Move::Land(note, maker, made) => self.land(alloc, note, maker, made, row),
             Move::Hold(note) => {
                 self.hold(note);
                 Ok(())

@@ -25,8 +25,8 @@ abbrev pub are_apart : ChainPart → Move → Origins → Bool
 are_apart chain Nothing o = true
 are_apart chain (Start source badge) o = not (source == chain.source)
 are_apart chain (Give thread places badge) o = is_none (get_or o.carried thread [])
-are_apart chain (Send thread places badge maker made) o = is_none (get_or o.carried thread [])
-are_apart chain (Land maker made) o = is_none o.under_way
+are_apart chain (Send thread places badge note maker made) o = is_none (get_or o.carried thread [])
+are_apart chain (Land note maker made) o = is_none o.under_way
 are_apart chain (Hold note) o = true
 are_apart chain (Wake thread taking) o = true
 are_apart chain (Got thread note taking) o = is_none (get_or o.held note [])

@@ -1,0 +1,209 @@
+//! Tests whether the origins of a chain on a group of cores are the earlier ones, but later. A
+//! group has a yes or a no for each core.
+ghost use Rattle.std.specs.Prelude.{◌≡◌, ◌↔◌, ◌+◌, [], false, map, filter, get_or, reverse, IsTrue, IfOk};
+ghost use Rattle.mcs_chain.specs.Later.{later_mark, later_set, later_sent, later_origins, is_within, AreCarriedLater, AreHeldLater, AreLater, StepsAreSame};
+
+use crate::mark::{Mark, Sent};
+use crate::origins::Origins;
+use crate::set::Set;
+use crate::step::{Gone, gone_of};
+use mcs_system::SystemParts;
+use mcs_ticks::{CoreId, Limits, NoMemory, NoteId, ThreadId, Tick};
+use std::alloc::Global;
+
+fn is_own(own: &[bool; Limits::CORES], core: CoreId) -> bool
+    ensures { result ≡ get_or own.now core false }
+{
+    core.0 < Limits::CORES && own[core.0]
+}
+
+fn is_number_later(before: u64, by: u64, after: u64) -> bool
+    ensures { IsTrue result ↔ (after ≡ before + by) }
+{
+    by <= after && after - by == before
+}
+
+fn is_tick_later(before: Tick, by: u64, after: Tick) -> bool
+    ensures { IsTrue result ↔ (after ≡ before + by) }
+{
+    is_number_later(before.get(), by, after.get())
+}
+
+fn is_mark_later(before: &Mark, by: u64, after: &Mark) -> bool
+    ensures { IsTrue result → after.now ≡ later_mark by before.now }
+{
+    is_tick_later(before.origin, by, after.origin) && before.places == after.places
+}
+
+fn is_sent_later(before: &Sent, by: u64, after: &Sent) -> bool
+    ensures { IsTrue result → after.now ≡ later_sent by before.now }
+{
+    before.note == after.note
+        && before.maker == after.maker
+        && is_number_later(before.made, by, after.made)
+        && is_mark_later(&before.mark, by, &after.mark)
+}
+
+/// Whether origins are the earlier ones, `by` ticks later.
+pub(crate) fn are_ticks_later(before: &[Tick], by: u64, after: &[Tick]) -> bool
+    ensures { IsTrue result → after.now ≡ later_origins by before.now }
+{
+    if before.len() != after.len() {
+        return false;
+    }
+    for i in 0..after.len() {
+        if !is_tick_later(before[i], by, after[i]) {
+            return false;
+        }
+    }
+    true
+}
+
+/// Whether origins and their places are the earlier ones, `by` ticks later.
+fn are_marks_later(before: &[Mark], by: u64, after: &[Mark]) -> bool
+    ensures { IsTrue result → after.now ≡ later_set by before.now }
+{
+    if before.len() != after.len() {
+        return false;
+    }
+    for i in 0..after.len() {
+        if !is_mark_later(&before[i], by, &after[i]) {
+            return false;
+        }
+    }
+    true
+}
+
+fn are_sent_later(before: &[Sent], by: u64, after: &[Sent]) -> bool
+    ensures { IsTrue result → after.now ≡ map (later_sent by) before.now }
+{
+    if before.len() != after.len() {
+        return false;
+    }
+    for i in 0..after.len() {
+        if !is_sent_later(&before[i], by, &after[i]) {
+            return false;
+        }
+    }
+    true
+}
+
+/// The origins of the set with this number, the earliest first.
+fn marks_at(sets: &[Set], number: usize) -> &[Mark]
+    ensures { result.now ≡ reverse (get_or sets.now number []) }
+{
+    if number < sets.len() {
+        sets[number].as_slice()
+    } else {
+        &[]
+    }
+}
+
+/// Whether the set with this number has the origins of the earlier one, `by` ticks later.
+fn is_set_later(before: &[Set], by: u64, after: &[Set], number: usize) -> bool
+    ensures { IsTrue result → get_or after.now number [] ≡ later_set by (get_or before.now number []) }
+{
+    are_marks_later(marks_at(before, number), by, marks_at(after, number))
+}
+
+/// Whether a core of the group made the signal, for a notification of the group.
+fn is_within(parts: &SystemParts, own: &[bool; Limits::CORES], sent: &Sent) -> bool
+    ensures { result ≡ is_within parts.now (λ core. get_or own.now core false) sent.now }
+{
+    is_own(own, sent.maker) && is_own(own, parts.core_of_note(sent.note))
+}
+
+/// The signals between cores of the group.
+fn within(
+    alloc: Global,
+    parts: &SystemParts,
+    own: &[bool; Limits::CORES],
+    under_way: &[Sent],
+) -> Result<Vec<Sent>, NoMemory>
+    ensures { IfOk result (λ all. all.items ≡ filter (is_within parts.now (λ core. get_or own.now core false)) under_way.now) }
+{
+    let mut all = Vec::new(alloc);
+    for sent in under_way {
+        if is_within(parts, own, sent) {
+            all.push(*sent)?;
+        }
+    }
+    Ok(all)
+}
+
+/// Whether each notification of the group holds the origins that it held, `by` ticks later.
+fn are_held_later(
+    parts: &SystemParts,
+    own: &[bool; Limits::CORES],
+    before: &[Set],
+    by: u64,
+    after: &[Set],
+) -> bool
+    ensures { IsTrue result → AreHeldLater parts.now (λ core. get_or own.now core false) by before.now after.now }
+{
+    for note in 0..parts.notes.len() {
+        if is_own(own, parts.core_of_note(NoteId(note))) && !is_set_later(before, by, after, note) {
+            return false;
+        }
+    }
+    true
+}
+
+/// Whether each thread of the group carries the origins that it carried, `by` ticks later.
+fn are_carried_later(
+    parts: &SystemParts,
+    own: &[bool; Limits::CORES],
+    before: &[Set],
+    by: u64,
+    after: &[Set],
+) -> bool
+    ensures { IsTrue result → AreCarriedLater parts.now (λ core. get_or own.now core false) by before.now after.now }
+{
+    for thread in 0..parts.threads.len() {
+        let core = parts.core_of_thread(parts.thread(ThreadId(thread)));
+        if is_own(own, core) && !is_set_later(before, by, after, thread) {
+            return false;
+        }
+    }
+    true
+}
+
+/// Whether the origins of the group are the earlier ones, `by` ticks later.
+pub(crate) fn are_later(
+    alloc: Global,
+    parts: &SystemParts,
+    own: &[bool; Limits::CORES],
+    before: &Origins,
+    by: u64,
+    after: &Origins,
+) -> Result<bool, NoMemory>
+    ensures { IfOk result (λ later. IsTrue later → AreLater parts.now (λ core. get_or own.now core false) by before.now after.now) }
+{
+    if !are_held_later(parts, own, &before.held, by, &after.held)
+        || !are_carried_later(parts, own, &before.carried, by, &after.carried)
+    {
+        return Ok(false);
+    }
+    let earlier = within(alloc, parts, own, &before.under_way)?;
+    let later = within(alloc, parts, own, &after.under_way)?;
+    Ok(are_sent_later(&earlier, by, &later))
+}
+
+/// Whether each thread of the group is as far in its script.
+pub(crate) fn are_steps_same(
+    parts: &SystemParts,
+    own: &[bool; Limits::CORES],
+    before: &[Gone],
+    after: &[Gone],
+) -> bool
+    ensures { IsTrue result → StepsAreSame parts.now (λ core. get_or own.now core false) before.now after.now }
+{
+    for thread in 0..parts.threads.len() {
+        let id = ThreadId(thread);
+        let core = parts.core_of_thread(parts.thread(id));
+        if is_own(own, core) && gone_of(after, id) != gone_of(before, id) {
+            return false;
+        }
+    }
+    true
+}
