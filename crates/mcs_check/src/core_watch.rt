@@ -12,7 +12,7 @@ ghost use Rattle.mcs_check.specs.stored.Rows.{counted_at};
 use crate::thread_watch::ThreadWatch;
 use mcs_check_lines::Counts;
 use mcs_system::System;
-use mcs_ticks::{NoMemory, Refused, Row, Tick, What};
+use mcs_ticks::{NoMemory, Refused, Row, Tick};
 use mcs_verdict::{Finding, Found};
 use std::alloc::Global;
 
@@ -54,11 +54,10 @@ impl CoreWatch {
         ensures found { (system : TheSystem) (past : List TheRow) → self.old.watch ≡ threads_of system past → UpTo row.now.moment past →
             OnOk result (self.new.found.items ≡ self.old.found.items ++ since from (told_by system allowed.now past row.now)) }
     {
-        // Other rows have no finding.
-        if let What::Round { .. } | What::Hold { .. } | What::Got { .. } = row.what {
+        if !self.watch.is_quiet(row) {
             return self.see_any(allowed, from, row);
         }
-        self.watch.see(row);
+        self.watch.take(row);
         Ok(())
     }
 

@@ -1,5 +1,5 @@
 //! The state that is kept of the rows of threads.
-ghost use Rattle.std.specs.Prelude.{◌≡◌, ◌∷◌, [], List, IfOk};
+ghost use Rattle.std.specs.Prelude.{◌≡◌, ◌∷◌, [], List, None, true, false, IfOk};
 ghost use Rattle.mcs_ticks.specs.declared.row.Row.{Row as TheRow};
 ghost use Rattle.mcs_system.specs.System.{System as TheSystem};
 ghost use Rattle.mcs_verdict.specs.Findings.{finding, UpTo};
@@ -29,6 +29,27 @@ impl ThreadWatch {
             accounts: Watch::new(alloc, system)?,
             ended: Ended::new(alloc, system.parts().threads.len())?,
         })
+    }
+
+    /// Whether it is known at once that the row has no finding and is no coalesced signal. Call it
+    /// before `take`.
+    #[inline(always)]
+    pub(crate) fn is_quiet(&self, row: &Row) -> bool
+        ensures found { (system : TheSystem) (past : List TheRow) → self.now ≡ threads_of system past → UpTo row.now.moment past →
+            result ≡ true → finding system past row.now.moment row.now.what ≡ None }
+        ensures merged { (system : TheSystem) (past : List TheRow) → result ≡ true → merges system past row.now.what ≡ false }
+    {
+        self.accounts.is_quiet(row)
+    }
+
+    /// Takes one more row without its finding.
+    #[inline(always)]
+    pub(crate) fn take(&mut self, row: &Row)
+        ensures { (system : TheSystem) (past : List TheRow) → self.old ≡ threads_of system past → UpTo row.now.moment past →
+            self.new ≡ threads_of system (row.now ∷ past) }
+    {
+        self.ended.see(row);
+        self.accounts.take(row);
     }
 
     /// Takes one more row and returns its finding.

@@ -6,6 +6,7 @@ use Rattle.mcs_control.specs.declared.config.Mode.TheVariants as mode
 use Rattle.mcs_system.specs.System.{System}
 use Rattle.mcs_table.specs.declared.figures.Margin.TheVariants.{Over}
 use Rattle.mcs_verdict.specs.declared.job.Job.{Job}
+use Rattle.mcs_hints.specs.declared.hint.Hint.TheVariants.{Unreached}
 use Rattle.mcs_chain.specs.declared.answer.Answer.{Answer}
 use Rattle.mcs_chain.specs.declared.figures.Figures.{Figures}
 use Rattle.mcs_chain.specs.declared.finding.Finding.{Finding}
@@ -18,7 +19,7 @@ use Rattle.mcs_check_lines.specs.declared.counts.Counts.{Counts}
 use Rattle.mcs_check_lines.specs.Answers.{answer_line}
 use Rattle.mcs_check_lines.specs.Chains.{chain_found_line, chain_line, with_placed}
 use Rattle.mcs_check_lines.specs.Counts.{no_counts}
-use Rattle.mcs_check_lines.specs.Formats.{counts_line, head_text, job_line}
+use Rattle.mcs_check_lines.specs.Formats.{counts_line, head_text, hint_line, job_line}
 
 -- a file with the chain e
 system : System
@@ -34,10 +35,23 @@ system =
       orders = [];
       links = [];
       servers = 0;
-      sources = [];
+      sources = record { name = codes "s"; note = 0; badge = 1 } ∷ [];
       beats = [];
       chains = record { name = codes "e"; source = 0; thread = 0; badges = 0; deadline = 8 } ∷ [];
     }
+
+-- no signal can complete it
+unreached_text : hint_line format.Text system (Unreached 0 0 0) ≡ codes "hint chain e: no signal leads from s to C\n"
+unfolding system
+unreached_text = refl
+
+unreached_object : hint_line format.Json system (Unreached 0 0 0)
+    ≡ codes "{\"kind\":\"hint\",\"hint\":\"unreached\",\"chain\":\"e\",\"source\":\"s\",\"thread\":\"C\"}\n"
+unfolding system serde_json_on_literals
+unreached_object = refl
+
+unreached_row : hint_line format.Csv system (Unreached 0 0 0) ≡ []
+unreached_row = refl
 
 abbrev found : ℕ → ℕ → Finding → Found
 found moment core finding = record { moment = moment; core = core; chain = 0; finding = finding }

@@ -55,25 +55,3 @@ no_answer = refl
 
 chains_in_time : status_of true (record in_time { chains = Some (record { slow = 0; unanswered = 0 }) }) ≡ 0
 chains_in_time = refl
-
--- exit code 0 with --strict: nothing is found, nothing is doubtful, and something was judged
-pub all_is_well : (checked : Checked) → status_of true checked ≡ 0
-    → (is_found checked ≡ false) × ((is_doubtful checked ≡ false) × ((checked.scope.judged == 0) ≡ false))
-all_is_well checked e = by (is_found checked) (is_doubtful checked) (checked.scope.judged == 0) e
-  where
-    by : (a b j : Bool) → code_of (a || (true && b)) j ≡ 0 → (a ≡ false) × ((b ≡ false) × (j ≡ false))
-    by true b j e = absurd (omega (arith, e))
-    by false true j e = absurd (omega (arith, e))
-    by false false true e = absurd (omega (arith, e))
-    by false false false e = (refl, (refl, refl))
-
--- exit code 6: nothing is found, and nothing was judged
-pub nothing_said : (strict : Bool) (checked : Checked) → status_of strict checked ≡ 6
-    → (is_found checked ≡ false) × ((checked.scope.judged == 0) ≡ true)
-nothing_said strict checked e = by (is_found checked) (strict && is_doubtful checked) (checked.scope.judged == 0) e
-  where
-    by : (a b j : Bool) → code_of (a || b) j ≡ 6 → (a ≡ false) × (j ≡ true)
-    by true b j e = absurd (omega (arith, e))
-    by false true j e = absurd (omega (arith, e))
-    by false false true e = (refl, refl)
-    by false false false e = absurd (omega (arith, e))

@@ -1,5 +1,5 @@
 -- Words that are appended one after another.
-use Rattle.std.proofs.Common.{◌≡◌, ◌∙◌, ◌++◌, ◌∷◌, [], ℕ, List, refl, ap, sym, append_assoc, append-nil}
+use Rattle.std.proofs.Common.{◌≡◌, ◌∙◌, ◌++◌, ◌∷◌, [], ℕ, List, codes, refl, ap, sym, append_assoc, append-nil}
 use Rattle.mcs_text.specs.Text.{after, line}
 
 after-append : (xs ys : List (List ℕ)) → after (xs ++ ys) ≡ after xs ++ after ys
@@ -25,3 +25,11 @@ then-line old first now last all word xs ys begun before more ended =
 pub then-word : (old now last word : List ℕ) (xs : List (List ℕ)) → now ≡ old ++ after xs → last ≡ now ++ 32 ∷ word → last ≡ old ++ after (xs ++ word ∷ [])
 then-word old now last word xs before more =
     then-words old now last xs (word ∷ []) before (more ∙ ap (λ l. now ++ 32 ∷ l) (sym (append-nil word)))
+
+-- a word, and a name with a colon
+pub with-colon : (old now last word name : List ℕ) → now ≡ old ++ after (word ∷ name ∷ []) → last ≡ now ++ 58 ∷ []
+    → last ≡ old ++ after (word ∷ (name ++ codes ":") ∷ [])
+with-colon old now last word name before more =
+    more ∙ ap (λ l. l ++ 58 ∷ []) before ∙ append_assoc old (after (word ∷ name ∷ [])) (58 ∷ [])
+    ∙ ap (λ l. old ++ 32 ∷ l) (append_assoc word (32 ∷ (name ++ [])) (58 ∷ [])
+    ∙ ap (λ l. word ++ 32 ∷ l) (append_assoc name [] (58 ∷ []) ∙ sym (append-nil (name ++ 58 ∷ []))))

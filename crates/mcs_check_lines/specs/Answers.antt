@@ -5,7 +5,7 @@ use Rattle.mcs_system.specs.System.{System}
 use Rattle.mcs_text.specs.Text.{counted, line, thread_name}
 use Rattle.mcs_chain.specs.declared.answer.Answer.{Answer}
 use Rattle.mcs_check_words.specs.declared.asked.Format.{Format}
-use Rattle.mcs_check_lines.specs.Chains.{chain_name}
+use Rattle.mcs_check_lines.specs.Names.{chain_name}
 use Rattle.mcs_check_lines.specs.Fields.{Fields}
 use Rattle.mcs_check_lines.specs.Figures.{deadline_known}
 use Rattle.mcs_check_lines.specs.Formats.{written}

@@ -10,16 +10,10 @@ use Rattle.mcs_chain.specs.declared.finding.Finding.TheVariants.{Slow, Unanswere
 use Rattle.mcs_chain.specs.declared.finding.Found.{Found}
 use Rattle.mcs_check_words.specs.declared.asked.Format.{Format}
 use Rattle.mcs_check_lines.specs.Fields.{Fields}
+use Rattle.mcs_check_lines.specs.Names.{chain_name}
 use Rattle.mcs_check_lines.specs.Figures.{deadline_known, known, margin_value, pair_words}
 use Rattle.mcs_check_words.specs.declared.asked.Show.TheVariants as show
 use Rattle.mcs_check_lines.specs.Formats.{column_names, empty_in, written}
-
--- the value past the end of the list, which is never reached
-abbrev pub no_chain : ChainPart
-no_chain = record { name = []; source = 0; thread = 0; badges = 0; deadline = 0 }
-
-abbrev pub chain_name : System → ℕ → Text
-chain_name system n = (get_or system.chains n no_chain).name
 
 -- a finding and its numbers
 abbrev pub due_words : ℕ → ℕ → List Text

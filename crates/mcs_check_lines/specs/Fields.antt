@@ -4,7 +4,7 @@ use Rattle.mcs_fields.specs.Fields.{Text, Value, amount, empty, listed, name}
 use Rattle.mcs_system.specs.System.{System, core_of, thread_part}
 use Rattle.mcs_text.specs.Text.{context_name, note_name, source_name, thread_name}
 use Rattle.mcs_hints.specs.declared.hint.Hint.{Hint}
-use Rattle.mcs_hints.specs.declared.hint.Hint.TheVariants.{NoThread, NoDeadline, Unsignalled, Unawaited, Unhandled, Unheard, Inverted, Unbound, Unused, Overcommitted}
+use Rattle.mcs_hints.specs.declared.hint.Hint.TheVariants.{NoThread, NoDeadline, Unsignalled, Unawaited, Unhandled, Unheard, Inverted, Unreached, Unbound, Unused, Overcommitted}
 use Rattle.mcs_verdict.specs.declared.finding.Finding.{Finding}
 use Rattle.mcs_verdict.specs.declared.finding.Finding.TheVariants.{Miss, Overdue, Untaken, Lost, Never}
 use Rattle.mcs_verdict.specs.declared.finding.Found.{Found}
@@ -15,6 +15,7 @@ use Rattle.mcs_check_lines.specs.declared.checked.Checked.{Checked}
 use Rattle.mcs_check_lines.specs.declared.checked.Scope.{Scope}
 use Rattle.mcs_check_lines.specs.declared.counts.Counts.{Counts}
 use Rattle.mcs_check_lines.specs.Lines.{taker_names}
+use Rattle.mcs_check_lines.specs.Names.{chain_name}
 
 abbrev pub Fields : Type 0
 Fields = List (Text × Value)
@@ -154,6 +155,12 @@ call_fields thread server priority caller =
     (codes "kind", name (codes "hint")) ∷ (codes "hint", name (codes "inverted")) ∷ (codes "thread", name thread)
     ∷ (codes "server", name server) ∷ (codes "priority", amount priority) ∷ (codes "caller", amount caller) ∷ []
 
+-- a chain that no signal can complete
+abbrev pub unreached_fields : List ℕ → List ℕ → List ℕ → Fields
+unreached_fields chain source thread =
+    (codes "kind", name (codes "hint")) ∷ (codes "hint", name (codes "unreached")) ∷ (codes "chain", name chain)
+    ∷ (codes "source", name source) ∷ (codes "thread", name thread) ∷ []
+
 -- a hint
 abbrev pub hint_fields : System → Hint → Fields
 hint_fields system NoThread = (codes "kind", name (codes "hint")) ∷ (codes "hint", name (codes "no_thread")) ∷ []
@@ -166,6 +173,8 @@ hint_fields system (Unawaited source note) =
 hint_fields system (Unhandled source note badge) = unhandled_fields (source_name system source) (note_name system note) badge
 hint_fields system (Unheard thread note badge) = unheard_fields (thread_name system thread) (note_name system note) badge
 hint_fields system (Inverted thread server priority caller) = call_fields (thread_name system thread) (note_name system server) priority caller
+hint_fields system (Unreached chain source thread) =
+    unreached_fields (chain_name system chain) (source_name system source) (thread_name system thread)
 hint_fields system (Unbound context) =
     (codes "kind", name (codes "hint")) ∷ (codes "hint", name (codes "unbound")) ∷ (codes "context", name (context_name system context)) ∷ []
 hint_fields system (Unused core) =

@@ -3,6 +3,7 @@ pub mod Checked
 pub mod Deadlines
 pub mod Status
 pub mod Unjudged
+pub mod Names
 pub mod Lines
 pub mod Fields
 pub mod Formats

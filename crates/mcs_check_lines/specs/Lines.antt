@@ -4,7 +4,7 @@ use Rattle.mcs_fields.specs.Fields.{joined}
 use Rattle.mcs_system.specs.System.{System, core_of, thread_part}
 use Rattle.mcs_text.specs.Text.{context_name, counted, line, note_name, source_name, thread_name}
 use Rattle.mcs_hints.specs.declared.hint.Hint.{Hint}
-use Rattle.mcs_hints.specs.declared.hint.Hint.TheVariants.{NoThread, NoDeadline, Unsignalled, Unawaited, Unhandled, Unheard, Inverted, Unbound, Unused, Overcommitted}
+use Rattle.mcs_hints.specs.declared.hint.Hint.TheVariants.{NoThread, NoDeadline, Unsignalled, Unawaited, Unhandled, Unheard, Inverted, Unreached, Unbound, Unused, Overcommitted}
 use Rattle.mcs_verdict.specs.declared.finding.Finding.{Finding}
 use Rattle.mcs_verdict.specs.declared.finding.Finding.TheVariants.{Miss, Overdue, Untaken, Lost, Never}
 use Rattle.mcs_verdict.specs.declared.finding.Found.{Found}
@@ -15,6 +15,7 @@ use Rattle.mcs_check_lines.specs.declared.checked.ChainCounts.{ChainCounts}
 use Rattle.mcs_check_lines.specs.declared.checked.Checked.{Checked}
 use Rattle.mcs_check_lines.specs.declared.checked.Scope.{Scope}
 use Rattle.mcs_check_lines.specs.declared.counts.Counts.{Counts}
+use Rattle.mcs_check_lines.specs.Names.{chain_name}
 
 -- how a thread stood in the parts of its round
 abbrev pub ways : Stood → List (List ℕ × ℕ)
@@ -100,6 +101,11 @@ abbrev pub call_words : List ℕ → ℕ → ℕ → List (List ℕ)
 call_words server priority caller =
     codes "calls" ∷ server ∷ counted ((codes "of priority", priority) ∷ (codes "at priority", caller) ∷ [])
 
+-- a chain that no signal can complete
+abbrev pub unreached_words : List ℕ → List ℕ → List ℕ → List (List ℕ)
+unreached_words chain source thread =
+    codes "chain" ∷ (chain ++ codes ":") ∷ codes "no signal leads from" ∷ source ∷ codes "to" ∷ thread ∷ []
+
 -- the subject of a hint and its reason
 abbrev pub hint_words : System → Hint → List (List ℕ)
 hint_words system NoThread = codes "no thread" ∷ []
@@ -113,6 +119,8 @@ hint_words system (Unheard thread note badge) =
     codes "thread" ∷ thread_name system thread ∷ untaken_words (codes "signals") (note_name system note) badge
 hint_words system (Inverted thread server priority caller) =
     codes "thread" ∷ thread_name system thread ∷ call_words (note_name system server) priority caller
+hint_words system (Unreached chain source thread) =
+    unreached_words (chain_name system chain) (source_name system source) (thread_name system thread)
 hint_words system (Unbound context) = codes "context" ∷ context_name system context ∷ codes "has no thread" ∷ []
 hint_words system (Unused core) = counted ((codes "core", core) ∷ []) ++ codes "has no thread" ∷ []
 hint_words system (Overcommitted core millionths) =

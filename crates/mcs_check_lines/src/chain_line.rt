@@ -3,7 +3,8 @@ ghost use Rattle.std.specs.Prelude.{◌≡◌, ◌++◌, ◌∷◌, [], OnOk, On
 ghost use Rattle.std.specs.Io.{StartsWith};
 ghost use Rattle.mcs_fields.specs.Fields.{field_of, value_of};
 ghost use Rattle.mcs_text.specs.Text.{after, counted};
-ghost use Rattle.mcs_check_lines.specs.Chains.{chain_deadline, chain_found_fields, chain_found_line, chain_found_lines, chain_found_text, chain_kind, chain_name, chain_words, due_words, latency_of, origin_of};
+ghost use Rattle.mcs_check_lines.specs.Chains.{chain_deadline, chain_found_fields, chain_found_line, chain_found_lines, chain_found_text, chain_kind, chain_words, due_words, latency_of, origin_of};
+ghost use Rattle.mcs_check_lines.specs.Names.{chain_name};
 
 use crate::line::{append_digits, append_named};
 use mcs_chain::{ChainId, Finding, Found};

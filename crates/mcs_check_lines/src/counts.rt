@@ -10,7 +10,7 @@ pub struct Counts {
     pub missed: u64,
     /// Overdue rounds, which can only end with a miss.
     pub overdue: u64,
-    /// Words that nobody has taken for so long that whoever takes one misses its deadline.
+    /// Words that were left so long that each thread that may take one misses its deadline.
     pub untaken: u64,
     /// Lost activations: signals that did not change the word.
     pub lost: u64,

@@ -13,6 +13,7 @@ mod fields;
 mod figures;
 mod format;
 mod hint_line;
+mod hint_object;
 mod job_line;
 mod line;
 mod pairs;

@@ -16,7 +16,7 @@ use mcs_text::{append_counts, append_number, append_word, thread_name};
 use mcs_ticks::{CoreId, NoMemory, ThreadId, Tick};
 use std::alloc::Global;
 
-/// A thread with a deadline that ended no round, and of which nothing is found at the horizon.
+/// A thread with a deadline that has ended no round, and has no finding at the horizon.
 #[derive(Clone, Copy, Debug, PartialEq, Eq)]
 pub struct Unjudged {
     /// The horizon.

@@ -45,12 +45,12 @@ system =
 -- The high one waits from 1 on, and is woken at 5; its second round has not begun at 9.
 waited : why_text format.Text system 9 (codes "High", codes "1")
     ≡ codes "1 0 stop High wait 1\n1 0 run Low\n5 0 signal Low x 1\n5 0 wake High x 1\n5 0 round Low 1 5\n5 0 stop Low done 4\n5 0 run High\n7 0 round High 1 2\n"
-    ++ codes "why High number 1 from 1 to 7 waited 4 activated 5 begun 5 ended 7\nran Low ticks 4\nran High ticks 2\nidle ticks 0\n"
+    ++ codes "why High round 1 from 1 to 7 waited 4 activated 5 begun 5 ended 7\nran Low ticks 4\nran High ticks 2\nidle ticks 0\n"
 unfolding system digits
 waited = refl
 
 waits : why_text format.Text system 9 (codes "High", codes "2")
-    ≡ codes "8 0 stop High wait 3\nwhy High number 2 from 8 to 9 waited 1 activated - begun - ended -\nidle ticks 1\n"
+    ≡ codes "8 0 stop High wait 3\nwhy High round 2 from 8 to 9 waited 1 activated - begun - ended -\nidle ticks 1\n"
 unfolding system digits
 waits = refl
 

@@ -4,4 +4,5 @@ pub mod Bounds
 pub mod Taken
 pub mod Grants
 mod Digits
+pub mod Settled
 pub mod Worked

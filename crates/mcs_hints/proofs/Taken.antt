@@ -1,5 +1,5 @@
 -- The badges that are taken from notifications after one item more.
-use Rattle.std.proofs.Common.{◌≡◌, ◌≢◌, ℕ, ◌+◌, ◌<◌, ◌≤◌, true, false, eqb, List, [], ◌∷◌, length, get_or, set, take, map, fold, bit_or, if◌then◌else◌, refl, sym, ap, ◌∙◌}
+use Rattle.std.proofs.Common.{◌≡◌, ◌≢◌, ℕ, ◌+◌, ◌<◌, ◌≤◌, List, length, get_or, set, take, map, fold, bit_or, if◌then◌else◌, refl, sym, ap, ◌∙◌}
 use Rattle.std.proofs.lemmas.Bool.{ne_eqb, eq-eqb}
 use Rattle.std.proofs.lemmas.List.{set_past}
 use Rattle.std.proofs.lemmas.List.Sums.{fold_more}
@@ -8,7 +8,7 @@ use Rattle.mcs_script.specs.declared.item.Item.TheVariants.{Wait}
 use Rattle.mcs_system.specs.declared.part.ThreadPart.{ThreadPart}
 use Rattle.mcs_hints.specs.Numbers.{numbers}
 use Rattle.mcs_hints.specs.Handlers.{with_item, with_script, taken_from}
-use Rattle.mcs_hints.proofs.Numbers.{set_number, same_numbers, at_number, length-numbers}
+use Rattle.mcs_hints.proofs.Numbers.{set_number, at_number}
 
 module _ (so_far : ℕ → ℕ) (note notes badges : ℕ) (taken : List ℕ) (is : taken ≡ map so_far (numbers notes)) where
   there : note < notes → bit_or (get_or taken note 0) badges ≡ with_item note badges (so_far note) (Wait note)

@@ -6,7 +6,7 @@ use Rattle.mcs_control.specs.declared.config.Mode.TheVariants as mode
 use Rattle.mcs_system.specs.declared.part.ContextPart.{ContextPart}
 use Rattle.mcs_system.specs.declared.part.ThreadPart.{ThreadPart}
 use Rattle.mcs_system.specs.System.{System}
-use Rattle.mcs_hints.specs.declared.hint.Hint.TheVariants.{NoThread, NoDeadline, Unsignalled, Unawaited, Unhandled, Unheard, Inverted, Unbound, Unused, Overcommitted}
+use Rattle.mcs_hints.specs.declared.hint.Hint.TheVariants.{NoThread, NoDeadline, Unsignalled, Unawaited, Unhandled, Unheard, Inverted, Unreached, Unbound, Unused, Overcommitted}
 use Rattle.mcs_hints.specs.declared.hint.Hint.{Hint}
 use Rattle.mcs_hints.specs.Hints.{hints_of as all_hints_of}
 use Rattle.mcs_hints.specs.Cores.{granted}
@@ -217,14 +217,14 @@ in_time context = record (thread context (Compute 1 ∷ [])) { deadline = 7 }
 of_a_thread : all_hints_of (system one (thread 0 (Compute 1 ∷ []) ∷ in_time 0 ∷ [])) ≡ Unused 1 ∷ []
 of_a_thread = refl
 
-abbrev with_chain : ℕ → System → System
-with_chain deadline parts =
-    record parts { chains = record { name = []; source = 0; thread = 0; badges = 0; deadline = deadline } ∷ [] }
+abbrev with_chain : ℕ → ℕ → ℕ → System → System
+with_chain thread badges deadline parts =
+    record (with_source parts) { chains = record { name = []; source = 0; thread = thread; badges = badges; deadline = deadline } ∷ [] }
 
-of_a_chain : all_hints_of (with_chain 9 (system one (thread 0 (Compute 1 ∷ []) ∷ []))) ≡ Unused 1 ∷ []
+of_a_chain : all_hints_of (with_chain 0 0 9 (system one (thread 0 (Wait 1 ∷ Compute 1 ∷ []) ∷ []))) ≡ Unused 1 ∷ []
 of_a_chain = refl
 
-chain_without : all_hints_of (with_chain 0 (system one (thread 0 (Compute 1 ∷ []) ∷ []))) ≡ NoDeadline ∷ Unused 1 ∷ []
+chain_without : all_hints_of (with_chain 0 0 0 (system one (thread 0 (Wait 1 ∷ Compute 1 ∷ []) ∷ []))) ≡ NoDeadline ∷ Unused 1 ∷ []
 chain_without = refl
 
 -- a thread on each core; and one on core 1 alone, whose second context makes no hint of the core
@@ -237,3 +237,95 @@ one_used = refl
 -- an unused core stands before an overcommitted one, whatever their numbers
 unused_first : all_hints_of (system (context 0 3 10 ∷ context 0 8 10 ∷ []) (in_time 0 ∷ in_time 1 ∷ [])) ≡ Unused 1 ∷ Overcommitted 0 1100000 ∷ []
 unused_first = refl
+
+-- A chain from a source, which posts badge 1 on notification 1, to the first thread, whose jobs for these badges answer.
+abbrev is_of_chain : Hint → Bool
+is_of_chain (Unreached chain source thread) = true
+is_of_chain _ = false
+
+abbrev chained : ℕ → List ThreadPart → List Hint
+chained badges threads = filter is_of_chain (all_hints_of (with_chain 0 badges 9 (system one threads)))
+
+-- it waits for the source itself
+reached : chained 0 (thread 0 (Wait 1 ∷ Compute 1 ∷ []) ∷ []) ≡ []
+reached = refl
+
+reached_at_a_later_wait : chained 0 (thread 0 (Compute 1 ∷ Wait 1 ∷ Compute 1 ∷ []) ∷ []) ≡ []
+reached_at_a_later_wait = refl
+
+-- it waits elsewhere, or has nothing to do for the badge
+waits_elsewhere : chained 0 (thread 0 (Wait 0 ∷ Compute 1 ∷ []) ∷ []) ≡ Unreached 0 0 0 ∷ []
+waits_elsewhere = refl
+
+has_no_handler : chained 0 (thread 0 (Wait 1 ∷ On 2 ∷ Compute 1 ∷ []) ∷ []) ≡ Unreached 0 0 0 ∷ []
+has_no_handler = refl
+
+has_an_empty_handler : chained 0 (thread 0 (Wait 1 ∷ On 1 ∷ On 2 ∷ Compute 1 ∷ []) ∷ []) ≡ Unreached 0 0 0 ∷ []
+has_an_empty_handler = refl
+
+-- it has two handlers, and the chain answers for badges
+abbrev of_two : List Item
+of_two = Wait 1 ∷ On 1 ∷ Compute 1 ∷ On 2 ∷ Compute 1 ∷ []
+
+for_its_badge : chained 1 (thread 0 of_two ∷ []) ≡ []
+for_its_badge = refl
+
+for_another_badge : chained 2 (thread 0 of_two ∷ []) ≡ Unreached 0 0 0 ∷ []
+for_another_badge = refl
+
+-- what the whole job is given answers for each badge
+of_the_whole_job : chained 2 (thread 0 (Wait 0 ∷ Wait 1 ∷ Compute 1 ∷ On 2 ∷ Compute 1 ∷ []) ∷ []) ≡ []
+of_the_whole_job = refl
+
+of_a_handler : chained 2 (thread 0 (Wait 0 ∷ On 1 ∷ Wait 1 ∷ Compute 1 ∷ On 2 ∷ Compute 1 ∷ []) ∷ []) ≡ Unreached 0 0 0 ∷ []
+of_a_handler = refl
+
+-- another thread has a script, and the first one waits for notification 0
+abbrev by_signals : List Item → List Hint
+by_signals script = chained 0 (thread 0 (Wait 0 ∷ On 4 ∷ Compute 1 ∷ []) ∷ thread 0 script ∷ [])
+
+signalled_on : by_signals (Wait 1 ∷ Signal 0 4 ∷ []) ≡ []
+signalled_on = refl
+
+signalled_on_with_another_badge : by_signals (Wait 1 ∷ Signal 0 3 ∷ []) ≡ Unreached 0 0 0 ∷ []
+signalled_on_with_another_badge = refl
+
+signalled_elsewhere : by_signals (Wait 1 ∷ Signal 1 4 ∷ []) ≡ Unreached 0 0 0 ∷ []
+signalled_elsewhere = refl
+
+-- a signal before the wait carries what the job before had, which is dropped at its end
+signalled_too_early : by_signals (Signal 0 4 ∷ Wait 1 ∷ Compute 1 ∷ []) ≡ Unreached 0 0 0 ∷ []
+signalled_too_early = refl
+
+signalled_by_its_handler : by_signals (Wait 1 ∷ On 1 ∷ Signal 0 4 ∷ On 2 ∷ Compute 1 ∷ []) ≡ []
+signalled_by_its_handler = refl
+
+signalled_by_another_handler : by_signals (Wait 1 ∷ On 1 ∷ Compute 1 ∷ On 2 ∷ Signal 0 4 ∷ []) ≡ Unreached 0 0 0 ∷ []
+signalled_by_another_handler = refl
+
+signalled_by_a_server : by_signals (Wait 1 ∷ On 1 ∷ Enter 0 9 ∷ Signal 0 4 ∷ Leave 0 5 ∷ []) ≡ []
+signalled_by_a_server = refl
+
+-- a later wait gives its handler, or the whole job
+given_to_its_handler : by_signals (Wait 0 ∷ On 1 ∷ Wait 1 ∷ Signal 0 4 ∷ []) ≡ []
+given_to_its_handler = refl
+
+given_to_another_handler : by_signals (Wait 0 ∷ On 1 ∷ Wait 1 ∷ Compute 1 ∷ On 2 ∷ Signal 0 4 ∷ []) ≡ Unreached 0 0 0 ∷ []
+given_to_another_handler = refl
+
+given_to_a_handler_of_a_common_badge : by_signals (Wait 0 ∷ On 3 ∷ Wait 1 ∷ Compute 1 ∷ On 6 ∷ Signal 0 4 ∷ []) ≡ []
+given_to_a_handler_of_a_common_badge = refl
+
+given_to_the_whole_job : by_signals (Wait 0 ∷ Wait 1 ∷ Compute 1 ∷ On 2 ∷ Signal 0 4 ∷ []) ≡ []
+given_to_the_whole_job = refl
+
+-- a way against the order of the file, which takes a pass for each signal
+against_the_order : chained 0 (thread 0 (Wait 0 ∷ On 8 ∷ Compute 1 ∷ []) ∷ thread 0 (Wait 0 ∷ On 4 ∷ Signal 0 8 ∷ [])
+    ∷ thread 0 (Wait 0 ∷ On 2 ∷ Signal 0 4 ∷ []) ∷ thread 0 (Wait 1 ∷ Signal 0 2 ∷ []) ∷ []) ≡ []
+against_the_order = refl
+
+-- hints of chains stand behind those of threads, and before those of contexts
+between_threads_and_contexts :
+    hints_of (with_chain 0 0 9 (system (context 0 1 10 ∷ context 0 1 10 ∷ []) (thread 0 (Wait 0 ∷ On 1 ∷ Signal 0 2 ∷ Enter 1 5 ∷ Leave 1 5 ∷ []) ∷ [])))
+    ≡ Unawaited 0 1 ∷ Unheard 0 0 2 ∷ Inverted 0 1 5 5 ∷ Unreached 0 0 0 ∷ Unbound 1 ∷ []
+between_threads_and_contexts = refl

@@ -11,9 +11,10 @@ use Rattle.mcs_hints.specs.Cores.{overcommitted, unused}
 use Rattle.mcs_hints.specs.Whole.{nothing_to_judge}
 use Rattle.mcs_hints.specs.Handlers.{unheard, unread}
 use Rattle.mcs_hints.specs.Ceilings.{inverted}
+use Rattle.mcs_hints.specs.Chains.{unreached}
 
--- that of the whole file, then those of notifications, sources, threads, contexts, cores without a
--- thread and overcommitted cores, each by number
+-- that of the whole file, then those of notifications, sources, threads, chains, contexts, cores
+-- without a thread and overcommitted cores, each by number
 abbrev pub hints_of : System → List Hint
 hints_of system =
     option_to_list (nothing_to_judge system.threads system.chains)
@@ -21,6 +22,7 @@ hints_of system =
     ++ filter_map (unread system) (numbers (length system.sources))
     ++ filter_map (unheard system) (numbers (length system.threads))
     ++ filter_map (inverted system) (numbers (length system.threads))
+    ++ filter_map (unreached system) (numbers (length system.chains))
     ++ filter_map (unbound system.threads) (numbers (length system.contexts))
     ++ filter_map (unused system) (numbers system.cores)
     ++ filter_map (overcommitted system) (numbers system.cores)

@@ -6,5 +6,7 @@ pub mod Cores
 pub mod Whole
 pub mod Handlers
 pub mod Ceilings
+pub mod Carried
+pub mod Chains
 pub mod Hints
 pub mod stored

@@ -3,6 +3,7 @@ ghost use Rattle.mcs_hints.specs.Hints.{hints_of};
 
 use crate::Hint;
 use crate::ceilings::keep_inverted;
+use crate::chains::keep_unreached;
 use crate::contexts::{bind_contexts, keep_unbound};
 use crate::cores::{keep_overcommitted, keep_unused};
 use crate::handlers::{keep_unheard, keep_unread, taken_badges};
@@ -15,11 +16,12 @@ use mcs_ticks::NoMemory;
 use std::alloc::Global;
 
 /// Returns the hints of a system, for any horizon: first that of the whole file, then those of
-/// notifications, sources, threads, contexts and cores, each by number. Fails with `NoMemory` if
-/// memory runs out.
+/// notifications, sources, threads, chains, contexts and cores, each by number. Fails with
+/// `NoMemory` if memory runs out.
 ///
 /// Takes time linear in the items of the scripts, and in the threads and contexts for each core,
-/// unless a core's exact utilisation is 1.
+/// unless a core's exact utilisation is 1. Each chain takes as many passes through all scripts as
+/// its way has signals to a thread that stands earlier in the file, and two more.
 pub fn hints(alloc: Global, system: &System) -> Result<Vec<Hint>, NoMemory>
     ensures { IfOk result (λ hints. hints.items ≡ hints_of system.now) }
 {
@@ -34,6 +36,7 @@ pub fn hints(alloc: Global, system: &System) -> Result<Vec<Hint>, NoMemory>
     keep_unread(&mut hints, system, taken.as_slice())?;
     keep_unheard(&mut hints, system, taken.as_slice())?;
     keep_inverted(&mut hints, system)?;
+    keep_unreached(alloc, &mut hints, system)?;
     keep_unbound(&mut hints, bounds.as_slice())?;
     keep_unused(&mut hints, parts)?;
     keep_overcommitted(

@@ -1,3 +1,4 @@
+use mcs_chain::ChainId;
 use mcs_ticks::{ContextId, CoreId, NoteId, SourceId, ThreadId};
 
 /// A likely mistake in a system.
@@ -38,6 +39,13 @@ pub enum Hint {
         server: NoteId,
         priority: u8,
         caller: u8,
+    },
+    /// No signal leads from the chain's source to its thread: whatever the schedule is, no job of
+    /// the thread answers an interrupt of the source.
+    Unreached {
+        chain: ChainId,
+        source: SourceId,
+        thread: ThreadId,
     },
     /// No thread is bound to the context.
     Unbound {

@@ -20,21 +20,22 @@ waited span = unwrap_or span.activated (unwrap_or span.begun span.to) - span.fro
 abbrev pub ended_of : Span → Value
 ended_of span = if span.ended then amount span.to else empty
 
--- the times of a round: the span of its rows, and what happened in it
-abbrev pub told_fields : Span → Fields
-told_fields span =
-    (codes "number", amount span.number) ∷ (codes "from", amount span.from) ∷ (codes "to", amount span.to) ∷ (codes "waited", amount (waited span))
+-- the number of a round, which has this label, and its times: the span of its rows, and what happened
+-- in it
+abbrev pub told_fields : Text → Span → Fields
+told_fields label span =
+    (label, amount span.number) ∷ (codes "from", amount span.from) ∷ (codes "to", amount span.to) ∷ (codes "waited", amount (waited span))
     ∷ (codes "activated", known span.activated) ∷ (codes "begun", known span.begun) ∷ (codes "ended", ended_of span) ∷ []
 
-abbrev pub span_fields : System → Span → Fields
-span_fields system span =
-    (codes "kind", name (codes "why")) ∷ (codes "thread", name (thread_name system span.thread)) ∷ told_fields span
+abbrev pub span_fields : System → Text → Span → Fields
+span_fields system label span =
+    (codes "kind", name (codes "why")) ∷ (codes "thread", name (thread_name system span.thread)) ∷ told_fields label span
 
 abbrev pub span_text : System → Span → Text
-span_text system span = line (codes "why") (thread_name system span.thread ∷ pair_words (told_fields span))
+span_text system span = line (codes "why") (thread_name system span.thread ∷ pair_words (told_fields (codes "round") span))
 
 abbrev pub span_line : Format → System → Span → Text
-span_line how system span = written how (span_text system span) (span_fields system span)
+span_line how system span = written how (span_text system span) (span_fields system (codes "number") span)
 
 -- a number of ticks
 abbrev pub tick_words : ℕ → List Text

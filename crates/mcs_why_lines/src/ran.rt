@@ -47,13 +47,14 @@ fn ended<'s>(span: &Span) -> Cell<'s>
     }
 }
 
-fn span_fields<'s>(system: &'s System, span: &Span) -> [Field<'s>; 9]
-    ensures { map field_of result ≡ span_fields system.now span.now }
+/// The values of a round's line. Its number has this label.
+fn span_fields<'s>(system: &'s System, label: &'static str, span: &Span) -> [Field<'s>; 9]
+    ensures { map field_of result ≡ span_fields system.now label.now span.now }
 {
     [
         ("kind", Cell::Name("why")),
         ("thread", Cell::Name(thread_name(system, span.thread))),
-        ("number", Cell::Number(span.number)),
+        (label, Cell::Number(span.number)),
         ("from", Cell::Number(span.from.get())),
         ("to", Cell::Number(span.to.get())),
         ("waited", Cell::Number(waited(span))),
@@ -91,7 +92,7 @@ fn behind_two<'a, 's>(fields: &'a [Field<'s>]) -> &'a [Field<'s>]
 fn put_span_words(text: &mut Vec<u8>, system: &System, span: &Span) -> Result<(), NoMemory>
     ensures { OnOk result (text.new.items ≡ text.old.items ++ span_text system.now span.now) }
 {
-    let fields = span_fields(system, span);
+    let fields = span_fields(system, "round", span);
     put_line(
         text,
         "why",
@@ -112,8 +113,8 @@ fn put_span(
 {
     match format {
         Format::Text => put_span_words(text, system, span),
-        Format::Csv => put_row(text, span_fields(system, span).as_slice()),
-        Format::Json => put_object(alloc, text, span_fields(system, span).as_slice()),
+        Format::Csv => put_row(text, span_fields(system, "number", span).as_slice()),
+        Format::Json => put_object(alloc, text, span_fields(system, "number", span).as_slice()),
     }
 }
 

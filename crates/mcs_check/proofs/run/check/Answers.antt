@@ -1,5 +1,6 @@
-use Rattle.std.proofs.Common.{rules, ◌≡◌, IfSome, IsSome, map, refl, string_bytes, subst, sym}
+use Rattle.std.proofs.Common.{rules, ◌≡◌, None, IfSome, IsSome, false, map, refl, string_bytes, subst, sym}
 use Rattle.std.specs.Prelude.{Err}
+use Rattle.mcs_check_lines.specs.Formats.{is_mixed}
 use Rattle.mcs_check_run.specs.Allowed.{IsUnknownFault, first_unknown, notifications, names_of}
 use Rattle.mcs_check.specs.Check.{IsCheck}
 use Rattle.mcs_check.proofs.Unknown.{unknown-fault}
@@ -21,3 +22,14 @@ returns-in_err-refuse_unknown-clause-check g c =
     (g.S.Source.given c.read_system.new.source) (g.S.Source.has_failed c.read_system.new.source) (g.T.Target.contents c.args.target.now)
     (g.T.Target.contents c.args.target.now) (g.T.Target.has_failed c.args.target.now) options) (sym result_is)
     (unknown-fault _ _ _ _ _ _ _ options c.in_ok-system.system c.in_ok-system.ensures.ok (first_unknown (notifications c.in_ok-system.system) (names_of options)) fault refl there own)
+
+pub returns-clause-check : goal.returns-clause-check
+returns-clause-check g c =
+    let options = c.args.options.now in
+    let system = c.in_ok-system.system in
+    let not_mixed : is_mixed options.format options.show ≡ false = search rules in
+    let system_is : c.parts.result.now ≡ system = search rules in
+    let names_are : c.as_slice.result.now ≡ options.allowed.items = search rules in
+    let named = subst (λ names. first_unknown (notifications c.parts.result.now) (map (λ name. string_bytes name) names) ≡ None) names_are c.in_ok-refuse_unknown.ensures.known in
+    let known = subst (λ s. first_unknown (notifications s) (names_of options) ≡ None) system_is named in
+    (system, c.in_ok-system.ensures.ok, not_mixed, known, c.in_ok-checked.ensures.ok, c.in_ok-checked.ensures.counted)

@@ -1,7 +1,7 @@
 use Rattle.std.proofs.Common.{rules, ◌∷◌, [], ◌++◌, codes}
 use Rattle.std.proofs.lemmas.Result.{on_ok_weaker}
 use Rattle.mcs_check_lines.specs.Answers.{answer_times, if_deadline}
-use Rattle.mcs_check_lines.specs.Chains.{chain_name}
+use Rattle.mcs_check_lines.specs.Names.{chain_name}
 use Rattle.mcs_check_lines.proofs.Words.{then-words}
 use Rattle.mcs_check_lines.proofs.answer_line.append_answer_words.Goals as goal
 

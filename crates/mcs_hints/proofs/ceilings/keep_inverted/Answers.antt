@@ -1,6 +1,6 @@
-use Rattle.std.proofs.Common.{◌≡◌, ap, ◌∙◌}
+use Rattle.std.proofs.Common.{ap, ◌∙◌}
 use Rattle.mcs_system.specs.declared.part.ThreadPart.{ThreadPart}
-use Rattle.mcs_system.specs.System.{System, no_thread, thread_part}
+use Rattle.mcs_system.specs.System.{System, no_thread}
 use Rattle.mcs_hints.specs.Ceilings.{first_inverted, inverted}
 use Rattle.mcs_hints.proofs.Numbers.{kept_more, read_known}
 use Rattle.mcs_hints.proofs.ceilings.keep_inverted.Goals as goal

@@ -1,4 +1,4 @@
-use Rattle.std.proofs.Common.{◌≡◌, ℕ, map, sym, ap, ◌∙◌}
+use Rattle.std.proofs.Common.{◌≡◌, map, sym, ap, ◌∙◌}
 use Rattle.mcs_script.specs.declared.item.Item.TheVariants.{Wait}
 use Rattle.mcs_hints.specs.Numbers.{numbers}
 use Rattle.mcs_hints.specs.Handlers.{with_item}

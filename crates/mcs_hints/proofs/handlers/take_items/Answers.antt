@@ -1,4 +1,4 @@
-use Rattle.std.proofs.Common.{◌≡◌, ℕ, ◌+◌, fold, take, ◌∙◌}
+use Rattle.std.proofs.Common.{fold, take, ◌∙◌}
 use Rattle.mcs_hints.specs.Handlers.{with_item}
 use Rattle.mcs_hints.proofs.Numbers.{same_numbers}
 use Rattle.mcs_hints.proofs.Taken.{item_more}

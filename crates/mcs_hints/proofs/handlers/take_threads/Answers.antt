@@ -1,4 +1,4 @@
-use Rattle.std.proofs.Common.{◌≡◌, ℕ, ◌+◌, take, ◌∙◌}
+use Rattle.std.proofs.Common.{take, ◌∙◌}
 use Rattle.mcs_hints.specs.Handlers.{taken_from}
 use Rattle.mcs_hints.proofs.Numbers.{same_numbers}
 use Rattle.mcs_hints.proofs.Taken.{thread_more}

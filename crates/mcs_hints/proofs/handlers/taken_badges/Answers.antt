@@ -1,4 +1,4 @@
-use Rattle.std.proofs.Common.{◌≡◌, [], length, map, replicate, drop, refl, ap, ◌∙◌}
+use Rattle.std.proofs.Common.{◌≡◌, length, map, replicate, drop, refl, ap, ◌∙◌}
 use Rattle.std.proofs.lemmas.List.{take_at}
 use Rattle.mcs_hints.specs.Numbers.{numbers}
 use Rattle.mcs_hints.specs.Handlers.{taken_from}

@@ -1,0 +1,14 @@
+use Rattle.std.proofs.Common.{◌∷◌, [], codes}
+use Rattle.std.proofs.lemmas.Result.{on_ok_weaker}
+use Rattle.mcs_text.specs.Text.{note_name, thread_name}
+use Rattle.mcs_check_lines.specs.Lines.{call_words}
+use Rattle.mcs_check_lines.proofs.Words.{then-words}
+use Rattle.mcs_check_lines.proofs.hint_line.append_inverted.Goals as goal
+
+pub returns-clause-ok : goal.returns-clause-ok
+returns-clause-ok c =
+    let system = c.args.system.now in
+    let thread = rw (c.thread_name.ensures.name) at c.in_ok-append_named.ensures.ok in
+    let rest = rw (c.note_name.ensures.name) at c.append_call.ensures.ok in
+    on_ok_weaker c.append_call.result (λ last. then-words _ _ _ (codes "thread" ∷ thread_name system c.args.thread ∷ [])
+    (call_words (note_name system c.args.server) c.args.priority c.args.caller) thread last) rest
