@@ -4,7 +4,7 @@ use Rattle.std.specs.Borrow.{Bor}
 use Rattle.clap.specs.Words.{App, Text, fault_of, first_of, matches_of, takes}
 use Rattle.clap.specs.declared.error.kind.ErrorKind.TheVariants as kind
 use Rattle.clap.proofs.OnLiterals.{clap_on_literals}
-use Rattle.mcs_cli.specs.CommandLine.{number_of, text_of}
+use Rattle.mcs_words.specs.CommandLine.{number_of, text_of}
 use Rattle.mcs_check_words.specs.declared.asked.Show.TheVariants as show
 use Rattle.mcs_check_words.specs.declared.asked.Format.TheVariants as format
 use Rattle.mcs_check_words.specs.CommandLine.{command_line, first_two, format_named, format_words, is_given, is_set, show_named, show_words, texts_of, horizon_of}

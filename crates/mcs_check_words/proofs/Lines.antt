@@ -9,8 +9,8 @@ use Rattle.clap.specs.declared.builder.command.Command.TheViews.{out-Command}
 use Rattle.clap.specs.Built.{FitsChain, HasDistinctIds}
 use Rattle.clap.specs.declared.Arg.{Arg}
 use Rattle.clap.specs.declared.Command.{Command}
-use Rattle.mcs_cli.specs.CommandLine.{HasOneOrDefault, file_rule, horizon_rule, workers_rule}
-use Rattle.mcs_cli.proofs.Chain.{distinct_ids, number_in_chain}
+use Rattle.mcs_words.specs.CommandLine.{HasOneOrDefault, file_rule, horizon_rule, workers_rule}
+use Rattle.mcs_words.proofs.Chain.{distinct_ids, number_in_chain}
 use Rattle.mcs_check_words.specs.CommandLine.{IsCommandLine, allow_lost_rule, bare_line, command_line, format_rule, format_words, show_rule, show_words, strict_rule, why_rule, forever_rule}
 
 abbrev before : Text → List Text → List Text

@@ -3,9 +3,9 @@ use Rattle.std.proofs.Common.{List, rules}
 use Rattle.std.specs.Prelude.{Err}
 use Rattle.clap.specs.Words.{Text, fault_of, kind_of}
 use Rattle.clap.specs.declared.Error.{Error}
-use Rattle.mcs_cli.specs.CommandLine.{FaultOf}
-use Rattle.mcs_cli.specs.declared.asked.WordsFault.{WordsFault}
-use Rattle.mcs_cli.proofs.Refusals.{is_fault, is_memory}
+use Rattle.mcs_words.specs.CommandLine.{FaultOf}
+use Rattle.mcs_words.specs.declared.asked.WordsFault.{WordsFault}
+use Rattle.mcs_words.proofs.Refusals.{is_fault, is_memory}
 use Rattle.mcs_check_words.specs.CommandLine.{IsAnswer, IsParse, command_line}
 
 pub fault_answer : (words : List Text) (e : Error) (f : WordsFault) → IsParse words (Err e) → FaultOf (kind_of e) f → IsAnswer words (Err f)

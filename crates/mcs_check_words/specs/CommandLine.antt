@@ -11,9 +11,9 @@ use Rattle.clap.specs.declared.builder.ValueParser.TheVariants as parser
 use Rattle.clap.specs.declared.error.kind.ErrorKind.TheVariants as kind
 use Rattle.clap.specs.declared.parser.matches.ValueSource.{ValueSource}
 use Rattle.clap.specs.declared.parser.matches.ValueSource.TheVariants.{CommandLine}
-use Rattle.mcs_cli.specs.CommandLine.{HasNumber, IsFaultOf, file_rule, horizon_rule, number_of, text_of, workers_rule}
-use Rattle.mcs_cli.specs.declared.asked.WordsFault.{WordsFault}
-use Rattle.mcs_cli.specs.declared.asked.WordsFault.TheVariants as fault
+use Rattle.mcs_words.specs.CommandLine.{HasNumber, IsFaultOf, file_rule, horizon_rule, number_of, text_of, workers_rule}
+use Rattle.mcs_words.specs.declared.asked.WordsFault.{WordsFault}
+use Rattle.mcs_words.specs.declared.asked.WordsFault.TheVariants as fault
 use Rattle.mcs_check_words.specs.declared.asked.Options.{Options}
 use Rattle.mcs_check_words.specs.declared.asked.Question.{Question}
 use Rattle.mcs_check_words.specs.declared.asked.Format.{Format}

@@ -7,7 +7,7 @@ ghost use Rattle.clap.specs.declared.builder.command.Command.TheViews.{out-Comma
 ghost use Rattle.mcs_check_words.specs.CommandLine.{IsCommandLine, allow_lost_rule, bare_line, choice_rule, format_words, show_words, strict_rule, why_rule, forever_rule};
 
 use clap::{Arg, ArgAction, Command};
-use mcs_cli::{file_argument, number_argument};
+use mcs_words::{file_argument, number_argument};
 use std::alloc::{AllocError, Global};
 
 static SHOWS: [&str; 4] = ["findings", "jobs", "table", "both"];

@@ -6,5 +6,5 @@ mod asked;
 mod words;
 
 pub use asked::{Format, Options, Question, Show};
-pub use mcs_cli::WordsFault;
+pub use mcs_words::WordsFault;
 pub use words::options;

@@ -1,15 +1,15 @@
 //! The options that the arguments of the command line give.
 ghost use Rattle.std.specs.Prelude.{◌≡◌, ◌≤◌, ◌^◌, map, codes, option_map, string_bytes, IfOk};
 ghost use Rattle.clap.specs.Words.{found_of, rows_of};
-ghost use Rattle.mcs_cli.specs.CommandLine.{HasNumber, text_of};
+ghost use Rattle.mcs_words.specs.CommandLine.{HasNumber, text_of};
 ghost use Rattle.mcs_check_words.specs.CommandLine.{HasValues, IsAnswer, IsParse, first_two, format_named, is_by_words, is_given, is_set, question_texts, show_named, texts_of, horizon_of};
 
 use crate::arguments::command_line;
 use crate::{Format, Options, Question, Show};
 use clap::parser::ValueSource;
 use clap::{ArgMatches, Error};
-use mcs_cli::{WordsFault, fault_of, file_of, number_of};
 use mcs_ticks::Tick;
+use mcs_words::{WordsFault, fault_of, file_of, number_of};
 use std::alloc::{AllocError, Global};
 
 /// Default horizon of `--forever`, in ticks: a repetition is searched for up to it.

@@ -13,7 +13,7 @@ use Rattle.mcs_cli.specs.Flow.{TakesLine}
 use Rattle.mcs_cli.specs.Fault.{run_fault_text}
 use Rattle.mcs_cli.specs.Devices.{IsCounted}
 use Rattle.mcs_cli.specs.Run.{output_of, IsTooLong}
-use Rattle.mcs_cli.specs.declared.asked.Show.TheVariants.{Both}
+use Rattle.mcs_words.specs.declared.asked.Show.TheVariants.{Both}
 use Rattle.mcs_cli.specs.declared.fault.RunFault.TheVariants as fault
 
 one_thread : System

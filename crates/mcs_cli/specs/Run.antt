@@ -12,9 +12,9 @@ use Rattle.mcs_load.specs.Memory.{no_memory}
 use Rattle.mcs_load.specs.declared.fault.LoadFault.{LoadFault}
 use Rattle.mcs_text.specs.Text.{schedule_text, reports_text}
 use Rattle.mcs_cli.specs.Devices.{AppendsPrefix, IsCounted}
-use Rattle.mcs_cli.specs.declared.asked.Options.{Options}
-use Rattle.mcs_cli.specs.declared.asked.Show.{Show}
-use Rattle.mcs_cli.specs.declared.asked.Show.TheVariants.{Schedule, Reports, Both}
+use Rattle.mcs_words.specs.declared.asked.Options.{Options}
+use Rattle.mcs_words.specs.declared.asked.Show.{Show}
+use Rattle.mcs_words.specs.declared.asked.Show.TheVariants.{Schedule, Reports, Both}
 use Rattle.mcs_cli.specs.declared.fault.RunFault.{RunFault}
 use Rattle.mcs_cli.specs.declared.fault.RunFault.TheVariants as fault
 

@@ -2,7 +2,7 @@ use Rattle.std.proofs.Common.{◌≡◌}
 use Rattle.std.proofs.lemmas.Result.{IfOk-weaker}
 use Rattle.clap.specs.Words.{rule_of}
 use Rattle.clap.specs.Built.{FitsChain}
-use Rattle.mcs_cli.specs.CommandLine.{HasOneOrDefault, horizon_rule, workers_rule}
+use Rattle.mcs_words.specs.CommandLine.{HasOneOrDefault, horizon_rule, workers_rule}
 use Rattle.mcs_check_words.proofs.Lines.{line_is}
 use Rattle.mcs_check_words.proofs.arguments.command_line.Goals as goal
 

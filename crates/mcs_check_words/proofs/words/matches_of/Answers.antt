@@ -4,7 +4,7 @@ use Rattle.std.specs.Prelude.{string_bytes}
 use Rattle.clap.specs.Words.{Text, is_simple, is_simple_and_free}
 use Rattle.clap.proofs.OnLiterals.{clap_on_literals}
 use Rattle.mcs_check_words.specs.CommandLine.{command_line, format_words, show_words}
-use Rattle.mcs_cli.proofs.Parsed.{faults_of_line, memory_fails, rows_of_line, taken_by_line}
+use Rattle.mcs_words.proofs.Parsed.{faults_of_line, memory_fails, rows_of_line, taken_by_line}
 use Rattle.mcs_check_words.proofs.words.matches_of.Goals as goal
 
 -- wherever the names lie

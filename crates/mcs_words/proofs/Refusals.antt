@@ -5,9 +5,9 @@ use Rattle.clap.specs.Words.{HasKind, IsAmong, Kinds, Text, fault_of, kind_of}
 use Rattle.clap.specs.declared.Error.{Error}
 use Rattle.clap.specs.declared.error.kind.ErrorKind.{ErrorKind}
 use Rattle.clap.specs.declared.error.kind.ErrorKind.TheVariants as kind
-use Rattle.mcs_cli.specs.CommandLine.{FaultOf, IsAnswer, IsFaultOf, IsParse, command_line}
-use Rattle.mcs_cli.specs.declared.asked.WordsFault.{WordsFault}
-use Rattle.mcs_cli.specs.declared.asked.WordsFault.TheVariants as fault
+use Rattle.mcs_words.specs.CommandLine.{FaultOf, IsAnswer, IsFaultOf, IsParse, command_line}
+use Rattle.mcs_words.specs.declared.asked.WordsFault.{WordsFault}
+use Rattle.mcs_words.specs.declared.asked.WordsFault.TheVariants as fault
 use Rattle.std.specs.Prelude.{List}
 
 pub is_memory : (k : ErrorKind) (f : WordsFault) → FaultOf k f → k ≡ kind.OutOfMemory → f ≡ fault.NoMemory

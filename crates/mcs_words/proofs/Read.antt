@@ -3,7 +3,7 @@ use Rattle.std.proofs.Common.{◌≡◌, ap, ℕ, List, Option, Some, None, refl
 use Rattle.std.specs.Prelude.{Result, Ok, Err}
 use Rattle.std.specs.Str.Parse.{ParsesUnsigned, digits_value, without_leading_plus}
 use Rattle.clap.specs.Words.{ReadsOne, Row, Text, first_of, IsUnsignedIn}
-use Rattle.mcs_cli.specs.CommandLine.{number_of}
+use Rattle.mcs_words.specs.CommandLine.{number_of}
 
 -- a text that passed its range reads as its number
 pub number_read : (E : Type 0) (G : List ℕ → Result ℕ E → Type 0) (least most : ℕ) (t : Text) (r : Option ℕ)

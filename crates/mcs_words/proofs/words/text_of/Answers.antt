@@ -3,7 +3,7 @@ use Rattle.std.specs.Prelude.{unwrap_or}
 use Rattle.std.specs.Borrow.{Bor}
 use Rattle.clap.specs.Words.{found_of}
 use Rattle.clap.proofs.WalkLemmas.{first_value-rows}
-use Rattle.mcs_cli.proofs.words.text_of.Goals as goal
+use Rattle.mcs_words.proofs.words.text_of.Goals as goal
 
 now-unwrap_or : (o : Option (Bor (List ℕ))) (d r : Bor (List ℕ)) → r ≡ unwrap_or o d → d.now ≡ []
     → r.now ≡ unwrap_or (option_map (λ s. s.now) o) []

@@ -3,9 +3,9 @@ use Rattle.std.specs.Borrow.{Bor}
 use Rattle.std.specs.Prelude.{string_bytes}
 use Rattle.clap.specs.Words.{Text, is_simple, is_simple_and_free}
 use Rattle.clap.proofs.OnLiterals.{clap_on_literals}
-use Rattle.mcs_cli.specs.CommandLine.{command_line, show_words}
-use Rattle.mcs_cli.proofs.Parsed.{faults_of_line, memory_fails, rows_of_line, taken_by_line}
-use Rattle.mcs_cli.proofs.words.matches_of.Goals as goal
+use Rattle.mcs_words.specs.CommandLine.{command_line, show_words}
+use Rattle.mcs_words.proofs.Parsed.{faults_of_line, memory_fails, rows_of_line, taken_by_line}
+use Rattle.mcs_words.proofs.words.matches_of.Goals as goal
 
 -- wherever the names lie
 free : (shows : Bor (List (Bor Text))) → is_simple_and_free (command_line shows) ≡ true

@@ -1,7 +1,7 @@
 use Rattle.std.proofs.Common.{◌∙◌, codes, Some, ap}
 use Rattle.clap.specs.Words.{found_of}
 use Rattle.clap.proofs.WalkLemmas.{first_value-rows}
-use Rattle.mcs_cli.proofs.words.file_of.Goals as goal
+use Rattle.mcs_words.proofs.words.file_of.Goals as goal
 
 pub returns-in_ok-from_str-in-Some : goal.returns-in_ok-from_str-in-Some
 returns-in_ok-from_str-in-Some c =

@@ -2,8 +2,8 @@ use Rattle.std.proofs.Common.{◌≡◌, ◌∙◌, sym, subst, ◌≤◌}
 use Rattle.std.specs.Str.Parse.{ExplainsUnsignedError, HasUnsignedDigitsIfOk, ParsesUnsigned, digits_value, without_leading_plus}
 use Rattle.clap.specs.Words.{found_of}
 use Rattle.clap.proofs.WalkLemmas.{one_text-rows}
-use Rattle.mcs_cli.proofs.Read.{number_at, number_read}
-use Rattle.mcs_cli.proofs.words.number_of.Goals as goal
+use Rattle.mcs_words.proofs.Read.{number_at, number_read}
+use Rattle.mcs_words.proofs.words.number_of.Goals as goal
 
 is_number : (c : goal.After-unwrap_or) → c.unwrap_or.result ≡ digits_value 10 (without_leading_plus c.requires.0)
 is_number c =

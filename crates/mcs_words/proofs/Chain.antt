@@ -14,8 +14,8 @@ use Rattle.clap.specs.declared.ArgMatches.{ArgMatches}
 use Rattle.clap.specs.declared.Command.{Command}
 use Rattle.clap.specs.declared.builder.ValueParser.TheVariants as parser
 use Rattle.clap.proofs.WalkLemmas.{first_value-rows, one_text-rows}
-use Rattle.mcs_cli.specs.CommandLine.{HasNumber, HasOneOrDefault, number_rule}
-use Rattle.mcs_cli.proofs.Defaults.{default_in_chain}
+use Rattle.mcs_words.specs.CommandLine.{HasNumber, HasOneOrDefault, number_rule}
+use Rattle.mcs_words.proofs.Defaults.{default_in_chain}
 
 id_at : (xs : List Arg) (ids : List Text) (j : ℕ) (d : Arg) → map (λ a. a.id.now) xs ≡ ids → j < length xs
     → (j < length ids) × ((slice_index_or xs j d).id.now ≡ slice_index_or ids j [])

@@ -9,8 +9,8 @@ use Rattle.clap.specs.declared.builder.command.Command.TheViews.{out-Command}
 use Rattle.clap.specs.Built.{FitsChain, HasDistinctIds}
 use Rattle.clap.specs.declared.Arg.{Arg}
 use Rattle.clap.specs.declared.Command.{Command}
-use Rattle.mcs_cli.specs.CommandLine.{HasOneOrDefault, IsCommandLine, bare_line, command_line, file_rule, horizon_rule, show_rule, show_words, workers_rule}
-use Rattle.mcs_cli.proofs.Chain.{distinct_ids, number_in_chain}
+use Rattle.mcs_words.specs.CommandLine.{HasOneOrDefault, IsCommandLine, bare_line, command_line, file_rule, horizon_rule, show_rule, show_words, workers_rule}
+use Rattle.mcs_words.proofs.Chain.{distinct_ids, number_in_chain}
 
 abbrev before : Text → List Text → List Text
 before id ids = id ∷ ids

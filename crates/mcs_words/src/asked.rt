@@ -1,7 +1,7 @@
 //! The options of a command line, and why it is refused.
 ghost use Rattle.std.specs.Prelude.{◌≡◌, ◌≤◌, ◌^◌};
-ghost use Rattle.mcs_cli.specs.Status.{status_of_words};
-ghost use Rattle.mcs_cli.specs.declared.asked.WordsFault.TheVariants.{NoMemory};
+ghost use Rattle.mcs_words.specs.Status.{status_of_words};
+ghost use Rattle.mcs_words.specs.declared.asked.WordsFault.TheVariants.{NoMemory};
 
 use mcs_ticks::Tick;
 use std::alloc::AllocError;

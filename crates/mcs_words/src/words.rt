@@ -4,7 +4,7 @@ ghost use Rattle.std.specs.Borrow.{Bor};
 ghost use Rattle.clap.specs.Built.{FitsChain};
 ghost use Rattle.clap.specs.Words.{app_of, args_of, groups_of, rule_of, first_of, rows_of, found_of, kind_of};
 ghost use Rattle.clap.specs.declared.builder.command.Command.TheViews.{out-Command};
-ghost use Rattle.mcs_cli.specs.CommandLine.{FaultOf, HasNumber, HasOneOrDefault, HasValues, IsAnswer, IsCommandLine, IsParse, bare_line, file_rule, number_of, number_rule, show_named, show_rule, show_words, text_of};
+ghost use Rattle.mcs_words.specs.CommandLine.{FaultOf, HasNumber, HasOneOrDefault, HasValues, IsAnswer, IsCommandLine, IsParse, bare_line, file_rule, number_of, number_rule, show_named, show_rule, show_words, text_of};
 
 use crate::{Options, Show, WordsFault};
 use clap::builder::ValueParser;

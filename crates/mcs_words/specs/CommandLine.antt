@@ -13,11 +13,11 @@ use Rattle.clap.specs.declared.builder.ArgAction.TheVariants.{Set}
 use Rattle.clap.specs.declared.builder.ValueParser.TheVariants as parser
 use Rattle.clap.specs.declared.error.kind.ErrorKind.{ErrorKind}
 use Rattle.clap.specs.declared.error.kind.ErrorKind.TheVariants as kind
-use Rattle.mcs_cli.specs.declared.asked.Options.{Options}
-use Rattle.mcs_cli.specs.declared.asked.Show.{Show}
-use Rattle.mcs_cli.specs.declared.asked.Show.TheVariants as show
-use Rattle.mcs_cli.specs.declared.asked.WordsFault.{WordsFault}
-use Rattle.mcs_cli.specs.declared.asked.WordsFault.TheVariants as fault
+use Rattle.mcs_words.specs.declared.asked.Options.{Options}
+use Rattle.mcs_words.specs.declared.asked.Show.{Show}
+use Rattle.mcs_words.specs.declared.asked.Show.TheVariants as show
+use Rattle.mcs_words.specs.declared.asked.WordsFault.{WordsFault}
+use Rattle.mcs_words.specs.declared.asked.WordsFault.TheVariants as fault
 
 abbrev pub file_rule : Rule
 file_rule = record (new_rule (codes "FILE")) { action = Some Set }

@@ -4,7 +4,7 @@ use Rattle.std.specs.Borrow.{Bor}
 use Rattle.clap.specs.Words.{App, fault_of, first_of, matches_of, takes}
 use Rattle.clap.specs.declared.error.kind.ErrorKind.TheVariants as kind
 use Rattle.clap.proofs.OnLiterals.{clap_on_literals}
-use Rattle.mcs_cli.specs.CommandLine.{command_line, number_of, show_words, text_of}
+use Rattle.mcs_words.specs.CommandLine.{command_line, number_of, show_words, text_of}
 
 abbrev at : {X : Type 0} → X → Bor X
 at x = record { ref_ptr = (0, 0); now = x }

@@ -1,10 +1,10 @@
 use Rattle.std.proofs.Common.{rules, ◌≡◌}
 use Rattle.std.proofs.lemmas.Result.{IfOk-weaker}
 use Rattle.clap.specs.Words.{rule_of}
-use Rattle.mcs_cli.specs.CommandLine.{HasOneOrDefault, horizon_rule, workers_rule}
+use Rattle.mcs_words.specs.CommandLine.{HasOneOrDefault, horizon_rule, workers_rule}
 use Rattle.clap.specs.Built.{FitsChain}
-use Rattle.mcs_cli.proofs.Lines.{line_is}
-use Rattle.mcs_cli.proofs.words.command_line.Goals as goal
+use Rattle.mcs_words.proofs.Lines.{line_is}
+use Rattle.mcs_words.proofs.words.command_line.Goals as goal
 
 pub returns : goal.returns
 returns c =
