@@ -92,10 +92,6 @@ module _ (system : System) where
       none zero a = refl
       none (suc n) a = ap (λ marks. no_mark ∷ marks) (none n (a + 1))
 
-  -- a row that shows nothing, or something of no thread
-  pub marks-still : (rows : List What) (what : What) → compared system what ≡ None → marks_of system rows ≡ marks_of system (rows ++ what ∷ [])
-  marks-still rows what e = map-same _ _ (length system.threads) 0 (λ x _ _. mark-still x rows what (ap (of_thread x) e))
-
   pub marks-none : (rows : List What) (what : What) (y : ℕ) (mark : Mark) → compared system what ≡ Some (y, mark) → length system.threads ≤ y →
       marks_of system rows ≡ marks_of system (rows ++ what ∷ [])
   marks-none rows what y mark e far =

@@ -3,6 +3,7 @@
 #![tactic(auto)]
 
 mod alike;
+mod beats;
 mod gaps;
 mod kept;
 mod lockstep;
@@ -15,6 +16,7 @@ mod seen;
 mod snapshot;
 mod turns;
 
+pub use beats::beat_of;
 pub use lockstep::Lockstep;
 pub use repeats::{Repeats, compare, find_repeats, nothing_told};
 pub use sampling::Sampling;

@@ -4,7 +4,7 @@ ghost use Rattle.mcs_window.specs.Idle.{IsIdleUntil};
 ghost use Rattle.mcs_window.specs.Stretch.{StandsAt};
 ghost use Rattle.mcs_ever_search.specs.Together.{opening, at_moment, with_failed, clocks_at, rows_at, rows_before};
 
-use crate::turns::take_turns;
+use crate::turns::append_turns;
 use mcs_core::CoreState;
 use mcs_system::System;
 use mcs_ticks::{CoreId, NoMemory, Row, Tick};
@@ -20,6 +20,8 @@ pub struct Lockstep {
     cores: Cores,
     clock: Tick,
     horizon: Tick,
+    /// The rows of a moment, before they are appended to others.
+    made: Vec<Row>,
     failed: bool,
 }
 
@@ -49,6 +51,7 @@ impl Lockstep {
             cores,
             clock: Tick::ZERO,
             horizon,
+            made: Vec::new(alloc),
             failed: false,
         })
     }
@@ -117,10 +120,8 @@ impl Lockstep {
             return Err(NoMemory);
         }
         self.failed = true;
-        let alloc: Global = *rows.allocator();
-        let mut made = Vec::new(alloc);
-        take_turns(&self.system, &mut self.cores, self.clock, &mut made)?;
-        rows.append(&mut made)?;
+        let clock = self.clock;
+        append_turns(&self.system, &mut self.cores, clock, &mut self.made, rows)?;
         self.clock = self.clock.plus(1).unwrap();
         self.failed = false;
         Ok(())

@@ -12,6 +12,7 @@ ghost use Rattle.mcs_ever_search.specs.Compared.{opening, at_moment, with_kept, 
 ghost use Rattle.mcs_ever_search.specs.Sampling.{IsAtRest};
 
 use crate::alike::may_stand_again;
+use crate::beats::{beats_for_ever, may_beat_again};
 use crate::kept::Kept;
 use crate::lockstep::Lockstep;
 use crate::orders::orders_end;
@@ -37,6 +38,8 @@ pub struct Search {
     seen: Seen,
     kept: Kept,
     orders_end: u64,
+    /// Whether some source has no end.
+    driven: bool,
     horizon: Tick,
     clock: Tick,
     failed: bool,
@@ -72,12 +75,14 @@ impl Search {
         let seen = Seen::new(alloc, &system)?;
         let kept = Kept::new(alloc, &system, &lockstep, &seen)?;
         let orders_end = orders_end(system.parts());
+        let driven = beats_for_ever(system.parts());
         Ok(Search {
             system,
             lockstep,
             seen,
             kept,
             orders_end,
+            driven,
             horizon,
             clock: Tick::ZERO,
             failed: false,
@@ -120,6 +125,9 @@ impl Search {
         requires { self.now.failed ≡ false }
         ensures { IsTrue result → IsAtRest self.now.system self.now.clock }
     {
+        if self.driven {
+            return false;
+        }
         under_way_is_told();
         if !self.seen.under_way.is_empty() {
             return false;
@@ -273,6 +281,9 @@ impl Search {
             .gaps
             .are_same(alloc, system, &self.lockstep, group)
         {
+            return Ok(None);
+        }
+        if !may_beat_again(system, group, by) {
             return Ok(None);
         }
         under_way_is_told();

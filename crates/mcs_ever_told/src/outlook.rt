@@ -1,6 +1,7 @@
 //! The results of a check for all time: which closed sets of cores recur, from when on and with
 //! which period, and their findings for ever.
 
+mod dues;
 mod lines;
 mod look;
 mod sets;
@@ -13,9 +14,10 @@ ghost use Rattle.std.specs.Arc.{arc_value};
 ghost use Rattle.mcs_ever_told.specs.Outlook.{AreTold};
 ghost use Rattle.mcs_ever_told.specs.Progress.{IsOpening, IsOfSame};
 
+use crate::outlook::dues::Dues;
 use crate::outlook::look::Look;
 use crate::outlook::sets::{Group, groups_of};
-use crate::outlook::tell::{all_told, is_any_left, nothing_told, tell_now};
+use crate::outlook::tell::{all_told, is_any_left, nothing_told, tell_where_due};
 use mcs_ever::{CoreSet, closed_sets};
 use mcs_ever_search::{Sampling, Search};
 use mcs_system::System;
@@ -34,6 +36,7 @@ pub struct Outlook {
     horizon: Tick,
     sets: Vec<CoreSet>,
     groups: Vec<Group>,
+    dues: Dues,
     search: Search,
     sampling: Sampling,
     rows: Vec<Row>,
@@ -68,6 +71,7 @@ impl Outlook {
     {
         let sets = closed_sets(alloc, &system)?;
         let groups = groups_of(alloc, sets.as_slice())?;
+        let dues = Dues::new(alloc, &system, groups.as_slice())?;
         let told = nothing_told(alloc, groups.len())?;
         let allowed = allowed.iter().copied().collect(alloc)?;
         let shared = Arc::try_clone(&system)?;
@@ -78,6 +82,7 @@ impl Outlook {
             horizon,
             sets,
             groups,
+            dues,
             search,
             sampling: Sampling::new(),
             rows: Vec::new(alloc),
@@ -112,15 +117,17 @@ impl Outlook {
         self.sampling
             .go_on(alloc, &mut self.search, &mut self.rows)?;
         self.rows.clear();
+        let due = self.dues.are_now(&self.search, self.told.as_slice());
         let look = Look {
             system: &self.system,
             search: &self.search,
             allowed: self.allowed.as_slice(),
         };
-        tell_now(
+        tell_where_due(
             alloc,
             &look,
             self.groups.as_slice(),
+            due,
             self.told.as_mut_slice(),
         )?;
         self.failed = false;

@@ -69,37 +69,6 @@ module _ (next soonest : List ℕ) (grouped : AreGrouped next soonest) (core mom
           ];
         }
 
-    -- or the group has a sooner one
-    pub grouped-kept : slice_index soonest group ≤ moment → AreGrouped (set next core moment) soonest
-    grouped-kept more =
-        record {
-          next_of = length-set next core moment ∙ grouped.next_of;
-          soonest_of = grouped.soonest_of;
-          each = λ h l. elim (eqb_tells h group) [
-            | inl e ↦ subst (λ d. IsSoonest (set next core moment) d (slice_index soonest d)) (sym e.1) own
-            | inr e ↦ other-group h l e.1
-          ];
-        }
-      where
-        was : IsSoonest next group (slice_index soonest group)
-        was = grouped.each group known
-
-        apart : was.core ≢ core
-        apart f = (let is = was.is in let g : slice_index next was.core ≡ slice_index next core = ap (slice_index next) f in absurd (omega arith))
-
-        own : IsSoonest (set next core moment) group (slice_index soonest group)
-        own =
-            record {
-              core = was.core;
-              from = was.from;
-              below = was.below;
-              is = other-time was.core apart ∙ was.is;
-              least = λ c p q. elim (eqb_tells c core) [
-                | inl e ↦ (let f = ap (slice_index (set next core moment)) e.1 in let g = own-time in omega arith)
-                | inr e ↦ (let f = other-time c e.1 in let m = was.least c p q in omega arith)
-              ];
-            }
-
 -- the first core of the first group that has the soonest time is the first of all
 pub first-of-all : (next soonest : List ℕ) → AreGrouped next soonest → (group : ℕ) (place : Place) → group < 8 → slice_index soonest group ≡ place.moment →
     ((h : ℕ) → h < group → place.moment < slice_index soonest h) → ((h : ℕ) → group ≤ h → h < 8 → place.moment ≤ slice_index soonest h) →

@@ -21,9 +21,6 @@ pub record AreFirstQuiet (system : System) (horizon many : ℕ) (next : List ℕ
   pub ends : (c : ℕ) → c < many → slice_index next c ≤ horizon + 1
   pub rest : (c : ℕ) → many ≤ c → c < 64 → slice_index next c ≡ horizon + 1
 
-pub expects-nothing : (system : System) (state : State) (box : List Mail) → box ≡ [] → All (IsExpected system state) box
-expects-nothing system state box e = subst (All (IsExpected system state)) (sym e) (All-nil (IsExpected system state))
-
 pub get_or-replicate : (n c t : ℕ) → c < n → slice_index (replicate n t) c ≡ t
 get_or-replicate zero c t l = absurd (omega arith)
 get_or-replicate (suc n) zero t l = refl

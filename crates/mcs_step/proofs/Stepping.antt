@@ -32,14 +32,6 @@ module _ (a : Inside) (kept : IsKept a) (going : a.failed ≡ false) (place : Pl
 
   -- no turn is left
   module _ (moment : ℕ) (end : moment ≡ a.horizon + 1) (late : a.horizon < place.moment) where
-    pub over-kept : IsKept (record a { place = record { moment = moment; core = 0 } })
-    over-kept =
-        record {
-          horizon = kept.horizon;
-          well_formed = kept.well_formed;
-          in_step = λ _. over-moved system kept.well_formed a.horizon a.place.moment a.place.core (cores_of a) was place first moment end late;
-        }
-
     pub over-so_far : rows_before system moment 0 ≡ rows_before system a.place.moment a.place.core
     over-so_far = over-rows system kept.well_formed a.horizon a.place.moment a.place.core (cores_of a) was place first moment end late
 
@@ -71,15 +63,6 @@ module _ (a : Inside) (kept : IsKept a) (going : a.failed ≡ false) (place : Pl
     now : AreInStep system a.horizon place.moment place.core (cores_of a)
     now = first-moved system kept.well_formed a.horizon a.place.moment a.place.core (cores_of a) was place first in_time
 
-    pub in-states : place.core < length a.states.items
-    in-states = let all = was.states_of in let k = known in omega arith
-
-    pub in-boxes : place.core < length a.boxes.items
-    in-boxes = let all = was.boxes_of in let k = known in omega arith
-
-    pub in-clocks : place.core < length a.clocks.items
-    in-clocks = let all = was.clocks_of in let k = known in omega arith
-
     pub few-places : (steps : Steps) → steps_of a ≡ steps → places_left (record (steps_of a) { moment = place.moment; core = place.core + 1 }) < places_left steps
     few-places steps e =
         subst (λ (s : Steps). places_left (record (steps_of a) { moment = place.moment; core = place.core + 1 }) < places_left s) e
@@ -103,9 +86,6 @@ module _ (a : Inside) (kept : IsKept a) (going : a.failed ≡ false) (place : Pl
         ∙ sym (rows-turn system place.moment place.core)
 
     module _ (state : State) (box : Content) (state_at : state ≡ get_or a.states.items place.core state) (box_at : box ≡ get_or a.boxes.items place.core box) where
-      pub fits-now : Fits system state
-      fits-now = (stands system kept.well_formed a.horizon place.moment place.core (cores_of a) now in_time known first.is state box state_at box_at).fits
-
       pub expected-now : All (IsExpected system state) box.mails
       expected-now = are-expected system kept.well_formed a.horizon place.moment place.core (cores_of a) now in_time known first.is state box state_at box_at
 
@@ -113,9 +93,6 @@ module _ (a : Inside) (kept : IsKept a) (going : a.failed ≡ false) (place : Pl
       rows-made = rows-are system kept.well_formed a.horizon place.moment place.core (cores_of a) now in_time known first.is state box state_at box_at
 
       module _ (after : State) (left : Content) (signals : List Mail) (turned : HasTurned system (place.moment + 1) state after box.mails left.mails signals) where
-        pub going-after : after.failed ≡ false
-        going-after = (stands-after system kept.well_formed a.horizon place.moment place.core (cores_of a) now in_time known first.is state box state_at box_at after left signals turned).whole
-
         pub clock-after : after.clock ≡ place.moment + 1
         clock-after = (stands-after system kept.well_formed a.horizon place.moment place.core (cores_of a) now in_time known first.is state box state_at box_at after left signals turned).clock_is
 

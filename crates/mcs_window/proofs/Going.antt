@@ -20,9 +20,6 @@ pub after-append : (clocks xs ys : List ℕ) → clocks_after clocks (xs ++ ys) 
 after-append clocks [] ys = refl
 after-append clocks (c ∷ xs) ys = after-append (set clocks c (suc (slice_index clocks c))) xs ys
 
-pub went-none : (table : Table) → WentByScripts table table
-went-none table = record { turns = []; safe = tt; rest = refl }
-
 pub went-more : (before table after : Table) → WentByScripts before table → WentByScripts table after → WentByScripts before after
 went-more before table after first second = by first.turns first.safe (subst (λ t. WentByScripts t after) first.rest second)
   where

@@ -1,5 +1,5 @@
 -- The invariant of `Cores` after a core's turns, and after memory ran out.
-use Rattle.std.proofs.Common.{◌≡◌, ℕ, ◌+◌, ◌<◌, ◌≤◌, true, false, List, [], ◌++◌, length, Vec, get_or, set, inl, inr, sym, ap, ◌∙◌, subst, arith}
+use Rattle.std.proofs.Common.{◌≡◌, ℕ, ◌+◌, ◌<◌, ◌≤◌, true, false, List, [], ◌++◌, length, Vec, get_or, set, ◌≢◌, inl, inr, sym, ap, ◌∙◌, subst, arith}
 use Rattle.std.specs.Prelude.{slice_index}
 use Rattle.std.specs.Arc.{arc_value}
 use Rattle.std.specs.Vec.{with_item, with_items}
@@ -12,12 +12,14 @@ use Rattle.mcs_mail.specs.Box.{Content}
 use Rattle.mcs_system.specs.System.{System}
 use Rattle.mcs_core.specs.State.{State, Fits, made_by, state_after}
 use Rattle.mcs_window.specs.stored.Delivery.{AreDelivered}
-use Rattle.mcs_window.specs.stored.Cores.{AreHere, AreWhole, IsKept}
+use Rattle.mcs_window.specs.stored.Cores.{AreHere, AreWhole, AreSince, IsKept}
+use Rattle.mcs_window.specs.stored.Opening.{HasItems}
 use Rattle.mcs_stretch.specs.Stretch.{StandsAt, rows_between, NothingArrivesBefore, IsAfter}
 use Rattle.mcs_window.specs.declared.cores.Cores.TheInside.{Inside}
 use Rattle.mcs_stretch.proofs.Deliveries.{signals_from}
 use Rattle.mcs_window.proofs.Advances.{list-more, ran_here, state_here, here_later, since_later}
 use Rattle.mcs_stretch.proofs.Later.{signals_own}
+use Rattle.mcs_stretch.proofs.Ranges.{rows-join, rows-none}
 
 -- what a core has made, its turns taken
 pub record HasRun (system : System) (to : ℕ) (state after : State) (box left : Content) (rows : List Row) (signals made : List Mail) : Type 0 where
@@ -65,65 +67,138 @@ module _ (a : Inside) (kept : IsKept a) where
         | inr e ↦ ap (λ (v : Vec Row Global). v.items) (get_or-set_other a.rows.items k b new x e.1) ∙ kept.kept.since.told_are.each b x p
       ]
 
-  -- the core has taken its turns
-  pub advanced_kept : (k to : ℕ) (state after : State) (box left : Content) (full : List Content) (old new fresh : Vec Row Global) (signals none : Vec Mail Global) → a.failed ≡ false →
-      k < system.cores → slice_index a.clocks.items k ≤ to → to ≤ a.horizon + 1 → NothingArrivesBefore system k to a.clocks.items →
-      state ≡ get_or a.states.items k state → box ≡ get_or a.boxes.items k box → HasRun system to state after box left fresh.items a.signals.items signals.items →
-      AreDelivered system signals.items (set a.boxes.items k left) full → old ≡ get_or a.rows.items k old → new.items ≡ old.items ++ fresh.items → none.items ≡ [] →
-      IsKept (record a {
-        clocks = with_item a.clocks k to;
-        states = with_item a.states k after;
-        boxes = with_items (with_item a.boxes k left) full;
-        rows = with_item a.rows k new;
-        failed = false;
-        signals = none;
-      })
-  advanced_kept k to state after box left full old new fresh signals none unspent h l in_time reached s_at b_at run delivered r_at more no_signals =
-      record {
-        horizon = kept.horizon;
-        well_formed = kept.well_formed;
-        states_of = length-set a.states.items k after ∙ kept.states_of;
-        boxes_of = ap length boxes_full ∙ delivered.many ∙ length-set a.boxes.items k left ∙ kept.boxes_of;
-        delays_are = kept.delays_are;
-        kept = record {
-          clocks_of = length-set a.clocks.items k to ∙ kept.kept.clocks_of;
-          taken_of = kept.kept.taken_of;
-          since = since_later system kept.well_formed a.clocks.items k to there a.horizon a.taken.items a.rows.items kept.kept.since h l in_time old new r_at (list-more old new _ rows_more);
-        };
-        whole = λ e. record { here = subst (λ boxes. AreHere system (set a.clocks.items k to) (set a.states.items k after) boxes) (sym boxes_full) here; no_signals = no_signals };
-      }
-    where
-      there : k < length a.clocks.items
-      there = let all = kept.kept.clocks_of in omega arith
+  -- a core that takes its turns
+  module _ (k to : ℕ) (state after : State) (box left : Content) (unspent : a.failed ≡ false) (h : k < system.cores) (l : slice_index a.clocks.items k ≤ to)
+      (reached : NothingArrivesBefore system k to a.clocks.items) (s_at : state ≡ get_or a.states.items k state) (b_at : box ≡ get_or a.boxes.items k box) where
+    there : k < length a.clocks.items
+    there = let all = kept.kept.clocks_of in omega arith
 
-      whole : AreWhole system a.clocks.items a.states.items a.boxes.items a.signals.items
-      whole = kept.whole unspent
+    whole : AreWhole system a.clocks.items a.states.items a.boxes.items a.signals.items
+    whole = kept.whole unspent
 
-      stood : StandsAt system k (slice_index a.clocks.items k) state
-      stood = subst (StandsAt system k (slice_index a.clocks.items k)) (sym s_at) (whole.here k state box h).state_is
+    stood : StandsAt system k (slice_index a.clocks.items k) state
+    stood = subst (StandsAt system k (slice_index a.clocks.items k)) (sym s_at) (whole.here k state box h).state_is
 
-      ran : IsAfter system k (slice_index a.clocks.items k) to a.clocks.items (made_by system state to box.mails)
-      ran =
-          ran_here system kept.well_formed k (slice_index a.clocks.items k) to a.clocks.items state box.mails stood
-          (ap (λ (y : Content). y.mails) b_at ∙ (whole.here k state box h).box_is) h l reached
+    ran : IsAfter system k (slice_index a.clocks.items k) to a.clocks.items (made_by system state to box.mails)
+    ran =
+        ran_here system kept.well_formed k (slice_index a.clocks.items k) to a.clocks.items state box.mails stood
+        (ap (λ (y : Content). y.mails) b_at ∙ (whole.here k state box h).box_is) h l reached
 
-      fresh_is : fresh.items ≡ rows_between system k (slice_index a.clocks.items k) to
-      fresh_is = run.rows_are ∙ ran.rows_are
+    pub made_is : (made_by system state to box.mails).rows ≡ rows_between system k (slice_index a.clocks.items k) to
+    made_is = ran.rows_are
 
-      signals_are : signals.items ≡ signals_from system a.clocks.items (set a.clocks.items k to)
-      signals_are =
-          run.signals_are ∙ ap (λ xs. xs ++ (made_by system state to box.mails).mails) whole.no_signals ∙ ran.out_is
-          ∙ signals_own system a.clocks.items k to there h
+    -- the rows from the moment at which they were last taken, if there were none since
+    pub made_since : rows_between system k (slice_index a.taken.items k) (slice_index a.clocks.items k) ≡ [] →
+        (made_by system state to box.mails).rows ≡ rows_between system k (slice_index a.taken.items k) to
+    made_since none =
+        made_is ∙ ap (λ rows. rows ++ rows_between system k (slice_index a.clocks.items k) to) (sym none)
+        ∙ rows-join system k (slice_index a.taken.items k) (slice_index a.clocks.items k) to (kept.kept.since.in_order k h) l
 
-      rows_more : new.items ≡ old.items ++ rows_between system k (slice_index a.clocks.items k) to
-      rows_more = more ∙ ap (λ xs. old.items ++ xs) fresh_is
+    -- it has taken them, and the rows are kept or taken
+    pub gone_kept : (full : List Content) (rows : List Row) (taken : Vec ℕ Global) (told : Vec (Vec Row Global) Global) (signals none : Vec Mail Global) →
+        HasRun system to state after box left rows a.signals.items signals.items → AreDelivered system signals.items (set a.boxes.items k left) full →
+        length taken.items ≡ system.cores → AreSince HasItems system a.horizon (set a.clocks.items k to) taken.items told.items → none.items ≡ [] →
+        IsKept (record a {
+          clocks = with_item a.clocks k to;
+          taken = taken;
+          states = with_item a.states k after;
+          boxes = with_items (with_item a.boxes k left) full;
+          rows = told;
+          failed = false;
+          signals = none;
+        })
+    gone_kept full rows taken told signals none run delivered many since no_signals =
+        record {
+          horizon = kept.horizon;
+          well_formed = kept.well_formed;
+          states_of = length-set a.states.items k after ∙ kept.states_of;
+          boxes_of = ap length boxes_full ∙ delivered.many ∙ length-set a.boxes.items k left ∙ kept.boxes_of;
+          delays_are = kept.delays_are;
+          kept = record { clocks_of = length-set a.clocks.items k to ∙ kept.kept.clocks_of; taken_of = many; since = since };
+          whole = λ e. record { here = subst (λ boxes. AreHere system (set a.clocks.items k to) (set a.states.items k after) boxes) (sym boxes_full) here; no_signals = no_signals };
+        }
+      where
+        signals_are : signals.items ≡ signals_from system a.clocks.items (set a.clocks.items k to)
+        signals_are =
+            run.signals_are ∙ ap (λ xs. xs ++ (made_by system state to box.mails).mails) whole.no_signals ∙ ran.out_is
+            ∙ signals_own system a.clocks.items k to there h
 
-      boxes_full : (with_items (with_item a.boxes k left) full).items ≡ full
-      boxes_full = boxes_are k left full delivered.many
+        boxes_full : (with_items (with_item a.boxes k left) full).items ≡ full
+        boxes_full = boxes_are k left full delivered.many
 
-      here : AreHere system (set a.clocks.items k to) (set a.states.items k after) full
-      here =
-          here_later system kept.well_formed a.clocks.items k to there a.states.items a.boxes.items full whole.here h l reached kept.states_of kept.boxes_of after left
-          (state_here system kept.well_formed k (slice_index a.clocks.items k) to a.clocks.items state after (made_by system state to box.mails) stood l run.fits run.state_is ran)
-          (run.box_is ∙ ran.mail_is)
-          (subst (λ ms. AreDelivered system ms (set a.boxes.items k left) full) signals_are delivered)
+        here : AreHere system (set a.clocks.items k to) (set a.states.items k after) full
+        here =
+            here_later system kept.well_formed a.clocks.items k to there a.states.items a.boxes.items full whole.here h l reached kept.states_of kept.boxes_of after left
+            (state_here system kept.well_formed k (slice_index a.clocks.items k) to a.clocks.items state after (made_by system state to box.mails) stood l run.fits run.state_is ran)
+            (run.box_is ∙ ran.mail_is)
+            (subst (λ ms. AreDelivered system ms (set a.boxes.items k left) full) signals_are delivered)
+
+    -- its rows are kept
+    pub advanced_kept : (full : List Content) (old new fresh : Vec Row Global) (signals none : Vec Mail Global) → to ≤ a.horizon + 1 →
+        HasRun system to state after box left fresh.items a.signals.items signals.items →
+        AreDelivered system signals.items (set a.boxes.items k left) full → old ≡ get_or a.rows.items k old → new.items ≡ old.items ++ fresh.items → none.items ≡ [] →
+        IsKept (record a {
+          clocks = with_item a.clocks k to;
+          states = with_item a.states k after;
+          boxes = with_items (with_item a.boxes k left) full;
+          rows = with_item a.rows k new;
+          failed = false;
+          signals = none;
+        })
+    advanced_kept full old new fresh signals none in_time run delivered r_at more no_signals =
+        gone_kept full fresh.items a.taken (with_item a.rows k new) signals none run delivered kept.kept.taken_of
+        (since_later system kept.well_formed a.clocks.items k to there a.horizon a.taken.items a.rows.items kept.kept.since h l in_time old new r_at
+        (list-more old new _ (more ∙ ap (λ xs. old.items ++ xs) (run.rows_are ∙ made_is))))
+        no_signals
+
+    -- its rows are taken, and those before were, too
+    pub poured_kept : (full : List Content) (at : ℕ) (signals none : Vec Mail Global) → to ≤ a.horizon + 1 → at ≡ get_or (set a.clocks.items k to) k at →
+        rows_between system k (slice_index a.taken.items k) (slice_index a.clocks.items k) ≡ [] →
+        HasRun system to state after box left (made_by system state to box.mails).rows a.signals.items signals.items →
+        AreDelivered system signals.items (set a.boxes.items k left) full → none.items ≡ [] →
+        IsKept (record a {
+          clocks = with_item a.clocks k to;
+          taken = with_item a.taken k at;
+          states = with_item a.states k after;
+          boxes = with_items (with_item a.boxes k left) full;
+          failed = false;
+          signals = none;
+        })
+    poured_kept full at signals none in_time at_is none_kept run delivered no_signals =
+        gone_kept full (made_by system state to box.mails).rows (with_item a.taken k at) a.rows signals none run delivered
+        (length-set a.taken.items k at ∙ kept.kept.taken_of) since no_signals
+      where
+        clock_own : slice_index (set a.clocks.items k to) k ≡ to
+        clock_own = get_or-set_same a.clocks.items k to 0 there
+
+        taken_own : slice_index (set a.taken.items k at) k ≡ to
+        taken_own = get_or-set_same a.taken.items k at 0 (let all = kept.kept.taken_of in omega arith) ∙ at_is ∙ get_or-set_same a.clocks.items k to at there
+
+        clock_other : (c : ℕ) → c ≢ k → slice_index (set a.clocks.items k to) c ≡ slice_index a.clocks.items c
+        clock_other c apart = get_or-set_other a.clocks.items k c to 0 apart
+
+        taken_other : (c : ℕ) → c ≢ k → slice_index (set a.taken.items k at) c ≡ slice_index a.taken.items c
+        taken_other c apart = get_or-set_other a.taken.items k c at 0 apart
+
+        own : (x : Vec Row Global) → (get_or a.rows.items k x).items ≡ rows_between system k (slice_index (set a.taken.items k at) k) (slice_index (set a.clocks.items k to) k)
+        own x = kept.kept.since.told_are.each k x h ∙ none_kept ∙ rw (taken_own, clock_own) (sym (rows-none system k to))
+
+        since : AreSince HasItems system a.horizon (set a.clocks.items k to) (set a.taken.items k at) a.rows.items
+        since =
+            record {
+              in_time = λ c p. elim (eqb_tells c k) [
+                | inl e ↦ (let i = clock_own in rw e.1 (omega arith))
+                | inr e ↦ rw (clock_other c e.1) (kept.kept.since.in_time c p)
+              ];
+              in_order = λ c p. elim (eqb_tells c k) [
+                | inl e ↦ (let i = clock_own in let j = taken_own in rw e.1 (omega arith))
+                | inr e ↦ rw (clock_other c e.1, taken_other c e.1) (kept.kept.since.in_order c p)
+              ];
+              told_are = record {
+                many_are = kept.kept.since.told_are.many_are;
+                each = λ c x p. elim (eqb_tells c k) [
+                  | inl e ↦ subst (λ d. (get_or a.rows.items d x).items ≡ rows_between system d (slice_index (set a.taken.items k at) d) (slice_index (set a.clocks.items k to) d)) (sym e.1) (own x)
+                  | inr e ↦ rw (clock_other c e.1, taken_other c e.1) (kept.kept.since.told_are.each c x p)
+                ];
+              };
+            }

@@ -43,9 +43,6 @@ module _ (system : System) (takes : TakesTime system) (clocks : List ℕ) (momen
   has-skipped c (Here spare state) (Away loan) l early stands done = absurd done
   has-skipped c (Away loan) new l early stands done = absurd stands
 
-  pub skipped-none : (slots : List Slot) → length slots ≡ system.cores → AllStand system clocks slots → HaveSkipped system clocks moment 0 clocks slots
-  skipped-none slots many stand = record { clocks_are = record { many_are = refl; done = λ c p. absurd (omega arith); left = λ c p. refl }; many_are = many; stand = stand }
-
   module _ (many : ℕ) (later : List ℕ) (slots : List Slot) (known : many < system.cores) (so_far : HaveSkipped system clocks moment many later slots) where
     pub stands-still : (x : Slot) → StandsIn system many (slice_index clocks many) (get_or slots many x)
     stands-still x = subst (λ t. StandsIn system many t (get_or slots many x)) (so_far.clocks_are.left many (omega arith)) (so_far.stand many x known)

@@ -44,10 +44,6 @@ module _ (system : System) (clocks : List ℕ) where
           IsNextBusy system c' t' box' (core_at system (world system t) c) next
       same n c' u t' mails box' d e f h = rw (sym d, sym e, sym f) h
 
-  -- the cores below a number, and one more
-  pub below-none : (past : ℕ) → AreIdleBelow system clocks past 0 past
-  below-none past = record { in_time = omega arith; idle = λ c p. absurd (omega arith); busy = λ l. absurd (omega arith) }
-
   module _ (past many until : ℕ) (below : AreIdleBelow system clocks past many until) where
     each-below : (moment : ℕ) → moment ≤ until → IsIdle system clocks moment many → (c : ℕ) → c < many + 1 → IsIdle system clocks moment c
     each-below moment l own c p = elim (eqb_tells c many) [
@@ -180,10 +176,6 @@ module _ (system : System) (takes_time : TakesTime system) (clocks : List ℕ) (
 
     pub skipped-same : moment ≤ slice_index later many → AreSkipped system clocks states moment (many + 1) later after
     skipped-same late = record { clocks_are = set-same clocks later moment many h.clocks_are late; many_are = h.many_are; states_are = h.states_are }
-
-pub skipped-none : (system : System) (clocks : List ℕ) (states : List State) (moment : ℕ) → AreAt system clocks states → AreSkipped system clocks states moment 0 clocks states
-skipped-none system clocks states moment at =
-    record { clocks_are = record { many_are = refl; done = λ c p. absurd (omega arith); left = λ c p. refl }; many_are = refl; states_are = at }
 
 -- all of `Cores`
 module _ (a : Inside) (kept : IsKept a) (unspent : a.failed ≡ false) where

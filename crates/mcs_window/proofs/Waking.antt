@@ -68,16 +68,3 @@ pub piece-all : (span : ℕ) (before after : Table) (result : Option Work) → b
     IfSome result (λ piece. (piece.system ≡ before.system) × (piece.first ≡ clock_of after piece.core) × (piece.past ≡ past_of after piece.core) × (piece.front ≡ after.clocks))
 piece-all span before after None long same h = tt
 piece-all span before after (Some piece) long same h = (h.0, h.1, h.2 ∙ within-all after span piece.core (omega arith), h.3)
-
--- no core is lent still
-pub awake-here : (before table : Table) → IsAwake before table → AllAreHere before → AllAreHere table
-awake-here before table (inl p) here = subst AllAreHere (sym p.2.rest) here
-awake-here before table (inr p) here = subst AllAreHere (sym p.1) here
-
--- no more turns are left than before
-pub awake-turns : (before table : Table) → IsAwake before table → turns_left table ≤ turns_left before
-awake-turns before table (inl p) =
-    subst (λ (t : Table). turns_left t ≤ turns_left before) (sym p.2.rest)
-    (sum-le (λ b. before.horizon + 1 - clock_of before b) (λ b. before.horizon + 1 - clock_of table b) before.system.cores
-    (λ b l. let set = p.2.clocks b l in omega arith))
-awake-turns before table (inr p) = subst (λ t. turns_left t ≤ turns_left before) (sym p.1) (let e : turns_left before ≤ turns_left before = omega arith in e)

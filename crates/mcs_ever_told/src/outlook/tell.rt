@@ -144,7 +144,7 @@ fn tell_one(
 
 /// Sets the result of each set that has none and recurs at this moment. Other results are kept.
 /// Fails only if memory runs out.
-pub(crate) fn tell_now(
+fn tell_now(
     alloc: Global,
     look: &Look<'_>,
     groups: &[Group],
@@ -160,6 +160,27 @@ pub(crate) fn tell_now(
         tell_one(alloc, look, &groups[i], &mut told[i])?;
     }
     Ok(())
+}
+
+/// Sets the results as `tell_now` does, if some set may recur at this moment (`due`). If none may,
+/// no set is compared. Fails only if memory runs out.
+pub(crate) fn tell_where_due(
+    alloc: Global,
+    look: &Look<'_>,
+    groups: &[Group],
+    due: bool,
+    told: &mut [Option<Told>],
+) -> Result<(), NoMemory>
+    requires look { IsLook look.now.system.now look.now.search.now }
+    requires closed { AreClosed look.now.system.now groups.now }
+    requires many { length told.old ≡ length groups.now }
+    ensures { (horizon : ℕ) → AreToldSoFar look.now.system.now look.now.allowed.now horizon groups.now told.old →
+        AreToldSoFar look.now.system.now look.now.allowed.now horizon groups.now told.new }
+{
+    if !due {
+        return Ok(());
+    }
+    tell_now(alloc, look, groups, told)
 }
 
 /// Returns the result of a set that was not found to recur.

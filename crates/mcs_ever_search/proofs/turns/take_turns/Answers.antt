@@ -18,34 +18,38 @@ loop-core-init c =
       rows = sym (append-nil c.args.rows.now.items);
     }
 
-pub go_to-requires-clause-known : goal.go_to-requires-clause-known
-go_to-requires-clause-known c =
+pub advance_onto-requires-clause-known : goal.advance_onto-requires-clause-known
+advance_onto-requires-clause-known c =
     let known : c.loop-core.core < c.args.system.now.cores = rw c.parts.ensures.same at c.loop-core-test.true in
     rw c.loop-core.invariant.turned.are_of.system_is known
 
-pub go_to-requires-clause-there : goal.go_to-requires-clause-there
-go_to-requires-clause-there c =
-    let known : c.loop-core.core < c.args.system.now.cores = rw c.parts.ensures.same at c.loop-core-test.true in
-    let all = c.loop-core.invariant.turned.are_of.clocks_of in
-    omega arith
+pub advance_onto-requires-clause-no_rows : goal.advance_onto-requires-clause-no_rows
+advance_onto-requires-clause-no_rows c =
+    let s = c.args.system.now in
+    let k = c.loop-core.core in
+    let cores = c.loop-core.cores in
+    let turned = c.loop-core.invariant.turned in
+    let known : k < s.cores = rw c.parts.ensures.same at c.loop-core-test.true in
+    let own = turned.left k (omega arith) known in
+    rw (turned.are_of.system_is, own.clock_is) own.no_rows
 
-pub go_to-requires-clause-not_back : goal.go_to-requires-clause-not_back
-go_to-requires-clause-not_back c =
+pub advance_onto-requires-clause-not_back : goal.advance_onto-requires-clause-not_back
+advance_onto-requires-clause-not_back c =
     let k = c.loop-core.core in
     let known : k < c.args.system.now.cores = rw c.parts.ensures.same at c.loop-core-test.true in
     let next : c.unwrap-next.result ≡ c.args.clock + 1 = search rules in
     let at = (c.loop-core.invariant.turned.left k (omega arith) known).clock_is in
     omega arith
 
-pub go_to-requires-clause-in_time : goal.go_to-requires-clause-in_time
-go_to-requires-clause-in_time c =
+pub advance_onto-requires-clause-in_time : goal.advance_onto-requires-clause-in_time
+advance_onto-requires-clause-in_time c =
     let next : c.unwrap-next.result ≡ c.args.clock + 1 = search rules in
     let same = c.loop-core.invariant.horizon in
     let l = c.requires.in_time in
     omega arith
 
-pub go_to-requires-clause-reached : goal.go_to-requires-clause-reached
-go_to-requires-clause-reached c =
+pub advance_onto-requires-clause-reached : goal.advance_onto-requires-clause-reached
+advance_onto-requires-clause-reached c =
     let s = c.args.system.now in
     let k = c.loop-core.core in
     let cores = c.loop-core.cores in
@@ -64,14 +68,14 @@ loop-core-preserved c =
     let turned = c.loop-core.invariant.turned in
     let known : k < s.cores = rw c.parts.ensures.same at c.loop-core-test.true in
     let next : c.unwrap-next.result ≡ c.args.clock + 1 = search rules in
-    let gone : c.go_to.new.cores ≡ with_taken (advanced cores k (c.args.clock + 1)) k =
-    c.in_ok-go_to.ensures.cores ∙ ap (λ to. with_taken (advanced cores k to) k) next in
+    let gone : c.advance_onto.new.self ≡ with_taken (advanced cores k (c.args.clock + 1)) k =
+    c.in_ok-advance_onto.ensures.ok.1 ∙ ap (λ to. with_taken (advanced cores k to) k) next in
     let P : Progress → Type 0 = λ after. HaveTurned s after c.args.clock (k + 1) in
     record {
       turned = subst P (sym gone) (turned-more s cores c.args.clock k known turned);
-      horizon = ap (λ (p : Progress). p.horizon) c.in_ok-go_to.ensures.cores ∙ c.loop-core.invariant.horizon;
-      rows = rows-next s cores c.args.clock k known turned c.args.rows.now.items c.loop-core.rows.items c.go_to.new.rows.items c.unwrap-next.result
-          c.loop-core.invariant.rows c.in_ok-go_to.ensures.rows next;
+      horizon = ap (λ (p : Progress). p.horizon) c.in_ok-advance_onto.ensures.ok.1 ∙ c.loop-core.invariant.horizon;
+      rows = rows-next s cores c.args.clock k known turned c.args.rows.now.items c.loop-core.rows.items c.advance_onto.new.rows.items c.unwrap-next.result
+          c.loop-core.invariant.rows c.in_ok-advance_onto.ensures.rows next;
     }
 
 pub returns-clause-cores : goal.returns-clause-cores

@@ -22,6 +22,7 @@ invariant_of-result-2 c =
       seen = seen;
       kept = kept;
       orders_end = end;
+      driven = c.beats_for_ever-driven.result;
       horizon = c.args.horizon;
       clock = 0;
       failed = false;

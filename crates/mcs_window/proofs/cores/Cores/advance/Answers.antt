@@ -35,9 +35,9 @@ invariant_of-self-2 c =
     let l : slice_index a.clocks.items k ≤ c.args.to = search rules in
     let in_time : c.args.to ≤ a.horizon + 1 = search rules in
     let reached : NothingArrivesBefore (arc_value a.system) k c.args.to a.clocks.items = search rules in
-    advanced_kept a c.self.invariant k c.args.to c.index_mut-state.result.now c.run.new.self c.index_mut-mail.result.now c.run.new.mail c.deliver.new.boxes
-    c.index_mut.result.now c.keep_rows.new.kept c.run.new.rows c.run.new.signals c.clear.new.self
-    c.if-self.false h l in_time reached c.index_mut-state.ensures.value c.index_mut-mail.ensures.value
+    advanced_kept a c.self.invariant k c.args.to c.index_mut-state.result.now c.run.new.self c.index_mut-mail.result.now c.run.new.mail
+    c.if-self.false h l reached c.index_mut-state.ensures.value c.index_mut-mail.ensures.value
+    c.deliver.new.boxes c.index_mut.result.now c.keep_rows.new.kept c.run.new.rows c.run.new.signals c.clear.new.self in_time
     (record {
       state_is = rw c.deref.ensures at c.in_ok-run.ensures.state;
       fits = rw c.deref.ensures at c.in_ok-run.ensures.fits;
