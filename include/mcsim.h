@@ -156,7 +156,7 @@ uint32_t mcs_check(const uint8_t *text, size_t text_bytes, uint64_t horizon, uin
 uint32_t mcs_why(const uint8_t *text, size_t text_bytes, uint64_t horizon, const uint8_t *thread, size_t thread_bytes, const uint8_t *round, size_t round_bytes, uint32_t format, uint8_t *room, size_t room_bytes, size_t *length);
 
 /* Checks the system that a text describes for all time: what mcscheck --forever prints. It searches
- * for a repetition of each set of cores up to a horizon.
+ * for a repetition of each set of cores and of each chain up to a horizon.
  *
  *   text, text_bytes    The text, as above.
  *   horizon             The last time of the search, in ticks: 0 to MCS_HORIZON_MAX.
@@ -167,12 +167,12 @@ uint32_t mcs_why(const uint8_t *text, size_t text_bytes, uint64_t horizon, const
  *   length              Receives the number of bytes of the output.
  *
  *   Result              *length                      Room
- *   MCS_LINES           bytes of the lines           the lines; each set repeats, and nothing is
- *                                                    ever found
+ *   MCS_LINES           bytes of the lines           the lines; each set and each chain with a
+ *                                                    deadline repeats, and nothing is ever found
  *   MCS_FOUND           bytes of the lines           the lines; something was found
- *   MCS_UNJUDGED        bytes of the lines           the lines; nothing was found, but a set was
- *                                                    not found to repeat, or no thread has a
- *                                                    deadline
+ *   MCS_UNJUDGED        bytes of the lines           the lines; nothing was found, but a set or a
+ *                                                    chain with a deadline was not found to
+ *                                                    repeat, or there is no deadline
  *   MCS_FAULT           bytes of the fault's line    the line, as after mcs_check
  *   MCS_ROOM            bytes needed                 unchanged
  *   MCS_REFUSED         0                            unchanged: horizon or format is out of range,

@@ -23,6 +23,15 @@ TICKING = mcsim.System(
 )
 # A budget of 2 in 5 is exhausted at 2 and at 7, and replenished at 5 and at 10. The job of 5 ticks ends at 11.
 EXHAUSTED = mcsim.System(contexts=[mcsim.Context('a', 0, 2, 5)], threads=[mcsim.Thread('A', 'a', 5, ['compute 5'], rounds=1)])
+# D waits from 1 on, is woken at 3, computes to 5, signals at 6; the signal arrives at 8, and C computes to 12
+TWO_CORES = mcsim.System(
+    cores=2, delay=2,
+    contexts=[mcsim.Context('d', 0, 5, 20), mcsim.Context('c', 1, 9, 20)],
+    notes=[mcsim.Note('n', 0), mcsim.Note('p', 1)],
+    sources=[mcsim.Source('s', 'n', 1, 20, start=3)],
+    threads=[mcsim.Thread('D', 'd', 5, ['wait n', 'compute 2', 'signal p 1']), mcsim.Thread('C', 'c', 5, ['wait p', 'compute 4'])],
+    chains=[mcsim.Chain('way', source='s', thread='C', deadline=8)],
+)
 
 
 class Simulated(unittest.TestCase):
@@ -126,6 +135,13 @@ class Checked(unittest.TestCase):
             mcsim.Hint('unawaited', note='z', source='late'), mcsim.Hint('inverted', thread='L', server='s', priority=1, caller=1),
         ])
 
+    def test_hints_of_chains(self) -> None:
+        # H signals z with badges 2 and 4, and L has no handler for 4
+        system = TICKING.put(mcsim.Note('z', 0)).put(mcsim.Context('l', 0, 1, 20)).put(mcsim.Thread('L', 'l', 1, ['wait z', 'on 2', 'compute 1']))
+        system = system.put(dataclasses.replace(TICKING.thread('H'), script=['wait tick', 'compute 3', 'signal z 6']))
+        system = system.put(mcsim.Chain('near', 'clock', 'H', deadline=9)).put(mcsim.Chain('far', 'clock', 'L', badges=4, deadline=9))
+        self.assertEqual(list(system.check(14).hints), [mcsim.Hint('unreached', chain='far', source='clock', thread='L')])
+
     def test_figures(self) -> None:
         # up to 20: 5 ticks from 0 on and 4 from 10 on; the interrupt at 20 wakes it, and no tick follows
         figures, = TICKING.table(20)
@@ -150,15 +166,7 @@ class Checked(unittest.TestCase):
         self.assertEqual((second.number, second.activated, second.begun, second.moment, second.response, second.queued), (2, 10, 10, 13, 3, 0))
 
     def test_a_chain_of_two_cores(self) -> None:
-        # D waits from 1 on, is woken at 3, computes to 5, signals at 6; the signal arrives at 8, and C computes to 12
-        system = mcsim.System(
-            cores=2, delay=2,
-            contexts=[mcsim.Context('d', 0, 5, 20), mcsim.Context('c', 1, 9, 20)],
-            notes=[mcsim.Note('n', 0), mcsim.Note('p', 1)],
-            sources=[mcsim.Source('s', 'n', 1, 20, start=3)],
-            threads=[mcsim.Thread('D', 'd', 5, ['wait n', 'compute 2', 'signal p 1']), mcsim.Thread('C', 'c', 5, ['wait p', 'compute 4'])],
-            chains=[mcsim.Chain('way', source='s', thread='C', deadline=8)],
-        )
+        system = TWO_CORES
         self.assertEqual(list(system.answers(20)), [mcsim.Answer(12, 1, 'C', 1, 'way', 9, 3, 8)])
         found = system.check(31)
         self.assertEqual(list(found), [mcsim.Slow(12, 1, 'way', 9, 8, 3), mcsim.Unanswered(31, 1, 'way', 8, 23)])
@@ -309,6 +317,32 @@ class Foretold(unittest.TestCase):
         )
         one, = system.forever(1000).sets
         self.assertEqual((one.is_clean, one.responses[1]), (True, mcsim.Response('Guest', computes_without_end=True)))
+
+    def test_a_chain_for_all_time(self) -> None:
+        # each 20 ticks from 3 on an interrupt is answered 9 ticks later
+        system = TWO_CORES
+        found = system.forever()
+        one, = found.latencies
+        self.assertEqual((one.chain, one.period, one.greatest, one.answers, one.deadline), ('way', 20, 9, 1, 8))
+        assert one.begin is not None
+        # those before the first period come at 12, 32 and so on
+        before = len(range(12, one.begin, 20))
+        self.assertEqual(list(found), [mcsim.SlowAnswers('way', each_period=1, before=before)])
+        self.assertEqual((found.is_clean, found.is_judged, found.counts.findings, found.counts.deadlines), (False, True, 1, 1))
+        in_time = system.put(mcsim.Chain('way', source='s', thread='C', deadline=9)).forever()
+        self.assertEqual((in_time.is_clean, in_time.is_judged, len(in_time)), (True, True, 0))
+        # up to 31 no repetition is found, and the interrupt of 23 had to be answered by then
+        early = system.forever(31)
+        self.assertEqual(early.latencies, (mcsim.Latency('way', None, None, 9, 1, 8),))
+        self.assertEqual(list(early), [mcsim.SlowAnswers('way', so_far=1), mcsim.MissingAnswers('way', so_far=1)])
+        self.assertEqual((early.is_clean, early.is_judged), (False, False))
+
+    def test_a_chain_without_a_period_is_not_judged(self) -> None:
+        lines = b'{"kind":"repeats","cores":"0","from":3,"period":5}\n{"kind":"chain","chain":"way","horizon":90,"answers":0,"deadline":8}\n' \
+            b'{"kind":"sets","sets":1,"repeating":1,"findings":0,"threads":1,"deadlines":1}\n'
+        found = forever.outlook_of(lines)
+        self.assertEqual((found.is_clean, found.is_judged, found.latencies), (True, False, (mcsim.Latency('way', None, None, None, 0, 8),)))
+        self.assertTrue(forever.outlook_of(lines.replace(b',"deadline":8', b'')).is_judged)
 
     def test_an_outlook_that_was_cut_off(self) -> None:
         with self.assertRaises(EOFError):

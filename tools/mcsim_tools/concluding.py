@@ -15,6 +15,7 @@ from .verdict import COUNTED, FOUND, NOTHING, UNJUDGED
 MISS, HINT, COUNTS, SETS, WHY, RAN, IDLE = 'miss', 'hint', 'counts', 'sets', 'why', 'ran', 'idle'
 # the first and the last object of the way of an answer
 ANSWER, SUM = 'answer', 'sum'
+CHAIN = 'chain'
 # kinds of lines that are no finding, and may be a mistake
 IN_DOUBT = (HINT, 'unjudged')
 # what a kind of finding says of whom it names, of one and of several
@@ -52,6 +53,8 @@ class Facts:
     named: dict[str, dict[str, None]] = field(default_factory=dict)
     first: dict[str, Object] = field(default_factory=dict)
     last: dict[str, Object] = field(default_factory=dict)
+    # chains with a deadline that were not found to repeat, for all time
+    open_chains: int = 0
     ran: list[tuple[str, int]] = field(default_factory=list)
 
     def add(self, line: Object) -> None:
@@ -61,6 +64,7 @@ class Facts:
         self.last[kind] = line
         if name := name_of(line):
             self.named.setdefault(kind, {})[name] = None
+        self.open_chains += kind == CHAIN and 'horizon' in line and 'deadline' in line
         if kind == RAN and isinstance(line.get('ticks'), int):
             self.ran.append((name, line['ticks']))
 
@@ -77,7 +81,7 @@ class Facts:
         counts = self.counts()
         if any(counts.get(key) for key in (*COUNTED.values(), 'findings')):
             return FOUND
-        is_open = counts.get('repeating', 0) < counts.get('sets', 0)
+        is_open = self.open_chains or counts.get('repeating', 0) < counts.get('sets', 0)
         return UNJUDGED if is_open or 0 in (counts.get(JUDGED), counts.get(DEADLINES)) else NOTHING
 
     def others(self) -> str:
@@ -136,7 +140,7 @@ def why_unjudged(counts: Object) -> str:
     if counts.get(THREADS) == 0:
         return 'the system has no thread'
     if counts.get(DEADLINES) == 0:
-        return 'no thread has a deadline' if SETS in counts else 'no thread and no chain has a deadline'
+        return 'no thread and no chain has a deadline'
     return 'nothing with a deadline has ended or is overdue'
 
 
@@ -169,6 +173,9 @@ def of_all_time(facts: Facts, status: int, unit: scale.Unit) -> Sentence:
     """What a verdict for all time comes to."""
     sets = facts.last[SETS]
     repeating = f'{sets.get("repeating")} of {sets.get("sets")} sets of cores repeat{"s" if sets.get("repeating") == 1 else ""}'
+    if facts.open_chains:
+        one = facts.open_chains == 1
+        repeating += f', and {facts.open_chains} chain{"" if one else "s"} with a deadline do{"es" if one else ""} not'
     if status == NOTHING:
         return Sentence(f'For ever no deadline is missed, and no signal is lost unless that is allowed; {repeating}', WELL)
     if status == UNJUDGED and sets.get(DEADLINES) == 0:

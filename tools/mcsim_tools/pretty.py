@@ -39,7 +39,7 @@ MEANINGS = {
     'overcommitted': 'its contexts have more than it', 'unused': 'no thread runs on it', 'no_thread': 'the file has none',
     'no_deadline': 'no deadline can be judged', 'unawaited': 'interrupts, and nobody waits',
     'unhandled': 'no handler takes its badge', 'unheard': 'no handler takes the badge of its signal',
-    'inverted': 'the server is no priority ceiling',
+    'inverted': 'the server is no priority ceiling', 'unreached': 'no signal leads from its source to its thread',
 }
 ROWS = 'rows'
 NARROWEST = 20

@@ -192,10 +192,27 @@ class Sentences(unittest.TestCase):
         self.assertEqual(sentence(SETS), 'For ever no deadline is missed, and no signal is lost unless that is allowed; 3 of 3 sets of cores repeat')
         found = sentence({**SETS, 'repeating': 1})
         self.assertEqual(found, 'Nothing is found so far, and nothing is known of later times: 1 of 3 sets of cores repeats')
-        self.assertEqual(sentence({**SETS, 'deadlines': 0}), 'No deadline is judged: no thread has a deadline; 3 of 3 sets of cores repeat')
+        self.assertEqual(sentence({**SETS, 'deadlines': 0}), 'No deadline is judged: no thread and no chain has a deadline; 3 of 3 sets of cores repeat')
         miss = {'kind': 'miss', 'thread': 'Loop', 'each_period': 9, 'before': 12}
         found = sentence(miss, {**SETS, 'findings': 1})
         self.assertEqual(found, '1 of 3 threads misses its deadline; first: Loop, 9 each period, 12 before; 3 of 3 sets of cores repeat')
+
+    def test_chains_for_all_time(self) -> None:
+        late = {'kind': 'slow', 'chain': 'way', 'each_period': 1, 'before': 2}
+        found = sentence(late, {**SETS, 'findings': 1})
+        self.assertEqual(found, 'No deadline is missed; first: slow, way, 1 each period, 2 before; 3 of 3 sets of cores repeat')
+        repeats: dict[str, Any] = {'kind': 'chain', 'chain': 'way', 'from': 72, 'period': 20, 'greatest': 11, 'answers': 1, 'deadline': 9}
+        open_chain: dict[str, Any] = {'kind': 'chain', 'chain': 'way', 'horizon': 80, 'answers': 0}
+        for lines, said, status in (
+            ([repeats, open_chain], 'For ever no deadline is missed, and no signal is lost unless that is allowed; 3 of 3 sets of cores repeat', 0),
+            ([repeats, {**open_chain, 'deadline': 9}],
+             'Nothing is found so far, and nothing is known of later times: 3 of 3 sets of cores repeat, and 1 chain with a deadline does not', 6),
+        ):
+            self.assertEqual(sentence(*lines, SETS), said)
+            verdict = pretty.Verdict(False)
+            for line in (*lines, SETS):
+                verdict.add(line)
+            self.assertEqual(verdict.facts.status(), status)
 
 
 class Shown(unittest.TestCase):
@@ -257,6 +274,12 @@ class Shown(unittest.TestCase):
         self.assertEqual(found[1:3], ['hint       source  note    badge  meaning', 'unhandled  nic     events      4  no handler takes its badge'])
         found = shown({'kind': 'hint', 'hint': 'inverted', 'thread': 'H', 'server': 'v', 'priority': 40, 'caller': 50}, counts(hints=1))
         self.assertEqual([line for line in found if 'ceiling' in line], ['inverted  H       v             40      50  the server is no priority ceiling'])
+
+    def test_hints_of_chains(self) -> None:
+        found = shown({'kind': 'hint', 'hint': 'unreached', 'chain': 'packet', 'source': 'nic', 'thread': 'Filter'}, counts(hints=1))
+        self.assertEqual(found[1:3], [
+            'hint       chain   source  thread  meaning', 'unreached  packet  nic     Filter  no signal leads from its source to its thread',
+        ])
 
     def test_doubts_are_coloured_as_doubts(self) -> None:
         self.assertEqual([concluding.severity(kind) for kind in ('miss', 'hint', 'unjudged', 'counts')], [colours.WRONG, colours.DOUBTFUL, colours.DOUBTFUL, ''])

@@ -4,8 +4,8 @@ use Rattle.mcs_system.specs.System.{System}
 use Rattle.mcs_load.specs.declared.fault.LoadFault.{LoadFault}
 use Rattle.mcs_cli.specs.Fault.{run_fault_text}
 use Rattle.mcs_cli.specs.Run.{loaded, output_of}
-use Rattle.mcs_cli.specs.declared.asked.Show.{Show}
-use Rattle.mcs_cli.specs.declared.asked.Show.TheVariants.{Schedule, Reports, Both}
+use Rattle.mcs_words.specs.declared.asked.Show.{Show}
+use Rattle.mcs_words.specs.declared.asked.Show.TheVariants.{Schedule, Reports, Both}
 use Rattle.mcs_cli.specs.declared.fault.RunFault.TheVariants.{Load}
 use Rattle.mcs_c.specs.declared.answer.Answer.{Answer}
 use Rattle.mcs_c.specs.declared.answer.Answer.TheVariants as answers

@@ -1,3 +1,4 @@
 pub mod Verdict
 pub mod Foretold
 pub mod ForeverFault
+pub mod laws

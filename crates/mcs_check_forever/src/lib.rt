@@ -3,10 +3,12 @@
 #![tactic(auto)]
 
 mod forever_fault;
+mod laws;
 mod run;
 mod told;
 mod verdict;
 
 pub use forever_fault::ForeverFault;
+pub use laws::clean_is_never_late;
 pub use run::{foretell, foretell_alone, foretell_with};
 pub use verdict::Verdict;

@@ -15,6 +15,7 @@ use crate::{ForeverFault, Verdict};
 use mcs_check_run::{CheckFault, Progress, Quiet, flags_of, refuse_unknown};
 use mcs_check_words::{Format, Options};
 use mcs_cli::{FromRead, RunFault, Source, Target, read_system, write_text};
+use mcs_ever_chain::{tell_chains, told_sets_recur};
 use mcs_ever_told::{Outlook, Told};
 use mcs_spin::spin;
 use mcs_system::System;
@@ -65,13 +66,14 @@ pub fn foretell_with<H: Files, S: Source, T: Target, P: Progress>(
 }
 
 /// Reads a system, searches for a repetition up to the horizon, and writes the result of each
-/// closed set of cores; returns the verdict.
+/// closed set of cores and of each chain; returns the verdict.
 ///
 /// A closed set is one that no core outside it signals. Its lines say from which time on it
 /// repeats, with which period, and its findings for ever; without a repetition, its findings so
-/// far. A thread that only computes is taken to spin. One thread searches, whatever the option
-/// `workers`. Neither device may have failed before; a device is blamed only if it has failed.
-/// After `Write` a prefix was written, after any other fault no byte.
+/// far. The lines of a chain say the same of its answers. A thread that only computes is taken to
+/// spin. One thread searches, whatever the option `workers`. Neither device may have failed
+/// before; a device is blamed only if it has failed. After `Write` a prefix was written, after any
+/// other fault no byte.
 pub fn foretell<S: Source, T: Target, P: Progress>(
     alloc: Global,
     source: &mut S,
@@ -171,8 +173,19 @@ fn foretold<P: Progress>(
     let told = look(alloc, shared, allowed.as_slice(), options.horizon, progress);
     progress.wipe();
     let told = told?;
-    let text = text_of(alloc, options.format, &system, told.as_slice())?;
-    Ok((verdict_of(&system, told.as_slice()), text))
+    told_sets_recur();
+    let again = Arc::try_clone(&system)?;
+    let chains = tell_chains(alloc, again, told.as_slice(), options.horizon)?;
+    let (sets, chains) = (told.as_slice(), chains.as_slice());
+    let text = text_of(
+        alloc,
+        options.format,
+        &system,
+        options.horizon,
+        sets,
+        chains,
+    )?;
+    Ok((verdict_of(&system, sets, chains), text))
 }
 
 /// Searches for repetitions up to the horizon.

@@ -6,13 +6,13 @@ use mcs_check_lines::code;
 /// The verdict for all time.
 #[derive(Clone, Copy, Debug, PartialEq, Eq)]
 pub enum Verdict {
-    /// There is a thread with a deadline, and every set of cores repeats and has no finding, for
-    /// ever.
+    /// There is a deadline, of a thread or of a chain; every set of cores and every chain with a
+    /// deadline repeats; and there is no finding, for ever.
     Clean,
     /// There is a finding.
     Found,
-    /// There is no finding so far, but some set of cores was not found to repeat, or no thread has a
-    /// deadline.
+    /// There is no finding so far, but some set of cores or some chain with a deadline was not
+    /// found to repeat, or there is no deadline.
     Open,
 }
 

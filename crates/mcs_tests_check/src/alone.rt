@@ -45,6 +45,46 @@ nothing is ever found
 sets 1 repeating 1 findings 0 threads 2 deadlines 1
 ";
 
+/// An interrupt each 20 ticks from 40 on wakes Driver, which signals Filter 3 ticks later. The
+/// signal takes 3, and the job of Filter 5.
+const PIPELINE: &str = r#"
+version = 3
+cores = 2
+delay = 3
+context = [
+    { name = "driver", core = 0, budget = 10, period = 20, extra_refills = 4 },
+    { name = "filter", core = 1, budget = 12, period = 20, extra_refills = 4 },
+]
+note = [{ name = "irq", core = 0 }, { name = "data", core = 1 }]
+thread = [
+    { name = "Driver", context = "driver", priority = 50, script = ["wait irq", "compute 2", "signal data 1"] },
+    { name = "Filter", context = "filter", priority = 50, script = ["wait data", "compute 5"] },
+]
+source = [{ name = "nic", note = "irq", badge = 1, period = 20, start = 40 }]
+chain = [
+    { name = "packet", source = "nic", thread = "Filter", deadline = 11 },
+    { name = "tight", source = "nic", thread = "Filter", deadline = 10 },
+    { name = "none", source = "nic", thread = "Filter", badges = 2, deadline = 20 },
+]
+"#;
+
+/// Each interrupt has its answer 11 ticks later, those of 40 and 60 before the first period. No job
+/// of Filter has the badge 2.
+const ANSWERED: &str = "\
+cores 0: repeats from 51 with period 20
+thread Driver: greatest response 3, throttled: never
+nothing is ever found
+cores 0 1: repeats from 72 with period 20
+thread Filter: greatest response 5, throttled: never
+nothing is ever found
+chain packet: repeats from 72 with period 20, greatest latency 11, answers 1 in each period
+chain tight: repeats from 72 with period 20, greatest latency 11, answers 1 in each period
+slow tight: 1 in each period, 2 before
+chain none: repeats from 72 with period 20, greatest latency -, answers 0 in each period
+unanswered none: 1 in each period, 2 before
+sets 2 repeating 2 findings 2 threads 2 deadlines 3
+";
+
 /// The text for all time with the verdict, or the line of the fault.
 fn foretold(
     alloc: Global,
@@ -90,6 +130,15 @@ fn a_guest_that_only_computes_spins(rt: HostRuntime) -> Result<(), Fail> {
     let (text, verdict) = foretold(rt.alloc(), GUEST, &options)?;
     assert_eq!(rt; text.as_str(), FOR_EVER);
     assert!(rt; verdict == Some(Verdict::Clean));
+    Ok(())
+}
+
+#[test]
+fn chains_are_told_for_all_time(rt: HostRuntime) -> Result<(), Fail> {
+    let options = options(rt.alloc(), 1_000, 1, &[])?;
+    let (text, verdict) = foretold(rt.alloc(), PIPELINE, &options)?;
+    assert_eq!(rt; text.as_str(), ANSWERED);
+    assert!(rt; verdict == Some(Verdict::Found));
     Ok(())
 }
 

@@ -10,7 +10,8 @@ use std::process::Abort;
 use std::test::Fail;
 
 /// An interrupt each 10 ticks wakes D, the first one at 3. The signal of D leaves 3 ticks later and
-/// wakes C on the other core 2 later. The job of C takes 4. Nobody signals q, on which Z waits.
+/// wakes C on the other core 2 later. The job of C takes 4. Nobody signals q, on which Z waits: the
+/// chain z has a hint.
 const TWO_CORES: &str = r#"
 version = 3
 cores = 2
@@ -58,7 +59,8 @@ const TWO_CORES_FOUND: &str = "\
 22 0 never Z deadline 5
 22 0 unanswered z deadline 19 origin 3
 hint note q is waited on and no script signals it
-missed 2 overdue 0 untaken 0 lost 0 never 1 merged 0 allowed 0 unjudged 0 hints 1 threads 3 deadlines 6 judged 9 slow 4 unanswered 1
+hint chain z: no signal leads from s to Z
+missed 2 overdue 0 untaken 0 lost 0 never 1 merged 0 allowed 0 unjudged 0 hints 2 threads 3 deadlines 6 judged 9 slow 4 unanswered 1
 ";
 
 #[test]
@@ -152,7 +154,7 @@ const TWO_CORES_JOBS: &str = "\
 12 1 answer f round 1 origin 3 latency 9 deadline 7
 12 1 answer e round 1 origin 3 latency 9 deadline 8
 12 1 answer g round 1 origin 3 latency 9 deadline 9
-missed 1 overdue 0 untaken 0 lost 0 never 1 merged 0 allowed 0 unjudged 0 hints 1 threads 3 deadlines 6 judged 4 slow 2 unanswered 0
+missed 1 overdue 0 untaken 0 lost 0 never 1 merged 0 allowed 0 unjudged 0 hints 2 threads 3 deadlines 6 judged 4 slow 2 unanswered 0
 ";
 
 #[test]

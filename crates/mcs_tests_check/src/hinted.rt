@@ -1,5 +1,6 @@
 //! Hints on a file.
 
+use mcs_chain::ChainId;
 use mcs_hints::{Hint, hints};
 use mcs_load::load;
 use mcs_ticks::{CoreId, NoteId, SourceId, ThreadId};
@@ -64,6 +65,28 @@ source = [
     { name = "s", note = "n", badge = 4, period = 9 },
     { name = "k", note = "n", badge = 24, period = 9 },
     { name = "u", note = "z", badge = 1, period = 9 },
+]
+"#;
+
+/// For badge 1 of `s` the driver `D` signals `m` with badge 1. The first chain answers for this
+/// badge, and the second one for badge 2, to which no interrupt of `s` leads.
+const WAY: &str = r#"
+version = 3
+cores = 1
+delay = 1
+context = [
+    { name = "d", core = 0, budget = 1, period = 3 },
+    { name = "e", core = 0, budget = 1, period = 3 },
+]
+note = [{ name = "n", core = 0 }, { name = "m", core = 0 }]
+thread = [
+    { name = "D", context = "d", priority = 9, script = ["wait n", "on 1", "signal m 1", "on 2", "signal m 2"] },
+    { name = "E", context = "e", priority = 5, script = ["wait m", "on 1", "compute 1", "on 2", "compute 1"] },
+]
+source = [{ name = "s", note = "n", badge = 1, period = 9 }]
+chain = [
+    { name = "first", source = "s", thread = "E", badges = 1, deadline = 9 },
+    { name = "second", source = "s", thread = "E", badges = 2 },
 ]
 "#;
 
@@ -143,6 +166,20 @@ fn badges_that_no_handler_takes(rt: HostRuntime) -> Result<(), Fail> {
             caller: 5,
         },
     ];
+    assert_eq!(rt; found.as_slice(), wanted.as_slice());
+    Ok(())
+}
+
+/// A chain that answers for a badge to which no signal leads.
+#[test]
+fn a_chain_that_no_signal_can_complete(rt: HostRuntime) -> Result<(), Fail> {
+    let system = load(rt.alloc(), WAY.as_bytes())?;
+    let found = hints(rt.alloc(), &system)?;
+    let wanted = [Hint::Unreached {
+        chain: ChainId(1),
+        source: SourceId(0),
+        thread: ThreadId(1),
+    }];
     assert_eq!(rt; found.as_slice(), wanted.as_slice());
     Ok(())
 }

@@ -2,6 +2,7 @@
 ghost use Rattle.std.specs.Prelude.{◌≤◌, ◌^◌, IfOk};
 
 use mcs_ever::closed_sets;
+use mcs_ever_chain::{ChainTold, tell_chains, told_sets_recur};
 use mcs_ever_search::{Repeats, find_repeats};
 use mcs_ever_told::{Line, LineFormat, Told, put_lines, tell_all};
 use mcs_load::load;
@@ -75,6 +76,17 @@ pub(crate) fn told(alloc: Global, text: &str, horizon: u64) -> Result<Vec<Told>,
     let system = load(alloc, text.as_bytes())?;
     let shared = Arc::new(alloc, system)?;
     Ok(tell_all(alloc, shared, &[], horizon)?)
+}
+
+/// The results of all chains, by those of the sets of cores.
+pub(crate) fn chains(alloc: Global, text: &str, horizon: u64) -> Result<Vec<ChainTold>, Fail> {
+    let horizon = moment(horizon)?;
+    let system = load(alloc, text.as_bytes())?;
+    let shared = Arc::new(alloc, system)?;
+    let again = Arc::try_clone(&shared)?;
+    told_sets_recur();
+    let sets = tell_all(alloc, shared, &[], horizon)?;
+    Ok(tell_chains(alloc, again, sets.as_slice(), horizon)?)
 }
 
 /// The results as lines of words.

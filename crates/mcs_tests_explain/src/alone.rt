@@ -30,7 +30,7 @@ const WHY_A: &str = "\
 10 0 run A
 11 0 round A 1 11
 11 0 stop A done 1
-why A number 1 from 0 to 11 waited 0 activated 0 begun 0 ended 11
+why A round 1 from 0 to 11 waited 0 activated 0 begun 0 ended 11
 ran A ticks 5
 idle ticks 6
 ";

@@ -51,7 +51,7 @@ const WHY_HIGH: &str = "\
 32 0 hold lock 1
 32 0 round High 1 3
 32 0 stop High done 3
-why High number 1 from 5 to 32 waited 24 activated 29 begun 29 ended 32
+why High round 1 from 5 to 32 waited 24 activated 29 begun 29 ended 32
 ran Low ticks 4
 ran Mid ticks 20
 ran High ticks 3
@@ -85,7 +85,7 @@ thread = [
 
 const WHY_STARVED: &str = "\
 3 0 release T
-why T number 1 from 3 to 10 waited 7 activated - begun - ended -
+why T round 1 from 3 to 10 waited 7 activated - begun - ended -
 ran Busy ticks 7
 idle ticks 0
 ";

@@ -59,6 +59,26 @@ class EndsUntaken:
 
 
 @dataclass(frozen=True)
+class SlowAnswers:
+    """How many jobs answer the chain later than its deadline: in each period and before the first, or so far if no repetition was found."""
+
+    chain: str
+    each_period: Optional[int] = None
+    before: Optional[int] = None
+    so_far: Optional[int] = None
+
+
+@dataclass(frozen=True)
+class MissingAnswers:
+    """How many interrupts of the chain more than answers there are, likewise, if at some horizon a deadline has passed without an answer."""
+
+    chain: str
+    each_period: Optional[int] = None
+    before: Optional[int] = None
+    so_far: Optional[int] = None
+
+
+@dataclass(frozen=True)
 class Response:
     """The greatest response of the jobs of a thread that ever end, None if none does; of those up to the horizon if `is_so_far`.
 
@@ -73,11 +93,27 @@ class Response:
     computes_without_end: bool = False
 
 
+@dataclass(frozen=True)
+class Latency:
+    """The answers of a chain. From `begin` on they repeat each `period` ticks, for ever, with `answers` in each period; both are None if no repetition was
+    found, and `answers` is then how many there are so far. `greatest` is the maximum latency, None without an answer; `deadline` is that of the chain, None
+    if it has none."""
+
+    chain: str
+    begin: Optional[int]
+    period: Optional[int]
+    greatest: Optional[int]
+    answers: int
+    deadline: Optional[int]
+
+
 RESPONSES = ('thread', 'computes', 'thread_so_far')
-EverFinding = Union[Misses, Losses, EndsOverdue, EndsNever, EndsUntaken]
+EverFinding = Union[Misses, Losses, EndsOverdue, EndsNever, EndsUntaken, SlowAnswers, MissingAnswers]
 FINDINGS: Mapping[str, type[EverFinding]] = {
-    'miss': Misses, 'lost': Losses, 'overdue': EndsOverdue, 'never': EndsNever, 'untaken': EndsUntaken,
+    'miss': Misses, 'lost': Losses, 'overdue': EndsOverdue, 'never': EndsNever, 'untaken': EndsUntaken, 'slow': SlowAnswers, 'unanswered': MissingAnswers,
 }
+CHAIN = 'chain'
+OF_CHAINS = (CHAIN, 'slow', 'unanswered')
 
 
 @dataclass(frozen=True)
@@ -96,7 +132,8 @@ class CoreSet:
 
 @dataclass(frozen=True)
 class Sets:
-    """How many sets of cores there are, how many repeat, and how many findings there are; then how many threads and deadlines the file has."""
+    """How many sets of cores there are, how many repeat, and how many findings there are, those of chains included; then how many threads the file has, and
+    how many deadlines of threads and chains."""
 
     sets: int
     repeating: int
@@ -107,15 +144,17 @@ class Sets:
 
 @dataclass(frozen=True)
 class Outlook:
-    """The sets of cores with their findings, and the counts."""
+    """The sets of cores with their findings, the latencies of the chains and what is found of them, and the counts."""
 
     sets: Sequence[CoreSet]
     counts: Sets
+    latencies: Sequence[Latency] = ()
+    of_chains: Sequence[EverFinding] = ()
 
     @property
     def findings(self) -> Sequence[EverFinding]:
-        """The findings of all sets."""
-        return tuple(found for one in self.sets for found in one.findings)
+        """The findings of all sets, and those of chains."""
+        return (*(found for one in self.sets for found in one.findings), *self.of_chains)
 
     @property
     def is_clean(self) -> bool:
@@ -124,9 +163,10 @@ class Outlook:
 
     @property
     def is_judged(self) -> bool:
-        """Whether each set repeats, each thread is settled and a thread has a deadline."""
+        """Whether each set and each chain with a deadline repeats, each thread is settled, and a thread or a chain has a deadline."""
         is_settled = not any(one.unsettled for one in self.sets)
-        return self.counts.repeating == self.counts.sets and is_settled and self.counts.deadlines > 0
+        is_open = any(one.period is None and one.deadline is not None for one in self.latencies)
+        return self.counts.repeating == self.counts.sets and is_settled and not is_open and self.counts.deadlines > 0
 
     def __iter__(self) -> Iterator[EverFinding]:
         return iter(self.findings)
@@ -147,6 +187,12 @@ def finding_of(kind: str, values: dict[str, Any]) -> EverFinding:
     return found
 
 
+def latency_of(values: dict[str, Any]) -> Latency:
+    return Latency(
+        values['chain'], values.get('from'), values.get('period'), values.get('greatest'), values['answers'], values.get('deadline'),
+    )
+
+
 def set_of(values: dict[str, Any], told: Sequence[tuple[str, dict[str, Any]]]) -> CoreSet:
     """A set of cores, of the object that begins it and those that follow."""
     return CoreSet(
@@ -161,11 +207,16 @@ def set_of(values: dict[str, Any], told: Sequence[tuple[str, dict[str, Any]]]) -
 def outlook_of(lines: bytes) -> Outlook:
     """The outlook that these lines tell."""
     sets: list[tuple[dict[str, Any], list[tuple[str, dict[str, Any]]]]] = []
+    chains: list[tuple[str, dict[str, Any]]] = []
     for kind, values in objects_of(lines):
         if kind in ('repeats', 'open'):
             sets.append((values, []))
+        elif kind in OF_CHAINS:
+            chains.append((kind, values))
         elif kind == 'sets':
-            return Outlook(tuple(set_of(*one) for one in sets), made(Sets, values))
+            latencies = tuple(latency_of(told) for kind, told in chains if kind == CHAIN)
+            of_chains = tuple(finding_of(kind, told) for kind, told in chains if kind != CHAIN)
+            return Outlook(tuple(set_of(*one) for one in sets), made(Sets, values), latencies, of_chains)
         else:
             sets[-1][1].append((kind, values))
     raise EOFError('the outlook has no line of counts')

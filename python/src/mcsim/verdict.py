@@ -134,7 +134,7 @@ class Hint:
     """A likely mistake in the file: `no_thread` and `no_deadline` are of all of it, `unsignalled` has a note, `unbound` a context, `unused` a core without a
     thread, and `overcommitted` a core and what it grants, in millionths. `unawaited` has a source on whose note nobody waits, `unhandled` a source, its note
     and its badge that no handler takes, `unheard` a thread that signals such a badge, and `inverted` a thread that calls a server at the priority `caller`,
-    which is not below that of the server."""
+    which is not below that of the server. `unreached` has a chain, its source and its thread, to which no signal leads from there."""
 
     hint: str
     note: Optional[str] = None
@@ -147,6 +147,7 @@ class Hint:
     server: Optional[str] = None
     priority: Optional[int] = None
     caller: Optional[int] = None
+    chain: Optional[str] = None
 
 
 @dataclass(frozen=True)

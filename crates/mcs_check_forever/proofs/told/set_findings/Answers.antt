@@ -3,7 +3,7 @@ use Rattle.std.specs.List.{sum_by}
 use Rattle.std.proofs.lemmas.List.{drop_all}
 use Rattle.mcs_ticks.specs.Capped.{capped}
 use Rattle.mcs_ever_told.specs.declared.outlook.told.Told.{Told}
-use Rattle.mcs_check_forever.proofs.told.findings.Goals as goal
+use Rattle.mcs_check_forever.proofs.told.set_findings.Goals as goal
 
 small : (n : ℕ) → n < 2 ^ 64 → capped (n + 0) ≡ n
 small n l = grind arith

@@ -1,0 +1,4 @@
+pub mod Alone
+pub mod Counts
+pub mod Looks
+pub mod Runs
