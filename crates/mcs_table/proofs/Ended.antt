@@ -17,11 +17,6 @@ use Rattle.mcs_table.specs.declared.account.Account.{Account}
 use Rattle.mcs_table.specs.Rounds.{jobs_of, responses_of, greatest, missed_in, is_late, late_in}
 use Rattle.mcs_table.specs.Table.{account_with, account_of, accounts_of}
 
--- ---- what is counted of one round more
-pub greatest-first : (x : ℕ) (responses : List ℕ) → greatest responses ≡ None → Some x ≡ greatest (x ∷ responses)
-greatest-first x [] e = refl
-greatest-first x (y ∷ ys) e = absurd (cc)
-
 pub greatest-more : (v x : ℕ) (responses : List ℕ) → greatest responses ≡ Some v → Some (max v x) ≡ greatest (x ∷ responses)
 greatest-more v x [] e = absurd (cc)
 greatest-more v x (y ∷ ys) e =

@@ -28,7 +28,7 @@ pub fn append_number(text: &mut Vec<u8>, number: u64) -> Result<(), NoMemory>
 
 /// Appends a word and a number, each after a space. On `NoMemory` a first part of them may have
 /// been appended.
-pub fn append_counted(text: &mut Vec<u8>, word: &str, number: u64) -> Result<(), NoMemory>
+pub(crate) fn append_counted(text: &mut Vec<u8>, word: &str, number: u64) -> Result<(), NoMemory>
     ensures ok { OnOk result (text.new.items ≡ text.old.items ++ after (word.now ∷ decimal number ∷ [])) }
     ensures kept { StartsWith text.new.items text.old.items }
 {

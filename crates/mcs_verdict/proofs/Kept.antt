@@ -1,5 +1,5 @@
 -- The findings by what is kept are those by the rows.
-use Rattle.std.proofs.Common.{◌≡◌, ℕ, ◌+◌, ◌≤◌, ◌<◌, ◌^◌, max, List, [], ◌∷◌, get_or, length, Option, Some, None, refl, sym, ap, ◌∙◌, arith}
+use Rattle.std.proofs.Common.{◌≡◌, ℕ, ◌+◌, ◌-◌, ◌≤◌, ◌<◌, ◌^◌, max, false, List, [], ◌∷◌, get_or, length, Option, Some, None, refl, sym, ap, ◌∙◌, arith}
 use Rattle.std.proofs.lemmas.Bool.{lt-ltb, le-ltb}
 use Rattle.std.proofs.lemmas.Bool.Decides.{nat_tests}
 use Rattle.std.proofs.lemmas.List.{get_or_past}
@@ -17,10 +17,10 @@ use Rattle.mcs_verdict.specs.Calls.{first_wait}
 use Rattle.mcs_verdict.specs.Parts.{free_of, parts_in}
 use Rattle.mcs_verdict.specs.Words.{firsts_of}
 use Rattle.mcs_verdict.specs.Rounds.{begun_of, called_of, activated_by, activated_in, activated_of}
-use Rattle.mcs_verdict.specs.Jobs.{job, job_known}
-use Rattle.mcs_verdict.specs.Misses.{miss, set_at, word_set, word_for, first_word, overdue, never, first_of, unended}
+use Rattle.mcs_verdict.specs.Jobs.{job, job_known, or_now}
+use Rattle.mcs_verdict.specs.Misses.{is_above, miss, missed, set_at, word_set, word_for, first_word, overdue, never, first_of, unended}
 use Rattle.mcs_verdict.specs.Findings.{UpTo}
-use Rattle.mcs_verdict.specs.Account.{all_kept, standing_of, since_of, stood_of, active_of, account_of, active_since, total_at, activated_if, activated_since, parts_since, job_by, overdue_by, never_by, unended_by}
+use Rattle.mcs_verdict.specs.Account.{all_kept, standing_of, since_of, stood_of, active_of, account_of, active_since, total_at, activated_if, activated_since, parts_since, job_by, miss_by, overdue_by, never_by, unended_by}
 use Rattle.mcs_verdict.specs.Watch.{accounts_of}
 use Rattle.mcs_verdict.proofs.Orders.{since-up_to}
 use Rattle.mcs_verdict.proofs.Accounts.{Keeps, since-kept, active-kept, total-kept, active_earlier}
@@ -189,6 +189,20 @@ pub unended_unknown : (system : System) (past : List Row) (accounts : List Accou
 unended_unknown system past accounts horizon thread e has =
     let none : (thread_part system thread).deadline ≡ 0 = rw (get_or_past system.threads thread no_thread (omega (arith, known system past accounts e))) refl in
     grind (arith, nat_tests, none)
+
+-- a round that is not late is no miss
+pub miss_in_time : (system : System) (past : List Row) (accounts : List Account) (moment place thread number : ℕ) (d : Account)
+    → place ≡ thread → accounts ≡ accounts_of (firsts_of system) 0 system.threads past → UpTo moment past → place < length accounts → d ≡ get_or accounts place d
+    → is_above d.deadline (moment - or_now moment (activated_since moment d)) ≡ false → miss system past moment thread number ≡ None
+miss_in_time system past accounts moment place thread number d same e up has lies early =
+    let at : d ≡ account_at system thread past =
+    lies ∙ ap (λ (accounts : List Account). get_or accounts place d) e
+    ∙ account_kept (firsts_of system) place system.threads past d (omega (arith, known system past accounts e))
+    ∙ ap (λ thread. account_at system thread past) same
+    in
+    let none : miss_by moment thread number d ≡ None = rw early refl in
+    sym (ap (missed (thread_part system thread).deadline) (job-kept system thread past moment number up))
+    ∙ sym (ap (miss_by moment thread number) at) ∙ none
 
 -- when the word was set for which the thread of this account waits first
 pub word_told : (system : System) (past : List Row) (accounts : List Account) (place thread : ℕ) (d : Account) (held : Held) (told : Option ℕ)

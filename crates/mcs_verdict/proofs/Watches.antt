@@ -138,12 +138,3 @@ pub watch_opened : (system parts : System) (accounts : List Account) (words : Li
     → record { accounts = accounts; words = words } ≡ watch_of system []
 watch_opened system parts accounts words same a w =
     cc (accounts_opened (firsts_of system) 0 parts.threads, words_opened 0 (firsts_of parts))
-
--- what is kept after a row that is about no word
-pub watch_told : (system : System) (r : Row) (past : List Row) (accounts : List Account) (words : List Held)
-    → ((n w : ℕ) → r.what ≡ row.Hold n w → ⊥) → ((t n w : ℕ) → r.what ≡ row.Got t n w → ⊥)
-    → ((t n w : ℕ) (until : Option ℕ) → r.what ≡ row.Wake t n w until → ⊥)
-    → accounts ≡ accounts_of (firsts_of system) 0 system.threads (r ∷ past) → words ≡ words_of 0 (firsts_of system) past
-    → record { accounts = accounts; words = words } ≡ watch_of system (r ∷ past)
-watch_told system r past accounts words hold got wake a w =
-    cc (words_unsaid 0 (firsts_of system) r past (λ k before h. says_none r.what hold got wake r.moment k before))

@@ -1,7 +1,7 @@
 //! The account of a thread: a few numbers, updated row by row.
-ghost use Rattle.std.specs.Prelude.{◌≡◌, ℕ, ◌+◌, ◌≤◌, ◌<◌, ◌^◌, ◌&&◌, [], Some, max};
+ghost use Rattle.std.specs.Prelude.{◌≡◌, ℕ, ◌+◌, ◌≤◌, ◌<◌, ◌^◌, ◌&&◌, [], Some, None, true, max};
 ghost use Rattle.std.specs.Option.{is_none};
-ghost use Rattle.mcs_verdict.specs.Account.{all_kept, account_of, counting, stood_from, stood_since, total_at, active_since, or_first, ends, preempted, activated_since};
+ghost use Rattle.mcs_verdict.specs.Account.{all_kept, account_of, counting, counting_at, stood_from, stood_since, total_at, active_since, or_first, ends, preempted, activated_since};
 ghost use Rattle.mcs_verdict.specs.declared.tracked.Counts.TheVariants.{Nothing};
 ghost use Rattle.mcs_verdict.specs.Counts.{begins_at, counts_after, counted_on, stands_from, woken_at, Fits};
 ghost use Rattle.mcs_verdict.specs.Stood.{no_ticks};
@@ -252,6 +252,38 @@ impl Account {
         self.standing = standing;
         self.since = moment;
         counts
+    }
+
+    /// Whether the thread, whose rounds need no word, was neither ready nor running up to `moment`
+    /// in the round under way, if no row changed how it stands after `since`.
+    #[inline(always)]
+    pub(crate) fn is_idle(&self, moment: Tick) -> bool
+        ensures active { result ≡ true → active_since self.now.begun moment self.now.standing self.now ≡ self.now.active }
+        ensures counting { (set : ℕ) → result ≡ true → counting_at set moment self.now ≡ None }
+    {
+        if self.waits.is_some() || self.active.is_some() {
+            return false;
+        }
+        if !is_active(self.standing) {
+            return true;
+        }
+        match self.begun {
+            Some(begun) => moment.get() <= begun.get(),
+            None => true,
+        }
+    }
+
+    /// `tell` of a thread that is idle up to `moment`: no tick counts in its round.
+    #[inline(always)]
+    pub(crate) fn tell_idle(&mut self, moment: Tick, standing: Standing)
+        requires { self.old.since ≤ moment }
+        ensures told { all_kept self.old + moment < 2 ^ 64 → self.new ≡ record self.old { standing = standing; since = moment; total = total_at moment self.old.standing self.old } }
+        ensures rest { self.new ≡ record self.old { standing = standing; since = moment; total = self.new.total } }
+    {
+        let ticks = moment.get() - self.since.get();
+        self.total.count(self.standing, ticks);
+        self.standing = standing;
+        self.since = moment;
     }
 
     /// `tell` in a round that counts each tick.

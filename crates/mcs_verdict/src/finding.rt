@@ -27,9 +27,9 @@ pub enum Finding {
         queued: u64,
         stood: Stood,
     },
-    /// A word that was set `age` ticks before the horizon, a deadline or more, and that nobody has
-    /// taken. Whoever takes it begins a round with it and misses its deadline; `deadline` is the
-    /// greatest of them.
+    /// A word that was set `age` ticks before the horizon and that no thread has taken. Each thread
+    /// that may take it would begin a round with it and miss its deadline. `deadline` is the
+    /// greatest of these deadlines, at most `age`.
     Untaken {
         note: NoteId,
         word: u32,

@@ -13,8 +13,8 @@ pub(crate) struct Held {
     /// A word leaves something to do if it has one of these bits, to a thread that waits here
     /// first; `None` if every word does.
     pub bits: Option<u32>,
-    /// The greatest deadline of the threads that may take the word, if whoever takes it begins a
-    /// round that has a deadline.
+    /// The greatest deadline of the threads that may take the word, if each of them would begin a
+    /// round with it that has a deadline.
     pub due: Option<u64>,
     /// The bits of all words that the notification gave to threads.
     pub given: u32,

@@ -1,6 +1,7 @@
 //! The findings of a thread by its account: when a round ends, and at the horizon.
-ghost use Rattle.std.specs.Prelude.{◌≡◌, ◌+◌, ◌<◌, ◌^◌};
-ghost use Rattle.mcs_verdict.specs.Account.{all_kept, parts_since, job_by, miss_by, overdue_from, overdue_by, never_by, unended_by};
+ghost use Rattle.std.specs.Prelude.{◌≡◌, ◌+◌, ◌-◌, ◌<◌, ◌^◌};
+ghost use Rattle.mcs_verdict.specs.Account.{activated_since, all_kept, parts_since, job_by, miss_by, overdue_from, overdue_by, never_by, unended_by};
+ghost use Rattle.mcs_verdict.specs.Jobs.{or_now};
 ghost use Rattle.mcs_verdict.specs.Misses.{is_above, missed, is_reached, set_at, was_activated};
 
 use crate::account::{Account, is_active, later};
@@ -96,17 +97,23 @@ impl Account {
         }
     }
 
+    /// Whether the round that ends at `moment` missed its deadline.
+    #[inline(always)]
+    pub(crate) fn is_late(&self, moment: Tick) -> bool
+        ensures { result ≡ is_above self.now.deadline (moment - or_now moment (activated_since moment self.now)) }
+    {
+        if self.deadline == 0 {
+            return false;
+        }
+        let activated = self.activated_since(moment).unwrap_or(moment);
+        self.deadline < moment.get().saturating_sub(activated.get())
+    }
+
     /// Returns the deadline miss of the round that ends at `moment`, if it missed its deadline.
     pub(crate) fn miss(&self, moment: Tick, thread: ThreadId, number: u64) -> Option<Finding>
         ensures { all_kept self.now + moment < 2 ^ 64 → result ≡ miss_by moment thread number self.now }
     {
-        let activated = self.activated_since(moment).unwrap_or(moment);
-        // The parts of a round that met its deadline are not counted.
-        if is_above(self.deadline, moment.get().saturating_sub(activated.get())) {
-            missed(self.deadline, &self.job(moment, thread, number))
-        } else {
-            None
-        }
+        missed(self.deadline, &self.job(moment, thread, number))
     }
 
     /// The round under way, which was activated at `activated`, if it is overdue at the horizon.

@@ -47,7 +47,7 @@ impl Model for Tracked {
 }
 
 impl Tracked {
-    /// An account of which nothing is known yet.
+    /// Tracks an account. It does not know yet what the next rows count.
     pub(crate) fn of(account: Account) -> Self
         ensures { result ≡ account }
     {
@@ -79,13 +79,19 @@ impl Tracked {
             self.new ≡ stands_from (word_for firsts self.old.waits past).since moment standing self.old }
     {
         let account = &mut self.account;
-        if self.counts == Counts::Nothing && moment.get() <= account.since.get() {
-            account.standing = standing;
-            account.since = moment;
-        } else {
-            let set = set_for(words, account.waits);
-            self.counts = account.tell(set, moment, standing);
+        if self.counts == Counts::Nothing {
+            if moment.get() <= account.since.get() {
+                account.standing = standing;
+                account.since = moment;
+                return;
+            }
+            if account.is_idle(moment) {
+                account.tell_idle(moment, standing);
+                return;
+            }
         }
+        let set = set_for(words, account.waits);
+        self.counts = account.tell(set, moment, standing);
     }
 
     /// Takes a row after which the thread stands as `standing` says.

@@ -1,4 +1,4 @@
-ghost use Rattle.std.specs.Prelude.{◌≡◌, ◌+◌, ◌<◌, ◌^◌, List, [], ◌∷◌, length, map, IfOk};
+ghost use Rattle.std.specs.Prelude.{◌≡◌, ◌+◌, ◌<◌, ◌^◌, ℕ, List, [], ◌∷◌, length, map, None, true, false, IfOk};
 ghost use Rattle.mcs_ticks.specs.declared.row.Row.{Row as TheRow};
 ghost use Rattle.mcs_system.specs.System.{System as TheSystem};
 ghost use Rattle.mcs_system.specs.declared.part.ThreadPart.{ThreadPart as TheThread};
@@ -176,6 +176,19 @@ fn miss(accounts: &[Tracked], moment: Tick, thread: ThreadId, number: u64) -> Op
     }
 }
 
+/// Whether the round that ends now missed its deadline.
+#[inline(always)]
+fn is_late(accounts: &[Tracked], moment: Tick, thread: ThreadId) -> bool
+    ensures { (system : TheSystem) (past : List TheRow) (number : ℕ) → accounts.now ≡ accounts_of (firsts_of system) 0 system.threads past →
+        UpTo moment past → result ≡ false → miss system past moment thread number ≡ None }
+{
+    if thread.0 < accounts.len() {
+        accounts[thread.0].account().is_late(moment)
+    } else {
+        false
+    }
+}
+
 fn job(accounts: &[Tracked], moment: Tick, thread: ThreadId, number: u64) -> Option<Job>
     ensures { (system : TheSystem) (past : List TheRow) → accounts.now ≡ accounts_of (firsts_of system) 0 system.threads past →
         UpTo moment past → result ≡ job_known system past moment thread number }
@@ -276,6 +289,17 @@ impl Watch {
         }
     }
 
+    /// Takes the next row, in the order of their times, without its finding. Takes constant time
+    /// and no memory.
+    #[inline(always)]
+    pub fn take(&mut self, row: &Row)
+        ensures { (system : TheSystem) (past : List TheRow) → self.old ≡ watch_of system past → UpTo row.now.moment past →
+            self.new ≡ watch_of system (row.now ∷ past) }
+    {
+        tell_accounts(self.accounts.as_mut_slice(), self.words.as_slice(), row);
+        tell_words(self.words.as_mut_slice(), row);
+    }
+
     /// `see` for any row. It is kept out of line, since most rows have no finding and need no room
     /// for one.
     #[inline(never)]
@@ -286,9 +310,23 @@ impl Watch {
             result ≡ finding system past row.now.moment row.now.what }
     {
         let found = self.find(row);
-        tell_accounts(self.accounts.as_mut_slice(), self.words.as_slice(), row);
-        tell_words(self.words.as_mut_slice(), row);
+        self.take(row);
         found
+    }
+
+    /// Whether it is known at once that the row has no finding and is no coalesced signal. Most
+    /// rows are quiet, and so is a round in time. Call it before `see` or `take`.
+    #[inline(always)]
+    pub fn is_quiet(&self, row: &Row) -> bool
+        ensures found { (system : TheSystem) (past : List TheRow) → self.now ≡ watch_of system past → UpTo row.now.moment past →
+            result ≡ true → finding system past row.now.moment row.now.what ≡ None }
+        ensures merged { (system : TheSystem) (past : List TheRow) → result ≡ true → merges system past row.now.what ≡ false }
+    {
+        match row.what {
+            What::Round { thread, .. } => !is_late(self.accounts.as_slice(), row.moment, thread),
+            What::Hold { .. } | What::Got { .. } => false,
+            _ => true,
+        }
     }
 
     /// Takes the next row, in the order of their times, and returns its finding. Takes constant
@@ -300,15 +338,10 @@ impl Watch {
         ensures found { (system : TheSystem) (past : List TheRow) → self.old ≡ watch_of system past → UpTo row.now.moment past →
             result ≡ finding system past row.now.moment row.now.what }
     {
-        // Other rows have no finding, and of them only a wake changes a word.
-        if let What::Round { .. } | What::Hold { .. } | What::Got { .. } = row.what {
+        if !self.is_quiet(row) {
             return self.see_any(row);
         }
-        tell_accounts(self.accounts.as_mut_slice(), self.words.as_slice(), row);
-        let What::Wake { .. } = row.what else {
-            return None;
-        };
-        tell_words(self.words.as_mut_slice(), row);
+        self.take(row);
         None
     }
 

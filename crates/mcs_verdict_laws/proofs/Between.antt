@@ -57,19 +57,6 @@ pub second-none : (a b : Option Finding) → first_of a b ≡ None → b ≡ Non
 second-none None b e = e
 second-none (Some found) b e = absurd (cc)
 
--- a thread without a deadline
-pub no-deadline : (system : System) (past : List Row) (h x : ℕ) → (thread_part system x).deadline ≡ 0 → unended system past h x ≡ None
-no-deadline system past h x e =
-    ap (λ found. first_of found (never system past h x)) (by (activated_of system x past h))
-    ∙ ap (λ deadline. never_at x deadline
-    (was_activated (first_wait (thread_part system x)) (bits_of (thread_part system x)) (first_word system x past) (standing_at h (telling x past))
-    (stood_in x past 0 h))) e
-  where
-    by : (o : Option ℕ) → overdue_since system past h x o ≡ None
-    by None = refl
-    by (Some a) =
-        ap (λ deadline. overdue_at h x (one_more (rounds_of x past)) deadline (free_of system x past) a (parts_in x past (free_of system x past) a h)) e
-
 -- a round of a thread that misses its deadline is found on its core
 pub miss-home : (system : System) (x m home core : ℕ) (past : List Row) (what : What) → (ends_round x what ≡ true → core ≡ home)
     → (f : Finding) → finding system past m what ≡ Some f → is_miss_of x f ≡ true → core ≡ home
