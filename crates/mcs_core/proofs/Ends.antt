@@ -57,12 +57,6 @@ kept-context zero context (x ∷ xs) own = refl
 kept-context (suc k) context (x ∷ xs) own = kept-context k context xs own
 
 module _ (system : System) where
-  -- before the first end the running thread continues
-  pub goes-before : (clock n moment : ℕ) (core : Core) (ends : Option ℕ) → IsEnd system clock core ends → moment ≡ clock + n → moment ≤ 2 ^ 42 → (HasCome moment ends → ⊥) →
-      GoesOnAfter system n core.running core
-  goes-before clock n moment core ends h e l f =
-      (holds-before clock n moment (λ n. GoesOnAfter system n core.running core × IsBest core core.running (first_of core.ready)) ends h e l f).0
-
   -- no thread runs and no thread is ready
   pub never-ends : (from : ℕ) (core : Core) → core.running ≡ None → first_of core.ready ≡ None → IsEnd system from core None
   never-ends from core e f = rw (e, f) (λ n l. (tt, tt))

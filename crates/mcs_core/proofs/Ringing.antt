@@ -249,16 +249,6 @@ pub no-place : (t : ℕ) (alarms : List Alarm) → AreSilent t alarms (length al
 no-place t [] h = refl
 no-place t (x ∷ xs) h = let silent : rings t x ≡ false = h 0 (omega arith) in rw silent (no-place t xs (λ n m. h (suc n) (omega arith)))
 
--- how alarms are made, beat by beat, and the soonest date, alarm by alarm from the last
-pub next-beat : (system : System) (c i : ℕ) (x : Beat) → i < length system.beats → x ≡ get_or system.beats i x →
-    map (alarm_of system) (filter (is_at_home system c) (take (i + 1) system.beats))
-    ≡ map (alarm_of system) (filter (is_at_home system c) (take i system.beats)) ++ map (alarm_of system) (cond (is_at_home system c (get_or system.beats i x)) (get_or system.beats i x ∷ []) [])
-next-beat system c i x l e = ap (map (alarm_of system)) (filter_more (is_at_home system c) system.beats i x l) ∙ map-append (alarm_of system) (filter (is_at_home system c) (take i system.beats)) _
-  where
-    map-append : (f : Beat → Alarm) (xs ys : List Beat) → map f (xs ++ ys) ≡ map f xs ++ map f ys
-    map-append f [] ys = refl
-    map-append f (z ∷ xs) ys = ap (λ (zs : List Alarm). f z ∷ zs) (map-append f xs ys)
-
 -- no alarm has too long a period
 pub alarms-short : (system : System) (c : ℕ) → IsWellFormed system → AreShort (alarms_of system c)
 alarms-short system c w = first system.beats w.sources.beats
@@ -270,16 +260,6 @@ alarms-short system c w = first system.beats w.sources.beats
         let b : IsBeat system beat = h 0 beat (omega arith) in
         either (λ (xs : List Beat). AreShort (map (alarm_of system) xs)) (is_at_home system c beat) (beat ∷ filter (is_at_home system c) beats) (filter (is_at_home system c) beats)
         (b.period.1, i) i
-
-pub short-at : (alarms : List Alarm) (k : ℕ) → AreShort alarms → k < length alarms → (alarm_at alarms k).period ≤ 2 ^ 40
-short-at [] k h l = absurd (omega arith)
-short-at (x ∷ xs) zero h l = h.0
-short-at (x ∷ xs) (suc k) h l = short-at xs k h.1 (omega arith)
-
-pub short-set : (alarms : List Alarm) (k : ℕ) (x : Alarm) → AreShort alarms → x.period ≤ 2 ^ 40 → AreShort (set alarms k x)
-short-set [] k x h l = tt
-short-set (y ∷ ys) zero x h l = (l, h.1)
-short-set (y ∷ ys) (suc k) x h l = (h.0, short-set ys k x h.1 l)
 
 -- if the soonest date has not come no alarm rings
 first-none : (t : ℕ) (alarms : List Alarm) → ringing t alarms ≡ [] → first_ringing t alarms ≡ None

@@ -74,9 +74,6 @@ module _ (system : System) where
   pub sent-turn : (state : State) (box : List Mail) → (made_by system state (state.clock + 1) box).mails ≡ (turn system state.number state.clock (arriving state.clock box) state.core).mails
   sent-turn state box = ap (λ (made : Ran). made.mails) (one-turn state box) ∙ append-nil _
 
-  pub left-turn : (state : State) (box : List Mail) → (made_by system state (state.clock + 1) box).box ≡ staying state.clock box
-  left-turn state box = ap (λ (made : Ran). made.box) (one-turn state box)
-
   -- turns from the state after some of them go on from there
   pub made-through : (u to : ℕ) (state mid : State) (box left : List Mail) → state.clock ≤ u → u ≤ to →
       mid ≡ state_after state u (made_by system state u box) → left ≡ (made_by system state u box).box →

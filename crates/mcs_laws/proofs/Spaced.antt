@@ -70,18 +70,6 @@ are_steps least (Picked t ∷ changes) config modes.Bandwidth dates e s =
     record { proper = (tt, h.proper); same = h.same }
 are_steps least (Ordered order ∷ changes) config mode dates e s = absurd (no_order order (orders_of changes) e)
 
--- no order for the context
-pub no_orders_at : (x : ℕ) (p : Order → Bool) (orders : List Order) → AllByRecursion (λ (order : Order). order.context ≢ x) orders → filter (told.is_order_for x) (filter p orders) ≡ []
-no_orders_at x p [] h = refl
-no_orders_at x p (order ∷ orders) h = by (p order) (no_orders_at x p orders h.1)
-  where
-    differs : (a b : ℕ) → a ≢ b → (a == b) ≡ false
-    differs a b e = grind (arith, nat_tests)
-
-    by : (b : Bool) → filter (told.is_order_for x) (filter p orders) ≡ [] → filter (told.is_order_for x) (cond b (order ∷ filter p orders) (filter p orders)) ≡ []
-    by true i = rw (differs order.context x h.0) i
-    by false i = i
-
 -- the changes of all turns before a moment, one after another
 module _ (system : System) (x : ℕ) (history : told.History system x) where
   abbrev changes : ℕ → List Change
@@ -90,63 +78,12 @@ module _ (system : System) (x : ℕ) (history : told.History system x) where
   pub changes-next : (t : ℕ) → changes (suc t) ≡ changes t ++ history.changes t
   changes-next t = flat_map-moments-more history.changes t
 
-  pub all-after : (t : ℕ) → told.context_before system x t ≡ changed_by system.min_budget (changes t) (told.opening_context system x)
-  all-after zero = history.opening
-  all-after (suc t) =
-      history.after t ∙ ap (changed_by system.min_budget (history.changes t)) (all-after t)
-      ∙ sym (changed_by-append system.min_budget (changes t) (history.changes t) (told.opening_context system x))
-      ∙ ap (λ cs. changed_by system.min_budget cs (told.opening_context system x)) (sym (changes-next t))
-
-  pub all-sound : (t : ℕ) → AreSound system.min_budget (changes t) (told.opening_context system x)
-  all-sound zero = tt
-  all-sound (suc t) =
-      rw (changes-next t)
-      (sound-append system.min_budget (changes t) (history.changes t) (told.opening_context system x) (all-sound t)
-      (carry (AreSound system.min_budget (history.changes t)) (told.context_before system x t) (changed_by system.min_budget (changes t) (told.opening_context system x)) (all-after t) (history.sound t)))
-
   all-orders : ((t : ℕ) → told.orders_at system x t ≡ []) → (t : ℕ) → orders_of (changes t) ≡ []
   all-orders h zero = refl
   all-orders h (suc t) = ap orders_of (changes-next t) ∙ orders_of-append (changes t) (history.changes t) ∙ none _ _ (all-orders h t) (sym (history.orders t) ∙ h t)
     where
       none : (os us : List Order) → os ≡ [] → us ≡ [] → os ++ us ≡ []
       none os us e f = rw (e, f) refl
-
--- the dates that changes without an order take
-pub changes-spaced : (system : System) → IsWellFormed system → (x : ℕ) → x < length system.contexts → kind_of (context_part system x).config ≡ Sporadic → (changes : List Change) →
-    orders_of changes ≡ [] → AreSound system.min_budget changes (told.opening_context system x) →
-    IsSpaced (context_part system x).config.budget (context_part system x).config.period (taken_by system.min_budget changes (told.opening_context system x))
-changes-spaced system well x known kind changes none sound = rw opening (rw steps.same spaced)
-  where
-    config : Config
-    config = (context_part system x).config
-
-    mode : Mode
-    mode = (context_part system x).mode
-
-    at : ℕ
-    at = start_of system.threads x
-
-    opening : told.opening_context system x ≡ record { config = config; mode = mode; budget = Dates (dates_from at config.budget) }
-    opening = rw kind refl
-
-    fits : config.budget ≤ config.period
-    fits = ((gives-budgets system well).contexts x no_context known).fits
-
-    steps : AreSteps system.min_budget changes config mode (dates_from at config.budget)
-    steps = are_steps system.min_budget changes config mode (dates_from at config.budget) none
-        (carry (AreSound system.min_budget changes) (told.opening_context system x) (record { config = config; mode = mode; budget = Dates (dates_from at config.budget) }) opening sound)
-
-    spaced : IsSpaced config.budget config.period (consumed config.period (max_refills_of config) (steps_of system.min_budget mode changes) (dates_from at config.budget))
-    spaced =
-        consumed-spaced config.budget config.period (max_refills_of config) (steps_of system.min_budget mode changes) (dates_from at config.budget)
-        (kept-new config.budget config.period at fits) steps.proper
-
--- no order comes if the system has none for the context
-pub no-orders : (system : System) (x : ℕ) (history : told.History system x) → told.IsNeverReconfigured system x → (t : ℕ) →
-    orders_of (told.changes_before system x history t) ≡ []
-no-orders system x history unordered t =
-    all-orders system x history
-    (λ m. no_orders_at x (is_for_now system (told.home_of system x) m) system.orders (by_recursion (λ (order : Order). order.context ≢ x) system.orders unordered)) t
 
 -- the dates that changes without an order take from any sporadic context in good order
 pub stretch-spaced : (least : ℕ) (changes : List Change) (k : Context) → IsContext k → kind_of k.config ≡ Sporadic → orders_of changes ≡ [] → AreSound least changes k →

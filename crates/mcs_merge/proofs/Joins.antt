@@ -43,9 +43,6 @@ push-assoc : (rows : List Row) (x : Row) (xs : List Row) → (rows ++ x ∷ []) 
 push-assoc rows x xs = append_assoc rows (x ∷ []) xs
 
 module _ (first second : List Row) where
-  pub begins : DoNotFall first → DoNotFall second → AreJoining first second first second []
-  begins h k = record { at_each = λ t. refl; with_left = h; with_right = k }
-
   pub takes_left : (x y : Row) (left right rows : List Row) → x.moment ≤ y.moment → AreJoining first second (x ∷ left) (y ∷ right) rows → AreJoining first second left (y ∷ right) (rows ++ x ∷ [])
   takes_left x y left right rows l h =
       record {
@@ -84,17 +81,6 @@ module _ (first second : List Row) where
               let f : y.moment ≡ t = grind (arith, nat_tests) in
               rw (k f) (push-assoc (rows_at t rows) y (rows_at t right))
           by xs false e k = ap (λ us. us ++ (xs ++ rows_at t right)) (append-nil (rows_at t rows))
-
-  -- if one list is used up, the other one follows
-  pub ends_left : (right rows : List Row) → AreJoining first second [] right rows → AreJoined first second (rows ++ right)
-  ends_left right rows h = record { in_order = h.with_right; at_each = λ t. filter-append (λ row. row.moment == t) rows right ∙ h.at_each t }
-
-  pub ends_right : (left rows : List Row) → AreJoining first second left [] rows → AreJoined first second (rows ++ left)
-  ends_right left rows h =
-      record {
-        in_order = h.with_left;
-        at_each = λ t. filter-append (λ row. row.moment == t) rows left ∙ ap (λ xs. rows_at t rows ++ xs) (sym (append-nil (rows_at t left))) ∙ h.at_each t;
-      }
 
   -- the same, of lists with these heads
   pub steps_left : (x y : Row) (left right after_x after_y rows more : List Row) → left ≡ x ∷ after_x → right ≡ y ∷ after_y → more ≡ rows ++ x ∷ [] → x.moment ≤ y.moment →

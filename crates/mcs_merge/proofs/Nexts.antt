@@ -83,11 +83,6 @@ module _ {P : Type 0} (first : P → Option ℕ) (cores : List (List P)) (heads 
           lower = λ d l. earlier k d found.0 (first_of first (parts_of d cores)) l few (by d (omega arith));
         })
 
-    pub none-before : (until : ℕ) → nat_lt head.rank (64 * until) ≡ false → NoneBefore first cores until
-    none-before until e d l =
-        let total = h.few in
-        not-before d until head.rank (first_of first (parts_of d cores)) (omega arith) (grind (arith, nat_tests)) (least-of d l)
-
   -- other parts of a core, and their head
   pub AreNext-set : (core : ℕ) (parts : List P) (head : Head) → core < length cores → IsInLine first parts → head ≡ head_of_next core (first_of first parts) →
       AreNext first (set cores core parts) (set heads core head)

@@ -77,13 +77,6 @@ AreHeld-set {O} {P} {holds} out cores lists core parts rows h l k =
 module _ {O : Type 0} {P : Type 0} (takes : O → Row → Bool → O → Type 0) (holds : O → P → List Row → Type 0) (first : P → Option ℕ)
     (is_first : (out : O) (part : P) (rows : List Row) → holds out part rows → first part ≡ first_moment rows)
     (holds_on : (before after : O) (part : P) (rows : List Row) (row : Row) → holds before part rows → takes before row true after → holds after part rows) where
-  pub pouring-begins : (until : ℕ) (out : O) (cores : List (List P)) → ArePouring takes holds until out out cores cores
-  pouring-begins until out cores =
-      record {
-        long = refl;
-        pouring = λ lists o h. record { left = lists; in_order = o; held = h; from = refl; goes_on = λ after g. g; stops = λ after g. g };
-      }
-
   -- more was given, and more stops
   pub pouring-on : (until : ℕ) (a b c : O) (xs ys zs : List (List P)) → ArePouring takes holds until a b xs ys → ArePouring takes holds until b c ys zs → ArePouring takes holds until a c xs zs
   pouring-on until a b c xs ys zs p q =

@@ -21,27 +21,6 @@ module _ {O : Type 0} (takes : O → Row → Bool → O → Type 0) where
   giving-begins t rows out e =
       record { fewer = inl refl; in_order = λ o. (o, from-first t rows o e); later = refl; goes_on = λ after g. g; stops = λ after g. g }
 
-  pub giving-goes-on : (t : ℕ) (all rows rest : List Row) (row : Row) (before out after : O) → AreGiving t all rows before out → row.moment ≡ t → rows ≡ row ∷ rest → takes out row true after →
-      AreGiving t all rest before after
-  giving-goes-on t all rows rest row before out after h is e g =
-      let at : rows_at t rows ≡ row ∷ rows_at t rest = ap (rows_at t) e ∙ head_same t row rest is in
-      let shorter : length rows ≡ suc (length rest) = ap (λ (xs : List Row). length xs) e in
-      record {
-        fewer = inr (elim h.fewer [ inl i ↦ (let long : length rows ≡ length all = ap (λ (xs : List Row). length xs) i in omega arith) | inr l ↦ omega arith ]);
-        in_order = λ o.
-            let k = h.in_order o in
-            ((subst DoNotFall e k.0).1, (subst (AreFrom t) e k.1).1);
-        later = sym (ap (rows_from (suc t)) e ∙ from-none (suc t) row rest (omega arith)) ∙ h.later;
-        goes_on = λ t' k. h.goes_on t' (subst (λ xs. Given takes out xs t') (sym at) (after, g, k));
-        stops = λ t' k. h.stops t' (subst (λ xs. GivenUntil takes out xs t') (sym at) (inr (after, g, k)));
-      }
-
-  pub giving-stops : (t : ℕ) (all rows rest : List Row) (row : Row) (before out after : O) → AreGiving t all rows before out → row.moment ≡ t → rows ≡ row ∷ rest → takes out row false after →
-      GivenUntil takes before (rows_at t all) after
-  giving-stops t all rows rest row before out after h is e g =
-      let at : rows_at t rows ≡ row ∷ rows_at t rest = ap (rows_at t) e ∙ head_same t row rest is in
-      h.stops after (subst (λ xs. GivenUntil takes out xs after) (sym at) (inl g))
-
   -- no row of the moment is left
   past : (t : ℕ) (rows : List Row) → DoNotFall rows → AreFrom t rows → first_moment rows ≢ Some t → AreFrom (suc t) rows
   past t [] o h n = tt

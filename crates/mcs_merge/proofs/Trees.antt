@@ -111,9 +111,6 @@ IsPlaying-up inner place core head old nodes q best h l e b =
       leaves = drop-set-lt inner nodes q best (let within = h.within in omega arith) ∙ h.leaves;
     }
 
-pub IsPlaying-ends : (inner place core : ℕ) (head : Head) (old nodes : List Head) → IsPlaying inner place core head old nodes → place ≤ 0 → IsTree inner nodes
-IsPlaying-ends inner place core head old nodes h l = record { wide = h.wide; least = λ i p. h.others i p (λ m. absurd (omega arith)) }
-
 module _ (inner : ℕ) (nodes : List Head) (h : IsTree inner nodes) where
   -- the root comes no later than any place ..
   root-first : (fuel j : ℕ) → j ≤ fuel → j ≤ 4 * inner → (head_at 0 nodes).rank ≤ (head_at j nodes).rank

@@ -73,14 +73,14 @@ impl Line {
     }
 
     /// Replaces the first refill.
-    pub fn set_first(&mut self, refill: Refill)
+    pub(crate) fn set_first(&mut self, refill: Refill)
         ensures { self.new ≡ buffer (refill ∷ drop 1 self.old.items) self.old.capacity }
     {
         self.head = refill;
     }
 
     /// Replaces the last refill.
-    pub fn set_last(&mut self, refill: Refill)
+    pub(crate) fn set_last(&mut self, refill: Refill)
         ensures { self.new ≡ buffer (take (length self.old.items - 1) self.old.items ++ refill ∷ []) self.old.capacity }
     {
         if self.others.is_empty() {
@@ -91,7 +91,7 @@ impl Line {
     }
 
     /// Removes the first refill; the caller ensures that there is another.
-    pub fn drop_first(&mut self)
+    pub(crate) fn drop_first(&mut self)
         requires { 2 ≤ length self.old.items }
         ensures { self.new ≡ buffer (drop 1 self.old.items) self.old.capacity }
     {
@@ -110,7 +110,7 @@ impl Line {
     }
 
     /// Replaces all refills by one.
-    pub fn set_only(&mut self, refill: Refill)
+    pub(crate) fn set_only(&mut self, refill: Refill)
         ensures { self.new ≡ buffer (refill ∷ []) self.old.capacity }
     {
         self.head = refill;

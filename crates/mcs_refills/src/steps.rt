@@ -28,7 +28,7 @@ pub fn take(refills: &mut Line, ticks: u64)
 
 /// Appends a returned refill. If it touches the last refill, the two join. If the list is full, the
 /// last refill first moves later to touch it.
-pub fn give_back(refills: &mut Line, back: Refill, max_refills: usize)
+pub(crate) fn give_back(refills: &mut Line, back: Refill, max_refills: usize)
     requires fits { max_refills ≤ refills.old.capacity }
     requires later { last_end refills.old.items ≤ back.begins }
     requires in_range { back.begins + back.amount < 2 ^ 63 }
@@ -53,7 +53,7 @@ pub fn give_back(refills: &mut Line, back: Refill, max_refills: usize)
 }
 
 /// Moves the head later to join the next refill, while the head has fewer than `min_budget` ticks.
-pub fn gather(refills: &mut Line, min_budget: u64)
+pub(crate) fn gather(refills: &mut Line, min_budget: u64)
     requires apart { AreApart refills.old.items }
     requires early { last_end refills.old.items < 2 ^ 63 }
     ensures { refills.new ≡ buffer (enough min_budget refills.old.items) refills.old.capacity }
@@ -78,7 +78,13 @@ pub fn gather(refills: &mut Line, min_budget: u64)
 /// Charges the first ticks of the head, as `Refills::charge` does. An only refill that is exhausted
 /// is overwritten.
 #[inline(always)]
-pub fn charge_list(refills: &mut Line, period: u64, max_refills: usize, ticks: u64, min_budget: u64)
+pub(crate) fn charge_list(
+    refills: &mut Line,
+    period: u64,
+    max_refills: usize,
+    ticks: u64,
+    min_budget: u64,
+)
     requires kept { IsKept refills.old.items period max_refills }
     requires fits { max_refills ≤ refills.old.capacity }
     requires some { 1 ≤ ticks }
@@ -120,7 +126,7 @@ fn charge_part(refills: &mut Line, period: u64, max_refills: usize, ticks: u64, 
 }
 
 /// Unblocks at `t`, as `Refills::unblock` does.
-pub fn unblock_list(refills: &mut Line, t: u64)
+pub(crate) fn unblock_list(refills: &mut Line, t: u64)
     requires apart { AreApart refills.old.items }
     requires early { last_end refills.old.items < 2 ^ 63 }
     requires now { t ≤ 2 ^ 40 }
@@ -142,7 +148,7 @@ pub fn unblock_list(refills: &mut Line, t: u64)
 }
 
 /// Applies an order at `t`, as `Refills::reorder` does.
-pub fn reconfigure_list(refills: &mut Line, t: u64, budget: u64, period: u64)
+pub(crate) fn reconfigure_list(refills: &mut Line, t: u64, budget: u64, period: u64)
     requires room { 2 ≤ refills.old.capacity }
     requires within { budget < period }
     requires early { first_moment refills.old.items + t + period < 2 ^ 63 }

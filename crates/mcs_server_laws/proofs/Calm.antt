@@ -154,9 +154,6 @@ pub record Calm (k after : Core) : Type 0 where
   pub still : Still k after
   pub fewer : (x : ℕ) → places x after ≤ places x k
 
-pub calm-then : (k j l : Core) → Calm k j → Calm j l → Calm k l
-calm-then k j l p q = record { still = still-then k j l p.still q.still; fewer = λ x. omega (arith, p.fewer x, q.fewer x) }
-
 pub calm-refl : (k : Core) → Calm k k
 calm-refl k = record { still = record { notes = refl; many = refl; spots = λ x. refl; line = λ l. l }; fewer = λ x. omega arith }
 

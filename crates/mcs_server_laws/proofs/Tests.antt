@@ -16,9 +16,6 @@ apart a b h = grind (arith, nat_tests)
 pub is_zero : (n : ℕ) → (n == 0) ≡ true → n ≡ 0
 is_zero n e = grind (arith, nat_tests)
 
-pub is_some : (n : ℕ) → (n == 0) ≡ false → 1 ≤ n
-is_some n e = grind (arith, nat_tests)
-
 pub left-true : (a b : Bool) → (a && b) ≡ true → a ≡ true
 left-true true b e = refl
 left-true false b e = absurd (cc)

@@ -33,11 +33,6 @@ module _ {S O : Type 0} (takes : O → Row → Bool → O → Type 0) (holds : S
       }
 
   module _ (system : System) (horizon : ℕ) (before : O) (steps : Steps) (told : S) (out : O) (is : IsGoing takes holds system horizon before steps told out) where
-    -- memory ran out: the output has some first rows
-    pub going-some : GivenSome takes before (schedule system horizon) out
-    going-some =
-        (rows_so_far steps, is.on_schedule.0, sym (is.on_schedule.1 ∙ ap (λ (s : System). schedule s steps.horizon) is.system_is ∙ ap (schedule system) is.horizon_is), is.given)
-
     pub going-over : IsOver steps → Given takes before (schedule system horizon) out
     going-over over =
         subst (λ xs. Given takes before xs out)

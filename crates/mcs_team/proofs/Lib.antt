@@ -8,7 +8,6 @@ mod Rounds
 mod Sinks
 mod Waiting
 mod Stopping
-mod Retelling
 mod Opened
 mod Gathering
 mod OneCore

@@ -27,19 +27,6 @@ none-more holds out [] part (suc n) h k = absurd h
 none-more holds out (first ∷ parts) part zero h k = absurd h
 none-more holds out (first ∷ parts) part (suc n) h k = let e : suc n + 1 ≡ suc (n + 1) = omega arith in rw e (h.0, none-more holds out parts part n h.1 k)
 
--- one collector more that holds nothing
-pub empty-more : {S : Type 0} (holds : S → List Row → Type 0) (many : ℕ) (told more : List S) (new : S) → AreEmpty holds many told → holds new [] → more ≡ told ++ new ∷ [] → AreEmpty holds (many + 1) more
-empty-more {S} holds many told more new h empty e =
-    record { many_are = ap length e ∙ length_push told new ∙ ap (λ n. n + 1) h.many_are; each = λ c x l. subst (λ xs. holds (get_or xs c x) []) (sym e) (by c x l (nat_lt c many) refl) }
-  where
-    by : (c : ℕ) (x : S) → c < many + 1 → (u : Bool) → nat_lt c many ≡ u → holds (get_or (told ++ new ∷ []) c x) []
-    by c x l true f =
-        let below : c < many = grind (arith, nat_tests) in
-        subst (λ y. holds y []) (sym (get_or_append_left told (new ∷ []) x c (let m = h.many_are in omega arith))) (h.each c x below)
-    by c x l false f =
-        let last : length told ≡ c = (let m = h.many_are in grind (arith, nat_tests)) in
-        subst (λ y. holds y []) (sym (get_or_push told new x c last)) empty
-
 -- nothing waits, and all before a moment was given
 pub waits-first : {O P : Type 0} (holds : O → P → List Row → Type 0) (system : System) (horizon t : ℕ) (pasts : List ℕ) (parts : List (List P)) (out : O) → pasts ≡ replicate system.cores t →
     t ≤ horizon + 1 → AreHeld holds out parts (replicate system.cores []) → Waits holds system horizon t pasts parts out

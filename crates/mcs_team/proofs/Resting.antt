@@ -30,17 +30,6 @@ module _ {S : Type 0} (holds : S → List Row → Type 0) (from : ℕ) (rows : L
       ap (rows_from from) (take_more rows i row l ∙ ap (λ x. take i rows ++ x ∷ []) (sym is))
       ∙ filter-append (λ row. nat_le from row.moment) (take i rows) (row ∷ [])
 
-  -- a row is recorded, ..
-  pub tells-more : (takes : S → Row → Bool → S → Type 0) → ((before after : S) (held : List Row) (row : Row) → holds before held → takes before row true after → holds after (held ++ row ∷ [])) →
-      (s u : S) → from ≤ row.moment → holds s (rows_from from (take i rows)) → takes s row true u → holds u (rows_from from (take (i + 1) rows))
-  tells-more takes more s u late held taken =
-      subst (holds u) (ap (λ xs. rows_from from (take i rows) ++ xs) (sym (from-kept from row late)) ∙ sym parts) (more s u (rows_from from (take i rows)) row held taken)
-
-  -- .. or is before the moment
-  pub tells-same : (s : S) → row.moment < from → holds s (rows_from from (take i rows)) → holds s (rows_from from (take (i + 1) rows))
-  tells-same s early held =
-      subst (holds s) (sym (parts ∙ ap (λ xs. rows_from from (take i rows) ++ xs) (from-none from row [] early) ∙ append-nil (rows_from from (take i rows)))) held
-
 -- of all rows of a core, those from a time on
 pub rest-of : (system : System) (c from past : ℕ) → from ≤ past → rows_from from (rows_between system c 0 past) ≡ rows_between system c from past
 rest-of system c from past l =
@@ -58,39 +47,6 @@ pub record AreAdded (start : Table) (first : List ℕ) (end many : ℕ) (desk : 
   pub long : length pasts ≡ length first
   pub done : (core : ℕ) → core < many → slice_index pasts core ≡ end
   pub left : (core : ℕ) → many ≤ core → slice_index pasts core ≡ slice_index first core
-
-pub adds-first : (start : Table) (first : List ℕ) (end : ℕ) → AreAdded start first end 0 start first
-adds-first start first end =
-    record {
-      system_is = refl;
-      horizon_is = refl;
-      clocks_are = refl;
-      taken_left = λ c l. refl;
-      long = refl;
-      done = λ c l. absurd (omega arith);
-      left = λ c l. refl;
-    }
-
-pub adds-more : (start : Table) (first : List ℕ) (end n : ℕ) (desk : Table) (pasts : List ℕ) → AreAdded start first end n desk pasts → n < length first →
-    (next : Table) (news : List ℕ) → next ≡ taken_at desk n → news ≡ slice_set pasts n end → AreAdded start first end (n + 1) next news
-adds-more start first end n desk pasts is l next news e f =
-    record {
-      system_is = ap (λ (t : Table). t.system) e ∙ is.system_is;
-      horizon_is = ap (λ (t : Table). t.horizon) e ∙ is.horizon_is;
-      clocks_are = ap (λ (t : Table). t.clocks) e ∙ is.clocks_are;
-      taken_left = λ c k. ap (λ (t : Table). taken_of t c) e ∙ get_or-set_other desk.taken n c (clock_of desk n) 0 (omega arith) ∙ is.taken_left c (omega arith);
-      long = ap length f ∙ length-set pasts n end ∙ is.long;
-      done = λ c k. by c k (c == n) refl;
-      left = λ c k. ap (λ xs. slice_index xs c) f ∙ get_or-set_other pasts n c end 0 (omega arith) ∙ is.left c (omega arith);
-    }
-  where
-    by : (c : ℕ) → c < n + 1 → (b : Bool) → (c == n) ≡ b → slice_index news c ≡ end
-    by c k true g =
-        let i : c ≡ n = grind (arith, nat_tests) in
-        rw i (ap (λ xs. slice_index xs n) f ∙ get_or-set_same pasts n end 0 (let o = is.long in omega arith))
-    by c k false g =
-        let i : c ≢ n = grind (arith, nat_tests) in
-        ap (λ xs. slice_index xs c) f ∙ get_or-set_other pasts n c end 0 i ∙ is.done c (omega arith)
 
 -- when the rest of each core was added, all of it was given
 pub rest-given : {O : Type 0} (takes : O → Row → Bool → O → Type 0) (system : System) (horizon from reached now end : ℕ) (pasts : List ℕ) (before out : O) → reached ≡ from → now ≡ fold min end pasts →

@@ -25,10 +25,6 @@ module _ {O : Type 0} (takes : O → Row → Bool → O → Type 0) (system : Sy
   stops-here takes_time t out stop l (inl e) = subst (IsStop takes system horizon t out out) (sym e) (stops-at takes system horizon takes_time t out l)
   stops-here takes_time t out stop l (inr e) = subst (IsStop takes system horizon t out out) (sym e) (l, given-none takes system t out)
 
-  -- from the first moment on
-  pub fails-whole : (before after : O) (why : FlowFault) → FailsFrom takes system horizon 0 before after why → IsFlowFault takes system horizon before after why
-  fails-whole before after why h = h before refl
-
 -- since a moment an output was given what the cores told before another, and the rest waits
 pub record IsGiving {O P : Type 0} (takes : O → Row → Bool → O → Type 0) (holds : O → P → List Row → Type 0) (system : System) (horizon first : ℕ) (before : O)
     (reached : ℕ) (pasts : List ℕ) (parts : List (List P)) (out : O) : Type 0 where
