@@ -6,6 +6,7 @@ Links to other sites are not followed. The pages are all files NAME.md, those of
 from __future__ import annotations
 
 import functools
+import os
 import pathlib
 import re
 import sys
@@ -69,7 +70,12 @@ def wrong(page: pathlib.Path, target: str) -> str | None:
 
 
 def pages(top: pathlib.Path) -> list[pathlib.Path]:
-    return sorted(page for page in top.rglob('*.md') if not OTHERS & set(page.relative_to(top).parts))
+    """The pages below a folder. The folders of others are not entered: what is in them may change meanwhile."""
+    found = []
+    for folder, folders, files in os.walk(top):
+        folders[:] = [name for name in folders if name not in OTHERS]
+        found += [pathlib.Path(folder, name) for name in files if name.endswith('.md')]
+    return sorted(found)
 
 
 def try_page(page: pathlib.Path, top: pathlib.Path, count: Count) -> None:

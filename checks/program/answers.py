@@ -17,7 +17,9 @@ WORDS = {
     'round': ('thread', 'number', 'response'), 'order': ('context',), 'interrupt': ('source', 'note', 'badge'), 'enter': ('thread', 'server'),
     'leave': ('thread', 'server'),
 }
-# and in what order they stand in an object
+# what text says in place of a value's name
+LABELS = {'number': 'round'}
+# in what order the words stand in an object
 ORDER = ('thread', 'context', 'source', 'why', 'charged', 'until', 'note', 'server', 'badge', 'from', 'word', 'number', 'response')
 NAMES = ('thread', 'context', 'source', 'why', 'note', 'server')
 MIXED = 'mcscheck: --why: not with --show, --strict, --allow-lost or --format csv\n'
@@ -125,9 +127,9 @@ def object_of(values: Values) -> str:
 
 
 def words_of(values: Values) -> str:
-    """A line of text: its kind, the name of the thread if it is about one, and each other value behind its name."""
+    """A line of text: its kind, the name of the thread if it is about one, and each other value behind its label."""
     owner = f' {values["thread"]}' if 'thread' in values else ''
-    return f'{values["kind"]}{owner} ' + line_of({name: value for name, value in values.items() if name != 'thread'})
+    return f'{values["kind"]}{owner} ' + line_of({LABELS.get(name, name): value for name, value in values.items() if name != 'thread'})
 
 
 def wanted(found: Reading, thread: str, number: str, form: str = 'text') -> Ran:

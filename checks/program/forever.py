@@ -1,10 +1,13 @@
 #!/usr/bin/env python3
-"""Checks that claims of mcscheck --forever hold for three more periods, on 100 random systems, 40 of shared waits, and some whose findings are known.
+"""Checks that claims of mcscheck --forever hold for three more periods, on 100 random systems, 40 of shared waits, 80 with chains, and some whose findings
+are known.
 
 Of each set of cores that is said to repeat, mcsim runs three more periods: their rows are those of the first one, later, and their missed deadlines and
 lost signals are as many. All lines are those of a second, plain reading (`checks/program/forever_reading.py`) of these rows, byte by byte, as text and as JSON,
 and so are the statuses. Where nothing is ever to be found, nothing is at four horizons. Of a set that is not said to repeat, the lines are those of the
-rows up to the horizon. A kind of line or of status that was seen nowhere is a failure: a test that sees nothing of it tells nothing."""
+rows up to the horizon. Of each chain that is said to repeat the answers of three more periods come again, and its lines are those of a second reading
+(`checks/program/forever_chains.py`); if the status is 0, mcscheck finds nothing late of it at any of some horizons. The last line but one says of how many
+chains, on sets that repeat, that was found. A kind of line or of status that was seen nowhere is a failure: a test that sees nothing of it tells nothing."""
 from __future__ import annotations
 
 import collections
@@ -19,7 +22,8 @@ sys.dont_write_bytecode = True
 sys.path[0] = str(pathlib.Path(__file__).resolve().parents[2])
 from checks import common
 from checks.common import TOP, Count, Ran
-from checks.program import forever_reading as forever, reading, verdicts
+from checks.program import forever_chains, forever_reading as forever, reading, verdicts, ways
+from checks.program.forever_chains import ChainTold
 from checks.program.forever_reading import Claim, Told
 from checks.program.reading import Tables, Values
 from checks.program.verdicts import System, allowing, differing
@@ -81,14 +85,21 @@ thread = [
 # a thread that may as well spin, and three that may not
 GUESTS: tuple[dict[str, Any], ...] = ({}, {}, {}, {'deadline': 500}, {'rounds': 9}, {'script': ['compute 9', 'yield']})
 HORIZONS = (30, 100, 400, 1000, 1000, 1500)
+# of systems with chains
+FAR = (30, 200, 400, 800, 800)
 # a schedule of more rows takes the plain reading too long
 MOST_ROWS = 10_000
+# horizons at which nothing is late of a chain, if nothing is ever found
+LATER = 3
 REFUSED = (['--show=table'], ['--show=findings'], ['--why', 'Loop', '1'], ['--format=csv'])
 # what the random systems have to show
 SEEN = (
     'status 0', 'status 1', 'status 5', 'status 6', 'a set of several cores', 'a core of a larger set', 'repeats', 'open', 'at rest', 'rounds that go on',
     'miss in each period', 'miss before alone', 'miss so far', 'lost in each period', 'lost before alone', 'lost so far', 'overdue', 'overdue so far',
     'never', 'never so far', 'greatest', 'no greatest', 'throttled never', 'throttled', 'ends no round', 'ends rounds', 'clean', 'a lost signal that is allowed',
+    'a chain', 'a chain so far', 'a chain with answers', 'a chain with answers so far', 'a chain with interrupts under way', 'a chain from one core to another',
+    'a chain that is open', 'clean with a chain', 'slow in each period', 'slow before alone', 'slow so far', 'unanswered in each period',
+    'unanswered before alone', 'unanswered so far',
     'computes', 'computes so far', 'computes and is never throttled', 'an order', 'interrupts without end', 'interrupts that ended', 'a server that is entered', 'clean without a deadline', 'untaken', 'untaken so far',
 )
 
@@ -100,6 +111,10 @@ class Trial:
         self.simulator, self.checker = simulator, checker
         self.count = Count()
         self.seen: collections.Counter[str] = collections.Counter()
+        # chains that begin and end on a set that repeats, and those that are said to repeat
+        self.on_sets = self.repeating = 0
+        # those of the latest system
+        self.chains: list[ChainTold] = []
 
     def check(self, system: System, words: Sequence[str]) -> Ran:
         return common.run([self.checker, '--forever', f'--horizon={system.horizon}', *words], system.text.encode())
@@ -114,6 +129,7 @@ class Trial:
 
     def agrees(self, system: System, words: Sequence[str] = (), allowed: Sequence[str] = ()) -> list[Told]:
         """Tries a system with these words, of which some allow signals to be lost."""
+        self.chains = []
         ran = self.check(system, words)
         # what is wrong with the file is told as ever
         start = self.rows(system, 0)
@@ -121,32 +137,50 @@ class Trial:
             self.same(system, words, ran, start._replace(stderr=start.stderr.replace(b'mcsim: ', b'mcscheck: ', 1)))
             return []
         claims = forever.claims_of(ran.stdout.decode())
-        told = self.told(system, claims)
-        if told is None:
+        all_told = self.told(system, claims, forever_chains.chain_claims_of(ran.stdout.decode()))
+        if all_told is None:
             return []
+        told, chains = all_told
+        self.chains = chains
         wrong = [f'cores {each.group.name}: {broken}' for each in told for broken in each.broken(allowed)]
+        wrong += [f'chain {chain.claim.chain}: {broken}' for chain in chains for broken in chain.broken()]
         self.count.expect(f'{system.kept(wrong)} --forever --horizon={system.horizon}: {wrong}', not wrong)
         tables = tomllib.loads(system.text)
-        values, status = forever.values_of(tables, told, allowed), forever.status_of(tables, told, allowed)
+        values, status = forever.values_of(tables, told, allowed, chains), forever.status_of(tables, told, allowed, chains)
         self.same(system, words, ran, Ran(status, forever.text_of(values).encode(), b''))
         words = [*words, '--format=json']
         self.same(system, words, self.check(system, words), Ran(status, forever.json_of(values).encode(), b''))
         self.tell(told, allowed)
-        self.seen['clean without a deadline'] += status == 6 and all(each.claim.is_clean for each in told)
+        self.tell_chains(tables, told, chains)
+        is_clean = status == 0 and any(chain.deadline for chain in chains)
+        if is_clean:
+            self.never_late(system, max(chain.last for chain in chains))
+        self.seen['clean with a chain'] += is_clean
+        self.seen['clean without a deadline'] += status == 6 and not any(chain.is_open for chain in chains) and all(each.claim.is_clean for each in told)
         return told
 
-    def told(self, system: System, claims: Sequence[Claim]) -> Optional[list[Told]]:
-        """What is to be told where this is claimed, if it is claimed of each set, and its schedule is not too long."""
+    def never_late(self, system: System, far: int) -> None:
+        """No answer of a chain is late or overdue up to any horizon, if nothing is ever found."""
+        for horizon in sorted({0, far, *(random.Random(system.name).randrange(far + 1) for _ in range(LATER))}):
+            ran = common.run([self.checker, f'--horizon={horizon}', '--show=findings'], system.text.encode())
+            late = [line for line in ran.stdout.decode().splitlines() if line.split()[2:3] in (['slow'], ['unanswered'])]
+            self.count.expect(f'{system.kept(late)} --horizon={horizon}: {late}', not late)
+
+    def told(self, system: System, claims: Sequence[Claim], of_chains: Sequence[forever_chains.ChainClaim]) -> Optional[tuple[list[Told], list[ChainTold]]]:
+        """What is to be told where this is claimed, if it is claimed of each set and each chain, and its schedule is not too long."""
         tables = tomllib.loads(system.text)
         names, sets = [claim.cores for claim in claims], [each.name for each in forever.core_sets(tables)]
         self.count.expect(f'{system.kept(names != sets)}: claims of {names}, and the sets are {sets}', names == sets)
-        if names != sets:
+        chains, named = [part['name'] for part in tables.get('chain', [])], [claim.chain for claim in of_chains]
+        self.count.expect(f'{system.kept(named != chains)}: claims of {named}, and the chains are {chains}', named == chains)
+        if names != sets or named != chains:
             return None
-        text = self.rows(system, max((claim.far(system.horizon) for claim in claims), default=0)).stdout.decode()
+        ends = [*(claim.far(system.horizon) for claim in claims), *(claim.far(system.horizon) for claim in of_chains)]
+        text = self.rows(system, max(ends, default=0)).stdout.decode()
         if text.count('\n') > MOST_ROWS:
             self.seen['too long'] += 1
             return None
-        return forever.told_of(tables, text, claims, system.horizon)
+        return forever.told_of(tables, text, claims, system.horizon), forever_chains.chains_told_of(tables, text, of_chains, system.horizon)
 
     def tell(self, told: Sequence[Told], allowed: Sequence[str]) -> None:
         """Counts what was seen."""
@@ -168,6 +202,24 @@ class Trial:
                 self.seen['not said to be clean'] += not each.claim.is_clean and not list(each.not_clean(allowed))
             for values in each.values(allowed):
                 self.tell_line(values, so_far)
+
+    def tell_chains(self, tables: Tables, told: Sequence[Told], chains: Sequence[ChainTold]) -> None:
+        """Counts what was seen of chains."""
+        places = {context['name']: context['core'] for context in tables.get('context', [])}
+        cores = {thread['name']: places[thread['context']] for thread in tables.get('thread', [])}
+        homes = {source['name']: next(note['core'] for note in tables['note'] if note['name'] == source['note']) for source in tables.get('source', [])}
+        for chain in chains:
+            both = {cores[chain.part['thread']], homes[chain.part['source']]}
+            self.on_sets += any(each.claim.start is not None and both.issubset(each.group.cores) for each in told)
+            self.repeating += chain.claim.start is not None
+            so_far = '' if chain.claim.start is not None else ' so far'
+            self.seen[f'a chain{so_far}'] += 1
+            self.seen[f'a chain with answers{so_far}'] += chain.head()['answers'] > 0
+            self.seen['a chain with interrupts under way'] += not so_far and bool(chain.without_answer(chain.end))
+            self.seen['a chain from one core to another'] += not so_far and len(both) > 1
+            self.seen['a chain that is open'] += chain.is_open
+            for values in chain.findings():
+                self.seen[f'{values["kind"]}{so_far or (" in each period" if values["each_period"] else " before alone")}'] += 1
 
     def tell_line(self, values: Values, so_far: str) -> None:
         kind = values['kind']
@@ -232,6 +284,27 @@ def random_system(name: str) -> tuple[System, list[str], list[str]]:
     return System(name.replace(' ', '-'), text_of(tables), rng.choice(HORIZONS)), words, allowed
 
 
+def with_chains(rng: random.Random) -> str:
+    """A random system with chains, mostly one whose sources and budgets come together soon."""
+    tables = tomllib.loads(ways.with_chains(rng))
+    if rng.random() < 0.7:
+        for part in [*tables.get('source', []), *tables.get('context', [])]:
+            if max(part.get('budget', 0), *part.get('at', [0])) < 20:
+                part['period'] = rng.choice([20, 20, 40])
+    return text_of(tables)
+
+
+def edged(system: System, chains: Sequence[ChainTold], rng: random.Random) -> Optional[System]:
+    """The system where each chain that repeats with answers has a deadline that its answers of a period just meet or just miss, and no other chain has one."""
+    tables = tomllib.loads(system.text)
+    for part, chain in zip(tables['chain'], chains):
+        part.pop('deadline', None)
+        if chain.claim.start is not None and (answers := chain.answers(*chain.period(0))):
+            part['deadline'] = max(1, max(answer.latency for answer in answers) - rng.choice([0, 0, 1]))
+    has_one = any('deadline' in part for part in tables['chain'])
+    return System(f'{system.name}-edged', text_of(tables), system.horizon) if has_one else None
+
+
 def add_guest(rng: random.Random, tables: Tables) -> None:
     """Adds a thread that only computes, or nearly so."""
     period = rng.choice([10, 20, 40])
@@ -253,6 +326,14 @@ def main() -> None:
         trial.agrees(*random_system(f'{words.seed} {number}'))
     for number in range(words.systems * 2 // 5):
         trial.agrees(System(f'pool-{number}', text_of(pool_of(random.Random(f'{words.seed} {number}'))), 400))
+    for number in range(words.systems * 4 // 5):
+        rng = random.Random(f'chains for ever {words.seed} {number}')
+        system = System(f'{words.seed}-chains-{number}', with_chains(rng), rng.choice(FAR))
+        trial.agrees(system)
+        if trial.chains and (system_edged := edged(system, trial.chains, rng)):
+            notes = [note['name'] for note in tomllib.loads(system.text)['note']]
+            trial.agrees(system_edged, allowing(notes), notes)
+    print(f'{trial.repeating} of {trial.on_sets} chains on sets that repeat are said to repeat')
     trial.count.expect_all(trial.seen, SEEN)
     trial.count.end()
 

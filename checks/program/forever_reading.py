@@ -11,6 +11,8 @@ import re
 from collections.abc import Iterator, Sequence
 from typing import NamedTuple, Optional
 
+from checks.program import forever_chains
+from checks.program.forever_chains import ChainTold
 from checks.program.reading import FOUND, Reading, Row, Tables, Values, items_of, scripts_of
 
 # so many periods are looked at
@@ -349,20 +351,20 @@ class Told:
         return any(kind == 'lost' and name in allowed for _, kind, name in self.found)
 
 
-def counts_of(tables: Tables, told: Sequence[Told], allowed: Sequence[str]) -> Values:
-    found = sum(len(list(each.findings(allowed))) for each in told)
+def counts_of(tables: Tables, told: Sequence[Told], allowed: Sequence[str], chains: Sequence[ChainTold] = ()) -> Values:
+    found = sum(len(list(each.findings(allowed))) for each in told) + sum(len(list(chain.findings())) for chain in chains)
     repeating = sum(each.claim.start is not None for each in told)
     threads = tables.get('thread', [])
-    deadlines = sum(thread.get('deadline', 0) > 0 for thread in threads)
+    deadlines = sum(part.get('deadline', 0) > 0 for part in [*threads, *tables.get('chain', [])])
     return {'kind': 'sets', 'sets': len(told), 'repeating': repeating, 'findings': found, 'threads': len(threads), 'deadlines': deadlines}
 
 
-def status_of(tables: Tables, told: Sequence[Told], allowed: Sequence[str]) -> int:
-    """5 if something is found; 6 if a set was not found to repeat, or none has a deadline that could be missed; else 0."""
-    counts = counts_of(tables, told, allowed)
+def status_of(tables: Tables, told: Sequence[Told], allowed: Sequence[str], chains: Sequence[ChainTold] = ()) -> int:
+    """5 if something is found; 6 if a set or a chain with a deadline was not found to repeat, or there is no deadline that could be missed; else 0."""
+    counts = counts_of(tables, told, allowed, chains)
     if counts['findings']:
         return 5
-    return 0 if counts['repeating'] == len(told) and counts['deadlines'] else 6
+    return 0 if counts['repeating'] == len(told) and counts['deadlines'] and not any(chain.is_open for chain in chains) else 6
 
 
 def line_of(values: Values) -> str:
@@ -372,10 +374,12 @@ def line_of(values: Values) -> str:
             return f'cores {cores}: repeats from {start} with period {period}'
         case {'kind': 'open', 'cores': cores, 'horizon': horizon}:
             return f'cores {cores}: no repetition found up to {horizon}'
-        case {'kind': 'miss' | 'lost' as kind, 'so_far': many}:
-            return f'{kind} {values.get("thread", values.get("note"))}: {many} so far'
-        case {'kind': 'miss' | 'lost' as kind, 'each_period': many, 'before': before}:
-            return f'{kind} {values.get("thread", values.get("note"))}: {many} in each period, {before} before'
+        case {'kind': 'miss' | 'lost' | 'slow' | 'unanswered' as kind, 'so_far': many}:
+            return f'{kind} {whose(values)}: {many} so far'
+        case {'kind': 'miss' | 'lost' | 'slow' | 'unanswered' as kind, 'each_period': many, 'before': before}:
+            return f'{kind} {whose(values)}: {many} in each period, {before} before'
+        case {'kind': 'chain'}:
+            return forever_chains.line_of(values)
         case {'kind': 'overdue', 'thread': thread, 'number': number, 'activated': activated}:
             return f'overdue {thread} round {number} activated {activated} for ever'
         case {'kind': 'untaken', 'note': note, 'by': by, 'word': word, 'set': since}:
@@ -401,6 +405,10 @@ def line_of(values: Values) -> str:
     return ' '.join(f'{key} {values[key]}' for key in ('sets', 'repeating', 'findings', 'threads', 'deadlines'))
 
 
+def whose(values: Values) -> str:
+    return next(str(values[key]) for key in ('thread', 'note', 'chain') if key in values)
+
+
 def dashed(number: Optional[int]) -> str:
     return '-' if number is None else str(number)
 
@@ -421,5 +429,6 @@ def told_of(tables: Tables, text: str, claims: Sequence[Claim], horizon: int) ->
     return [Told(tables, lines, group, claim, horizon) for group, claim in zip(core_sets(tables), claims)]
 
 
-def values_of(tables: Tables, told: Sequence[Told], allowed: Sequence[str]) -> list[Values]:
-    return [*(values for each in told for values in each.values(allowed)), counts_of(tables, told, allowed)]
+def values_of(tables: Tables, told: Sequence[Told], allowed: Sequence[str], chains: Sequence[ChainTold] = ()) -> list[Values]:
+    of_chains = (values for chain in chains for values in chain.values())
+    return [*(values for each in told for values in each.values(allowed)), *of_chains, counts_of(tables, told, allowed, chains)]

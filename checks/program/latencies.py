@@ -4,7 +4,7 @@
 First come four systems whose lines are worked by hand. Then each random system with a chain is tried: findings, jobs, the table, and findings with it, as
 text, CSV and JSON, with --strict and several workers or without, and the exit code; and of each chain the way of an answer (way_reading.py). It is tried
 again with a deadline that an answer just meets or just misses, up to the end of this answer or about the time at which an interrupt had to be answered.
-The percentiles of latencies follow the rule of those of responses.
+The percentiles of latencies follow the rule of those of responses. A chain with the hint that no signal leads to its thread has no answer.
 
 What was seen nowhere is a failure: a test that sees nothing of it tells nothing."""
 from __future__ import annotations
@@ -35,7 +35,7 @@ SEEN = (
     'slow', 'unanswered', 'slow of two chains at one time', 'a row and an answer at one time', 'slow at the horizon', 'unanswered behind others',
     'found of chains alone', 'two slow answers of one job', 'a slow answer and another of one job', 'no answer', 'no deadline', 'margin above 0', 'margin 0',
     'margin below 0', 'a percentile below the greatest', 'a percentile at the end of its bucket', 'unjudged behind unanswered', 'judged by chains alone',
-    'no such answer', *way_reading.SEEN, 'no deadline of a thread', 'a job without an answer', 'two answers of one job', 'answers of two chains by one job', 'status 0', 'status 2', 'status 5', 'status 6',
+    'no such answer', 'a hint, and interrupts', 'no hint, and no answer', *way_reading.SEEN, 'no deadline of a thread', 'a job without an answer', 'two answers of one job', 'answers of two chains by one job', 'status 0', 'status 2', 'status 5', 'status 6',
 )
 # how the lines of threads and contexts begin
 OF_OTHERS = ('thread ', 'thread,', 'context ', '{"kind":"thread"', '{"kind":"context"')
@@ -73,7 +73,8 @@ TWO_CORES_FOUND = '''12 1 miss C round 1 response 4 deadline 3 activated 8 queue
 22 0 never Z deadline 5
 22 0 unanswered z deadline 19 origin 3
 hint note q is waited on and no script signals it
-missed 2 overdue 0 untaken 0 lost 0 never 1 merged 0 allowed 0 unjudged 0 hints 1 threads 3 deadlines 6 judged 9 slow 4 unanswered 1
+hint chain z: no signal leads from s to Z
+missed 2 overdue 0 untaken 0 lost 0 never 1 merged 0 allowed 0 unjudged 0 hints 2 threads 3 deadlines 6 judged 9 slow 4 unanswered 1
 '''
 # the jobs of D answer the chain near, 3 ticks after the interrupt, and those of C the first three
 TWO_CORES_JOBS = '''moment,core,kind,thread,number,activated,begun,response,queued,preemptions,ready,running,throttled,blocked,server,chain,latency,deadline,origin
@@ -216,6 +217,7 @@ class Trial(verdicts.Trial):
             return None
         found = read.found
         self.seen.update(shown(found))
+        self.count.expect(f'{system.name}: a chain with a hint has an answer', not self.seen['a hint, and an answer'])
         for chain in found.chains:
             self.with_way(system, read, chain, rng)
         for show, form in FORMS:
@@ -284,8 +286,13 @@ def shown(found: Chained) -> Iterator[str]:
         yield 'answers of two chains by one job'
     if any(row.kind == 'round' and not any((row.what[1], int(row.what[2])) in jobs for jobs in answering) for row in found.rows):
         yield 'a job without an answer'
+    hints = set(found.uses.unreached())
     for chain in found.chains:
         latencies = sorted(one.latency for one in chain.answers)
+        if any(line.startswith(f'hint chain {chain.chain["name"]}:') for line in hints):
+            yield 'a hint, and an answer' if latencies else 'a hint, and interrupts' if chain.interrupts else 'a hint'
+        elif not latencies:
+            yield 'no hint, and no answer'
         yield from shown_by_figures(figures(chain), latencies)
         yield from shown_by_jobs(chain)
 

@@ -352,6 +352,9 @@ SAYS = {
         'unsignalled': 'the hint of a notification that a script waits on, and that neither a script nor a source signals',
         'interrupts': 'whether a source posts on the notification',
     },
+    'mcs_hints/specs/Chains.antt': {
+        'unreached_by': 'the hint of a chain that no signal can complete',
+    },
     'mcs_hints/specs/Contexts.antt': {
         'unbound': 'the hint of a context without a thread',
         'share': "what a configuration grants of its core's time, in millionths",
@@ -372,8 +375,10 @@ SAYS = {
         'Text': 'bytes',
         'members_of': 'the members of a JSON object with these fields',
     },
-    'mcs_check_lines/specs/Chains.antt': {
+    'mcs_check_lines/specs/Names.antt': {
         'chain_name': 'the name of the chain with this number',
+    },
+    'mcs_check_lines/specs/Chains.antt': {
         'chain_words': 'the words of a finding of a chain, without its time and core',
         'chain_kind': 'the word for a finding of a chain',
         'latency_of': 'the latency of a slow answer',
@@ -509,8 +514,9 @@ SAYS = {
         'CallsWait': 'a `call` stop is of a thread at an `Enter` whose server another thread has, which is not ready',
     },
     'mcs_check_forever/specs/Verdict.antt': {
+        'chain_findings': 'the number of findings of all chains, at most 2^64 - 1',
         'totals_of': 'the numbers of the last line',
-        'findings': 'the findings of all sets',
+        'findings': 'the findings of all sets and chains',
     },
     'mcs_ever_told/specs/Outlook.antt': {
         'NeverLoses': 'no schedule coalesces a signal of this notification',
@@ -557,6 +563,21 @@ SAYS = {
     'mcs_check_lines/specs/Deadlines.antt': {
         'chain_deadlines': 'how many chains have a deadline',
     },
+    'mcs_ever_chain/specs/Told.antt': {
+        'many_left': 'how many interrupts have no answer after these rows',
+        'AreLeft': 'how many interrupts have no answer: before the first period, and in each period',
+        'IsToldBy': 'each figure of a chain is right: for ever with a period, and up to the horizon without one',
+    },
+    'mcs_ever_chain_lines/specs/Lines.antt': {
+        'words_by': 'the words of a chain, with a period or without one',
+        'fields_by': 'the values of a chain, with a period or without one',
+        'open_words': 'the words of a chain that was not found to recur up to this horizon',
+        'open_fields': 'the values of a chain that was not found to recur up to this horizon',
+        'left_line': 'the line of interrupts without an answer, or nothing',
+        'has_left': 'whether interrupts without an answer have a line',
+        'tells_left': 'the same, if slow answers have a line or not',
+        'findings_of': 'how many lines of findings a chain has',
+    },
     'mcs_check_lines/specs/Unjudged.antt': {
         'unjudged_line': 'the line of an unjudged thread, in each format',
         'unjudged_words': 'the words of an unjudged thread, without its time and core',
@@ -575,6 +596,7 @@ PLAIN = {
     'mcs_check_forever/specs/Foretold.antt': 'is_rows'.split(),
     'mcs_way/specs/Sought.antt': 'is_of'.split(),
     'mcs_way_lines/specs/Lines.antt': 'leg_fields sum_fields'.split(),
+    'mcs_ever_chain_lines/specs/Lines.antt': 'Fields chain_name chain_part chains_text deadline_value'.split(),
     'mcs_control/specs/Context.antt': (
         'context_charged context_chosen context_ready context_unblocked context_woken '
         'head_amount head_moment left_shown max_refills_of moment_of refills_shown'

@@ -1,8 +1,8 @@
 #!/usr/bin/env python3
 """Checks in seconds what the gate refuses before it proves anything: layout, files that nothing reads, edits that cannot be applied.
 
-That is a layout that is not that of rt fmt, a file that no check reads, a module without a file, an operator under another name. An edit, whether the
-gate tries it or not, cannot be applied where its text does not stand once. And the launcher mcsim is asked for the crates that it proves: they are
+That is a layout that is not that of rt fmt, a file that no check reads, a module without a file or with nothing in it, an import of what is not there,
+an operator under another name. An edit, whether the gate tries it or not, cannot be applied where its text does not stand once. And the launcher mcsim is asked for the crates that it proves: they are
 those on which each program stands. A library's may_wait in crates.txt is how many of its functions have the bound Wait: rt verdict holds it to the last
 line of a proof, and rt ci does not look at it. Each finding has a line, and each crate counts as one try. All this needs the command rt, and is skipped without it.
 Without it too, checks/README.md is held to have the cost of the gate as checks/proofs/gate.csv has it."""
@@ -33,6 +33,13 @@ LAUNCHER = 'mcsim'
 LEFT_OUT = 'edits'
 # how the names of crates of tests begin
 TESTS = 'mcs_tests_'
+MODULE = re.compile(r'^(?:pub )?mod (\w+)$', re.M)
+EMPTY = re.compile(r' *module _ .*\bwhere$')
+IMPORT = re.compile(r'^(?:pub )?use Rattle\.(\w+\.(?:specs|proofs)\.[\w.]+)\.\{([^}]*)\}', re.M)
+# places of the files that the prover makes of the code's types and functions
+MADE = {'declared', 'Goals', 'Given'}
+# a name of the prover's language: it may have any sign but these
+WORD = re.compile(r'[^\s(){},.;:λ]+')
 
 
 def refuse(why: str) -> None:
@@ -68,6 +75,50 @@ def waiting(text: str) -> list[str]:
     blocks = [(found.end() - 1, end_of_block(text, found.end() - 1)) for found in re.finditer(r'^(?:impl|trait)\b[^{;]*\bWait\b[^{;]*\{', text, re.M)]
     heads = re.finditer(r'\bfn\s+(\w+)([^{;]*)', text)
     return [head[1] for head in heads if re.search(r'\bWait\b', head[2]) or any(start < head.start() < end for start, end in blocks)]
+
+
+def logic_of(folder: str) -> list[pathlib.Path]:
+    """The files of definitions and proofs of a crate. What is built beside them is left out: it may change meanwhile."""
+    return sorted(file for place in ('specs', 'proofs') for file in pathlib.Path(folder, place).rglob('*.antt'))
+
+
+def empty_modules(text: str) -> Iterator[int]:
+    """The lines of a text with a module that has nothing but comments in it. The prover refuses one, but only after its search."""
+    lines = text.split('\n')
+    for at, line in enumerate(lines):
+        if EMPTY.match(line):
+            left = (it for it in lines[at + 1 :] if it.strip() and not it.lstrip().startswith('--'))
+            if not next(left, '').startswith(' ' * (len(line) - len(line.lstrip()) + 1)):
+                yield at + 1
+
+
+def file_of(path: str, crates: pathlib.Path) -> pathlib.Path | None:
+    """The file that a path of an import names, or the one in which the module that it names stands. Lib.antt may hand on a file of another crate."""
+    crate, part, *places = path.split('.')
+    lib = crates / crate / part / 'Lib.antt'
+    handed_on = re.search(rf'^pub use Rattle\.(\w+\.specs\.{places[0]})$', lib.read_text(encoding='utf-8') if lib.exists() else '', re.M)
+    if handed_on:
+        return file_of('.'.join([handed_on[1], *places[1:]]), crates)
+    while places:
+        file = crates / crate / part / f'{"/".join(places)}.antt'
+        if file.exists():
+            return file
+        places.pop()
+    return None
+
+
+def wrong_imports(text: str, crates: pathlib.Path) -> Iterator[str]:
+    """What a text imports of the crates here and is not there. Files that the prover makes are left out."""
+    for path, names in IMPORT.findall(text):
+        if MADE & set(path.split('.')) or not (crates / path.split('.')[0]).exists():
+            continue
+        file = file_of(path, crates)
+        if file is None:
+            yield f'it imports {path}, which has no file'
+            continue
+        words = set(WORD.findall(file.read_text(encoding='utf-8')))
+        missing = [it for name in names.split(',') if (it := name.split(' as ')[0].strip()) and '◌' not in it and it not in words]
+        yield from (f'it imports {name} of {path}, which does not have it' for name in missing)
 
 
 def said(look: Callable[[], object]) -> list[str]:
@@ -122,12 +173,13 @@ class Looks:
             yield f'may_wait={given} in crates.txt, and {len(found)} functions have the bound Wait: {" ".join(found) or "none"}'
 
     def modules(self, crate: Any) -> Iterator[str]:
-        for file in glob.glob(f'{crate.folder}/**/*.antt', recursive=True):
+        for file in logic_of(crate.folder):
             # Lib.antt lists what stands beside it, and any other file what stands in the folder of its name
-            folder = os.path.dirname(file) if os.path.basename(file) == 'Lib.antt' else file.removesuffix('.antt')
-            with open(file) as text:
-                names = re.findall(r'^(?:pub )?mod (\w+)$', text.read(), re.M)
-            yield from (f'{os.path.relpath(file, crate.folder)} names {name}, which has no file' for name in names if not os.path.exists(f'{folder}/{name}.antt'))
+            folder = file.parent if file.name == 'Lib.antt' else file.with_suffix('')
+            text, name = file.read_text(encoding='utf-8'), file.relative_to(crate.folder)
+            yield from (f'{name} names {it}, which has no file' for it in MODULE.findall(text) if not (folder / f'{it}.antt').exists())
+            yield from (f'{name}:{line}: the module has nothing in it' for line in empty_modules(text))
+            yield from (f'{name}: {it}' for it in wrong_imports(text, TOP / 'crates'))
 
     def findings(self, crate: Any) -> list[str]:
         return [found for look in (self.files, self.texts, self.layout, self.modules, self.edits, self.waits) for found in look(crate)]

@@ -1,8 +1,8 @@
 #!/usr/bin/env python3
 """Lists public functions that nothing outside their crate reaches, and laws and lemmas that nothing cites; each of them needs a reason.
 
-A public function or method is reached if a crate that names its crate in crates.txt imports it, or names it after `::`, or calls a method of its name;
-one of the library for C, if include/ has its name. A law is a public function with an empty body, whose contract is what it says: it is cited if
+A public function or method is reached if a crate that names its crate in crates.txt, or one that hands it on by `pub use`, imports it, or names it after
+`::`, or calls a method of its name; one of the library for C, if include/ has its name. A law is a public function with an empty body, whose contract is what it says: it is cited if
 another place of the sources, README.md or a page of docs/ names it or its statement in specs/laws. A lemma is a public one in proofs/; it is cited if its own file, another proof, a definition or a source names
 it outside of its own text, after an import of its file or by its path. Answers.antt and Invariants.antt are left out, since the prover reads them by
 their names, and so are test crates and main.rt.
@@ -86,7 +86,9 @@ class Sources:
         return [file for file in self.files if file.crate == crate and file.place.endswith(ending)]
 
     def above(self, crate: str) -> list[str]:
-        return [name for name, needs in self.needs.items() if crate in needs]
+        """The crates that name a crate, or one that hands on what is public in it."""
+        given = {crate} | {file.crate for file in self.files if f'pub use {crate}::' in file.text}
+        return [name for name, needs in self.needs.items() if given.intersection(needs)]
 
 
 # ---- public functions

@@ -3,6 +3,7 @@ import tomllib
 import unittest
 
 from checks.program.chain_reading import ChainReading, read_chain
+from checks.program.hint_reading import Uses, values_of
 
 # an interrupt at 3 wakes D, whose signal reaches the other core at 8; there C ends its round at 12
 TWO_CORES = '''note = [{ name = "n", core = 0 }, { name = "p", core = 1 }]
@@ -116,6 +117,70 @@ class Handlers(unittest.TestCase):
         reading = reading_of(HANDLERS, 'nobody', BOTH)
         self.assertEqual((reading.interrupts, reading.answers, reading.unanswered), ([3], [], [3]))
         self.assertEqual(reading.left(8), 'unanswered nobody deadline 5 origin 3')
+
+
+# S interrupts n with badge 1, for which D signals m with badge 2; M signals p with badge 1 for badge 2 of its words, and q with badge 1 for badge 4; E answers
+WAY = '''note = [{ name = "n", core = 0 }, { name = "m", core = 0 }, { name = "p", core = 0 }, { name = "q", core = 0 }, { name = "z", core = 0 }]
+server = [{ name = "v", core = 0, priority = 9, script = ["on 1", "signal m 2", "on 2", "signal m 4"] }]
+thread = [
+    { name = "D", priority = 5, script = ["wait n", "on 1", "compute 2", "signal m 2", "on 2", "signal m 4"] },
+    { name = "M", priority = 5, script = ["wait m", "on 2", "signal p 1", "on 4", "signal q 1", "on 8"] },
+    { name = "E", priority = 5, script = ["wait p", "compute 4"] },
+    { name = "Q", priority = 5, script = ["wait q", "compute 4"] },
+]
+source = [{ name = "s", note = "n", badge = 1 }, { name = "t", note = "z", badge = 1 }]
+chain = [
+    { name = "e", source = "s", thread = "E" },
+    { name = "q", source = "s", thread = "Q" },
+    { name = "m", source = "s", thread = "M", badges = 2 },
+    { name = "m4", source = "s", thread = "M", badges = 4 },
+    { name = "t", source = "t", thread = "E" },
+    { name = "w", source = "t", thread = "M", badges = 4 },
+]
+'''
+
+
+class Unreached(unittest.TestCase):
+    """The chains that no signal can complete."""
+
+    def hinted(self, old: str = '', new: str = '') -> list[str]:
+        self.assertIn(old, WAY)
+        return [line.split()[2].removesuffix(':') for line in Uses(tomllib.loads(WAY.replace(old, new))).unreached()]
+
+    def test_an_origin_goes_where_signals_of_its_handlers_lead(self) -> None:
+        self.assertEqual(self.hinted(), ['q', 'm4', 't', 'w'])
+        # the signal in the handler for badge 2 leads to Q, and so does one before all handlers
+        self.assertEqual(self.hinted('{ name = "s", note = "n", badge = 1 }', '{ name = "s", note = "n", badge = 2 }'), ['e', 'm', 't', 'w'])
+        self.assertEqual(self.hinted('"wait n", "on 1"', '"wait n", "signal m 4", "on 1"'), ['t', 'w'])
+        self.assertEqual(self.hinted('"signal m 2", "on 2"', '"on 2"'), ['e', 'q', 'm', 'm4', 't', 'w'])
+
+    def test_a_badge_that_leaves_nothing_to_do_answers_nothing(self) -> None:
+        # M has an empty handler for 8
+        eight = ('"signal m 2", "on 2"', '"signal m 8", "on 2"')
+        self.assertEqual(self.hinted(*eight), ['e', 'q', 'm', 'm4', 't', 'w'])
+        self.assertEqual(self.hinted('"compute 2", "signal m 2"', '"compute 2", "signal m 12"'), ['e', 'm', 't', 'w'])
+
+    def test_a_call_is_of_the_handlers_for_its_badge(self) -> None:
+        self.assertEqual(self.hinted('"compute 2", "signal m 2"', '"call v 2"'), ['e', 'm', 't', 'w'])
+        self.assertEqual(self.hinted('"compute 2", "signal m 2"', '"call v 3"'), ['t', 'w'])
+
+    def test_a_later_wait_gives_its_handler_or_the_whole_job(self) -> None:
+        # a signal behind the wait for z carries what t posts there; one before it does not, nor one of another handler
+        self.assertEqual(self.hinted('"compute 2"', '"wait z", "compute 2"'), ['q', 'm4', 'w'])
+        self.assertEqual(self.hinted('"signal m 2", "on 2"', '"signal m 2", "wait z", "compute 1", "on 2"'), ['q', 'm4', 't', 'w'])
+        self.assertEqual(self.hinted('"on 2", "signal m 4"', '"on 2", "wait z", "signal m 4"'), ['q', 'm4', 't'])
+        # in no handler it gives to all of them, and what the first wait takes stays where it is
+        self.assertEqual(self.hinted('"wait n", "on 1"', '"wait n", "wait z", "on 1"'), ['q', 'm4'])
+        # in a handler it gives to those that have a badge in common with it
+        self.assertEqual(self.hinted('"on 1", "compute 2"', '"on 3", "wait z", "on 1", "compute 2"'), ['q', 'm4'])
+
+    def test_a_whole_job_answers_for_any_badge(self) -> None:
+        self.assertEqual(self.hinted('"wait m", "on 2"', '"wait m", "wait z", "compute 1", "on 2"'), ['q', 'm4'])
+
+    def test_the_line(self) -> None:
+        text, *_ = Uses(tomllib.loads(WAY)).unreached()
+        self.assertEqual(text, 'hint chain q: no signal leads from s to Q')
+        self.assertEqual(values_of(text), {'kind': 'hint', 'hint': 'unreached', 'chain': 'q', 'source': 's', 'thread': 'Q'})
 
 
 class Overload(unittest.TestCase):

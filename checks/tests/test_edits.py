@@ -22,7 +22,7 @@ ALWAYS_TRIED = (
     # a core's turn
     'mcs_core/turn_turn_releases_before_arrivals',
     'mcs_core/stops_leave_to_front_enters_at_the_back',
-    'mcs_core/choice_gives_way_to_an_equal',
+    'mcs_core/choice_better_gives_way_to_an_equal',
     'mcs_core/next_soonest_forgets_the_arrival',
     'mcs_core/next_soonest_forgets_the_alarm',
     'mcs_core/posts_free_wakes_nobody',
@@ -32,7 +32,7 @@ ALWAYS_TRIED = (
     # stretches that are lent and come back
     'mcs_window/bounds_past_lends_one_moment_too_far',
     'mcs_window/loans_lend_now_lends_one_piece_at_a_time',
-    'mcs_window/loans_fault_of_takes_a_stretch_twice',
+    'mcs_window/loans_take_back_keeps_the_clock',
     'mcs_window/loans_take_back_keeps_the_opening_state',
     'mcs_window/loans_settle_calls_every_stretch_foreign',
     'mcs_window/cores_first_behind_always_not_safe',

@@ -104,6 +104,14 @@ class Unused(unittest.TestCase):
         self.assertIn('mcs_low function called', self.found())
         self.assertIn('mcs_low function spare', self.found())
 
+    def test_what_a_crate_hands_on_is_reached_through_it(self) -> None:
+        self.write('crates.txt', 'mcs_low:\nmcs_mid: mcs_low\nmcs_high: mcs_mid\n')
+        self.write('crates/mcs_high/src/main.rt', 'fn main() { kept.unput(); }')
+        self.write('crates/mcs_mid/src/lib.rt', 'use mcs_low::Kept;\n')
+        self.assertIn('mcs_low function unput', self.found())
+        self.write('crates/mcs_mid/src/lib.rt', 'pub use mcs_low::Kept;\n')
+        self.assertNotIn('mcs_low function unput', self.found())
+
     def test_a_test_crate_reaches_and_is_left_out(self) -> None:
         self.write('crates/mcs_tests_low/src/lib.rt', 'pub fn helper() { mcs_low::spare(); kept.unput(); }')
         self.assertEqual(self.found(), ['mcs_low law law_of_all'])

@@ -338,7 +338,7 @@ class NewReadings(unittest.TestCase):
         self.assertEqual(found.wanted().text, '6 0 never D deadline 8\nhint source k interrupts on n with badge 4 and no handler takes it\n'
                          'missed 0 overdue 0 untaken 0 lost 0 never 1 merged 0 allowed 0 unjudged 0 hints 1 threads 1 deadlines 1 judged 0\n')
         last = answers.wanted(found, 'D', '1').stdout.decode().splitlines()[-2]
-        self.assertEqual(last, 'why D number 1 from 5 to 6 waited 1 activated - begun - ended -')
+        self.assertEqual(last, 'why D round 1 from 5 to 6 waited 1 activated - begun - ended -')
 
     def test_a_first_word(self) -> None:
         rows = '0 0 release D\n0 0 run D\n1 0 got D n 5\n6 0 round D 1 5\n'
@@ -591,11 +591,11 @@ class Answers(unittest.TestCase):
     def test_a_round_that_waited(self) -> None:
         lines = answers.wanted(self.found, 'A', '1').stdout.decode().splitlines()
         self.assertEqual(lines[:2], ['1 0 stop A wait 1', '1 0 run B'])
-        self.assertEqual(lines[-4:], ['why A number 1 from 1 to 4 waited 1 activated 2 begun 2 ended 4', 'ran A ticks 2', 'ran B ticks 1', 'idle ticks 0'])
+        self.assertEqual(lines[-4:], ['why A round 1 from 1 to 4 waited 1 activated 2 begun 2 ended 4', 'ran A ticks 2', 'ran B ticks 1', 'idle ticks 0'])
 
     def test_a_round_that_waits(self) -> None:
         lines = answers.wanted(self.found, 'A', '2').stdout.decode().splitlines()
-        self.assertEqual(lines, ['5 0 stop A wait 3', 'why A number 2 from 5 to 7 waited 2 activated - begun - ended -', 'idle ticks 2'])
+        self.assertEqual(lines, ['5 0 stop A wait 3', 'why A round 2 from 5 to 7 waited 2 activated - begun - ended -', 'idle ticks 2'])
 
     def test_rounds_that_are_not_there(self) -> None:
         for thread, number, said in (('A', '3', 'there are rounds 1 to 2'), ('B', '0', 'there is round 1')):
