@@ -179,7 +179,7 @@ fn what_was_late_before_the_first_period(rt: HostRuntime) -> Result<(), Fail> {
     // all interrupts before that moment are answered, but for the one just before
     let answers = before(&all[0].answers).ok_or("a count")?;
     let open = before(&left).ok_or("a count")?;
-    assert!(rt; answers + open == (from + 9) / 10);
+    assert!(rt; answers.saturating_add(open) == (from + 9) / 10);
     Ok(())
 }
 
