@@ -34,8 +34,8 @@ ALWAYS_TRIED = (
     'mcs_window/loans_lend_now_lends_one_piece_at_a_time',
     'mcs_window/loans_take_back_keeps_the_clock',
     'mcs_window/loans_take_back_keeps_the_opening_state',
-    'mcs_window/loans_settle_calls_every_stretch_foreign',
-    'mcs_window/cores_first_behind_always_not_safe',
+    'mcs_window/loans_lend_core_lends_for_one_moment',
+    'mcs_window/bounds_must_wait_takes_a_turn_too_many',
     # what is given
     'mcs_merge/lists_join_merges_by_core_first',
     'mcs_team/stream_give_out_answers_a_part_after_a_loss',

@@ -1,6 +1,8 @@
-//! Checks for all time in memory, on the caller's thread alone.
+//! Checks in memory, on the caller's thread alone.
 
+use crate::findings::WHAT_IS_LATE;
 use crate::runs::{LATE, options};
+use mcs_check::check_alone;
 use mcs_check_forever::{ForeverFault, Verdict, foretell_alone};
 use mcs_check_words::Options;
 use mcs_load::load;
@@ -85,6 +87,22 @@ unanswered none: 1 in each period, 2 before
 sets 2 repeating 2 findings 2 threads 2 deadlines 3
 ";
 
+/// An interrupt each 10 ticks wakes Loop, which runs before the guest and answers in time. The
+/// guest would compute far beyond a horizon of 1,000.
+const GUEST_AND_CHAIN: &str = r#"
+version = 3
+cores = 1
+delay = 1
+context = [{ name = "loop", core = 0, budget = 3, period = 10 }, { name = "guest", core = 0, budget = 10, period = 10 }]
+note = [{ name = "irq", core = 0 }]
+thread = [
+    { name = "Loop", context = "loop", priority = 9, deadline = 5, script = ["wait irq", "compute 2"] },
+    { name = "Guest", context = "guest", priority = 1, script = ["compute 1000000"] },
+]
+source = [{ name = "nic", note = "irq", badge = 1, period = 10 }]
+chain = [{ name = "packet", source = "nic", thread = "Loop", deadline = 5 }]
+"#;
+
 /// The text for all time with the verdict, or the line of the fault.
 fn foretold(
     alloc: Global,
@@ -99,6 +117,18 @@ fn foretold(
         }
         Err(fault) => Ok((format!(in alloc; "{fault}")?, None)),
     }
+}
+
+#[test]
+fn a_system_is_checked_in_memory(rt: HostRuntime) -> Result<(), Fail> {
+    let options = options(rt.alloc(), 20, 1, &[])?;
+    let system = load(rt.alloc(), LATE.as_bytes())?;
+    let Ok((text, _)) = check_alone(rt.alloc(), system, &options) else {
+        return Err(Fail::from("a refusal"));
+    };
+    let text = str::from_utf8(text.as_slice()).unwrap_or("bytes that are no text");
+    assert_eq!(rt; text, WHAT_IS_LATE);
+    Ok(())
 }
 
 #[test]
@@ -129,6 +159,14 @@ fn a_guest_that_only_computes_spins(rt: HostRuntime) -> Result<(), Fail> {
     let options = options(rt.alloc(), 1_000, 1, &[])?;
     let (text, verdict) = foretold(rt.alloc(), GUEST, &options)?;
     assert_eq!(rt; text.as_str(), FOR_EVER);
+    assert!(rt; verdict == Some(Verdict::Clean));
+    Ok(())
+}
+
+#[test]
+fn a_guest_spins_beside_a_chain(rt: HostRuntime) -> Result<(), Fail> {
+    let options = options(rt.alloc(), 1_000, 1, &[])?;
+    let (_, verdict) = foretold(rt.alloc(), GUEST_AND_CHAIN, &options)?;
     assert!(rt; verdict == Some(Verdict::Clean));
     Ok(())
 }

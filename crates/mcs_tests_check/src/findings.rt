@@ -5,7 +5,7 @@ use mcs_check_words::Show;
 use std::test::Fail;
 
 /// The thread of `LATE` runs in [0, 2), [5, 7) and [10, 11).
-const WHAT_IS_LATE: &str = "\
+pub(crate) const WHAT_IS_LATE: &str = "\
 11 0 miss A round 1 response 11 deadline 10 activated 0 queued 0 ready 0 running 5 throttled 6 blocked 0 server 0
 missed 1 overdue 0 untaken 0 lost 0 never 0 merged 0 allowed 0 unjudged 0 hints 0 threads 1 deadlines 1 judged 1
 ";

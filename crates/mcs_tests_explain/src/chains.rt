@@ -1,7 +1,7 @@
 //! The ways of answers of chains, worked by hand from the rules.
 
 use crate::asked::{options, question};
-use mcs_check_words::Options;
+use mcs_check_words::{Format, Options};
 use mcs_explain::explain_alone;
 use mcs_load::load;
 use std::alloc::Global;
@@ -26,6 +26,13 @@ const FIRST_WAY: &str = "\
 2 0 ran L to 22 ticks 20 ready 0 running 20 throttled 0 blocked 0 server 0
 sum ticks 20 held 0 delay 0 ready 0 running 20 throttled 0 blocked 0 server 0
 ";
+
+/// The same way as JSON, with the thread and the number of its job.
+const FIRST_OBJECTS: &str =
+    r#"{"moment":22,"core":0,"kind":"answer","thread":"L","number":1,"chain":"c","latency":20,"deadline":20,"origin":2}
+{"moment":2,"core":0,"kind":"ran","thread":"L","to":22,"ticks":20,"ready":0,"running":20,"throttled":0,"blocked":0,"server":0}
+{"kind":"sum","ticks":20,"held":0,"delay":0,"ready":0,"running":20,"throttled":0,"blocked":0,"server":0}
+"#;
 
 /// The notification holds the interrupt until L waits again.
 const THIRD_WAY: &str = "\
@@ -60,6 +67,15 @@ fn ways_in_memory(rt: HostRuntime) -> Result<(), Fail> {
     assert_eq!(rt; text.as_str(), FIRST_WAY);
     let text = told(rt.alloc(), &options, "c", "3")?;
     assert_eq!(rt; text.as_str(), THIRD_WAY);
+    Ok(())
+}
+
+#[test]
+fn a_way_as_objects(rt: HostRuntime) -> Result<(), Fail> {
+    let mut options = options(rt.alloc(), 52, 1);
+    options.format = Format::Json;
+    let text = told(rt.alloc(), &options, "c", "1")?;
+    assert_eq!(rt; text.as_str(), FIRST_OBJECTS);
     Ok(())
 }
 
