@@ -27,7 +27,7 @@ const FIRST_WAY: &str = "\
 sum ticks 20 held 0 delay 0 ready 0 running 20 throttled 0 blocked 0 server 0
 ";
 
-/// The same way as JSON, with the thread and the number of its job.
+/// JSON also has the thread and the number of its job.
 const FIRST_OBJECTS: &str =
     r#"{"moment":22,"core":0,"kind":"answer","thread":"L","number":1,"chain":"c","latency":20,"deadline":20,"origin":2}
 {"moment":2,"core":0,"kind":"ran","thread":"L","to":22,"ticks":20,"ready":0,"running":20,"throttled":0,"blocked":0,"server":0}
