@@ -159,7 +159,7 @@ def sentences(cost: Cost) -> list[str]:
     kit = f' with {head["kit"]}' if head.get('kit') else ''
     lines = filled(f'On {head["date"]} `rt ci`{kit} took {minutes(cost)}.')
     if head.get('minutes'):
-        lines += ['', *filled(f'That was {head["minutes"]} minutes on {head["processors"]} processors. By a model, in minutes: {head["by the model"]}.')]
+        lines += ['', *filled(f'It lasted {head["minutes"]} minutes on {head["processors"]} processors. A model gives these minutes: {head["by the model"]}.')]
     took, _, steps = head.get('longest chain', '').partition(': ')
     if steps:
         tasks, _, runs = steps.partition('; ')

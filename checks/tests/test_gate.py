@@ -130,7 +130,7 @@ class Kept(unittest.TestCase):
     def test_the_section_has_sums_chain_table_and_reasons(self) -> None:
         text = gate_cost.section(gate_cost.with_reasons(self.cost, {'high': '9 to 225 CPU seconds'}, {'high': 'it reads files, too'}))
         self.assertIn('took 5 CPU minutes: 2 for proofs, 2 for tests, 1', ' '.join(text.split()))
-        for line in ('That was 7.0 minutes on 4 processors. By a model, in minutes: 3.5 on 2, 3.5 on 4.', '- high tests 90', '- runs of tests and programs 15',
+        for line in ('It lasted 7.0 minutes on 4 processors. A model gives these minutes: 3.5 on 2, 3.5 on 4.', '- high tests 90', '- runs of tests and programs 15',
                      '| `high` | 30 | 90 | 45 | 60 | 2 | 4 |', '- `high`: 9 to 225 CPU seconds: it reads files, too'):
             self.assertIn(line, text.splitlines())
 
