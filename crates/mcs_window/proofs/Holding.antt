@@ -1,9 +1,9 @@
 -- A calendar of idle cores still holds after all cores skip idle time, and after one of them takes
 -- turns without a signal.
-use Rattle.std.proofs.Common.{◌≡◌, ◌≢◌, ℕ, zero, suc, ◌+◌, ◌-◌, ◌<◌, ◌≤◌, false, List, [], ◌∷◌, length, set, inl, inr, refl, sym, ap, subst, ◌∙◌, add-zero, arith}
-use Rattle.std.specs.Prelude.{filter, slice_index}
+use Rattle.std.proofs.Common.{◌≡◌, ◌≢◌, ℕ, zero, suc, ◌+◌, ◌-◌, ◌<◌, ◌≤◌, Bool, true, false, List, [], ◌∷◌, length, set, inl, inr, refl, sym, ap, subst, ◌∙◌, add-zero, arith}
+use Rattle.std.specs.Prelude.{filter, nat_lt, slice_index}
 use Rattle.std.specs.Arc.{arc_value}
-use Rattle.std.proofs.lemmas.Bool.Decides.{eqb_tells}
+use Rattle.std.proofs.lemmas.Bool.Decides.{eqb_tells, nat_tests}
 use Rattle.std.proofs.lemmas.List.{get_or-set_other}
 use Rattle.mcs_ticks.specs.declared.row.Row.{Row}
 use Rattle.mcs_mail.specs.declared.mail.Mail.{Mail}
@@ -51,6 +51,30 @@ module _ (system : System) (c : ℕ) where
     where
       same : (n u v : ℕ) (box other : List Mail) (core k : Core) → u ≡ v → box ≡ other → core ≡ k → IsQuiet system c (u + n) (arriving (u + n) box) (counted_times system c n core) → IsQuiet system c (v + n) (arriving (v + n) other) (counted_times system c n k)
       same n u v box other core k e f g h = rw (sym e, sym f, sym g) h
+
+  -- and was before, if it was idle until it skipped
+  pub idle-back : (clocks later : List ℕ) (b : ℕ) → slice_index clocks c ≤ slice_index later c → OnlyCounts system clocks later c → IsIdle system clocks (slice_index later c) c → IsIdle system later b c → IsIdle system clocks b c
+  idle-back clocks later b l counts first then = λ n k. by n k (nat_lt (slice_index clocks c + n) (slice_index later c)) refl
+    where
+      by : (n : ℕ) → n < b - slice_index clocks c → (u : Bool) → nat_lt (slice_index clocks c + n) (slice_index later c) ≡ u →
+          IsQuiet system c (slice_index clocks c + n) (arriving (slice_index clocks c + n) (inbox system c (slice_index clocks c) clocks))
+          (counted_times system c n (core_at system (world system (slice_index clocks c)) c))
+      by n k true e =
+          let early : slice_index clocks c + n < slice_index later c = grind (arith, nat_tests) in
+          first n (omega arith)
+      by n k false e =
+          let late : slice_index later c ≤ slice_index clocks c + n = grind (arith, nat_tests) in
+          let t = slice_index clocks c in
+          let a = slice_index later c - t in
+          let m = n - a in
+          let there : slice_index later c + m ≡ t + n = omega arith in
+          let many : a + m ≡ n = omega arith in
+          same _ _ _ _ _ _ there counts.same_mail
+          (ap (counted_times system c m) counts.core_is ∙ counted-on m a (core_at system (world system t) c) ∙ ap (λ i. counted_times system c i (core_at system (world system t) c)) many)
+          (then m (omega arith))
+        where
+          same : (u v : ℕ) (box other : List Mail) (core k : Core) → u ≡ v → box ≡ other → core ≡ k → IsQuiet system c u (arriving u box) core → IsQuiet system c v (arriving v other) k
+          same u v box other core k e f g h = rw (sym e, sym f, sym g) h
 
 -- another core takes its turns up to before `to` without a signal
 module _ (system : System) (well : IsWellFormed system) (clocks : List ℕ) (k to : ℕ) (in_clocks : k < length clocks) (known : k < system.cores) (forward : slice_index clocks k ≤ to)

@@ -1,9 +1,9 @@
 -- A core is lent when idle time was skipped.
-use Rattle.std.proofs.Common.{◌≡◌, ℕ, ◌≤◌, ◌+◌, ◌-◌, ◌⊎◌, true, false, Option, Some, None, inl, inr, sym, ap, ◌∙◌, subst, arith}
+use Rattle.std.proofs.Common.{◌≡◌, ℕ, ◌≤◌, ◌+◌, ◌⊎◌, true, false, Option, Some, None, inl, inr, sym, ap, ◌∙◌, subst, arith}
 use Rattle.std.specs.Prelude.{IfSome, IfNone}
 use Rattle.mcs_window.specs.Pieces.{Work}
-use Rattle.mcs_window.specs.Desk.{Table, AllAreHere, IsAwake, IsLent, IsLentWithin, IsChosen, MayLend, lent_to, clock_of, past_of, past_within, turns_left}
-use Rattle.mcs_window.proofs.Lending.{sum-le, past_by-in_time}
+use Rattle.mcs_window.specs.Desk.{Table, IsAwake, IsLent, IsLentWithin, IsChosen, MayLend, lent_to, clock_of, past_of, past_within}
+use Rattle.mcs_window.proofs.Lending.{past_by-in_time}
 
 awake-system : (before table : Table) → IsAwake before table → table.system ≡ before.system
 awake-system before table (inl p) = ap (λ (t : Table). t.system) p.2.rest

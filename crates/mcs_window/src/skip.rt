@@ -10,7 +10,7 @@ use mcs_system::System;
 use mcs_ticks::Tick;
 
 /// Sets each clock before the moment to it. Until then all cores only count ticks.
-pub(crate) fn skip_all(system: &System, clocks: &mut [Tick], states: &mut [CoreState], moment: Tick)
+pub fn skip_all(system: &System, clocks: &mut [Tick], states: &mut [CoreState], moment: Tick)
     requires well_formed { IsWellFormed system.now }
     requires clocks { length clocks.old ≡ system.now.cores }
     requires states { length states.old ≡ system.now.cores }
