@@ -1,4 +1,5 @@
 pub mod Soon
+pub mod Settled
 pub mod Rows
 pub mod Still
 pub mod Moved
@@ -6,5 +7,6 @@ pub mod Turned
 pub mod Opened
 pub mod Counted
 pub mod Stepping
+pub mod Passing
 pub mod Groups
 mod Worked

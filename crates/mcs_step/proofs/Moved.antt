@@ -69,6 +69,7 @@ module _ (system : System) (well : IsWellFormed system) (horizon old before : �
           over = over;
           here = kept.here;
           quiet = kept.quiet;
+          busy = kept.busy;
           ends = kept.ends;
           rest = kept.rest;
           place = record {
@@ -99,7 +100,7 @@ module _ (system : System) (well : IsWellFormed system) (horizon old before : �
 
   -- the first busy turn is the one that comes next
   module _ (place : Place) (first : IsFirst cores.next place) where
-    below : (c : ℕ) → c < system.cores → place.moment ≤ slice_index cores.next c
+    pub below : (c : ℕ) → c < system.cores → place.moment ≤ slice_index cores.next c
     below c known = by (nat_lt c place.core) refl
       where
         by : (u : Bool) → nat_lt c place.core ≡ u → place.moment ≤ slice_index cores.next c
@@ -164,8 +165,25 @@ module _ (system : System) (well : IsWellFormed system) (horizon old before : �
           rows-moved place.moment place.core (let k = known in omega arith) (omega arith) (λ e. absurd (omega arith)) first-ahead
           (λ c l. let h = first.before c l in omega arith) (λ c l k. below c k)
 
-    -- no turn up to the horizon is busy
-    module _ (moment : ℕ) (end : moment ≡ horizon + 1) (late : horizon < place.moment) where
+    -- the first busy time is not past the end
+    pub first-in_time : place.moment ≤ horizon + 1
+    first-in_time = by (nat_lt place.core system.cores) refl
+      where
+        is : slice_index cores.next place.core ≡ place.moment
+        is = first.is
+
+        by : (u : Bool) → nat_lt place.core system.cores ≡ u → place.moment ≤ horizon + 1
+        by true e =
+            let l : place.core < system.cores = grind (arith, nat_tests) in
+            let end = kept.ends place.core l in
+            omega arith
+        by false e =
+            let l : system.cores ≤ place.core = grind (arith, nat_tests) in
+            let end = kept.rest place.core l (let k = first.known in let n = kept.next_of in omega arith) in
+            omega arith
+
+    -- no turn before a moment is busy
+    module _ (moment : ℕ) (in_time : moment ≤ horizon + 1) (later : old ≤ moment) (over : old ≡ moment → before ≡ 0) (late : moment ≤ place.moment) where
       over-ahead : (old < moment) ⊎ ((old ≡ moment) × (before ≤ 0))
       over-ahead = by (nat_lt old moment) refl
         where
@@ -175,17 +193,16 @@ module _ (system : System) (well : IsWellFormed system) (horizon old before : �
               inl l
           by false e =
               let l : moment ≤ old = grind (arith, nat_tests) in
-              let most = kept.in_time in
               let same : old ≡ moment = omega arith in
-              let none = kept.over (omega arith) in
+              let none = over same in
               inr (same, omega arith)
 
       pub over-moved : AreInStep system horizon moment 0 cores
       over-moved =
-          moved moment 0 (omega arith) (omega arith) (λ e. refl) over-ahead
+          moved moment 0 (omega arith) in_time (λ e. refl) over-ahead
           (λ c l. absurd (omega arith)) (λ c l k. let h = below c k in omega arith)
 
       pub over-rows : rows_before system moment 0 ≡ rows_before system old before
       over-rows =
-          rows-moved moment 0 (omega arith) (omega arith) (λ e. refl) over-ahead
+          rows-moved moment 0 (omega arith) in_time (λ e. refl) over-ahead
           (λ c l. absurd (omega arith)) (λ c l k. let h = below c k in omega arith)

@@ -25,7 +25,7 @@ use Rattle.mcs_window.specs.stored.Cores.{IsHere}
 use Rattle.mcs_step.specs.stored.Cores.{Cores, AreInStep}
 use Rattle.mcs_step.proofs.Rows.{none-of}
 
-no-box : Content
+pub no-box : Content
 no-box = record { mails = []; spare = 0 }
 
 module _ (system : System) (well : IsWellFormed system) (horizon old before : ℕ) (cores : Cores) (kept : AreInStep system horizon old before cores) where
@@ -41,12 +41,12 @@ module _ (system : System) (well : IsWellFormed system) (horizon old before : �
       subst (λ ms. AreQuiet system c (slice_index front c) ms (core_at system (world system (slice_index front c)) c) (slice_index cores.next c - slice_index front c))
       (here-at c known (opening_state system c) no-box).box_is (kept.quiet c no-box known)
 
-  are-reached : AreReached system front
+  pub are-reached : AreReached system front
   are-reached c known = (here-at c known (opening_state system c) no-box).reached
 
   -- until a moment that no next busy time is before
   module _ (moment : ℕ) (soonest : (c : ℕ) → c < system.cores → moment ≤ slice_index cores.next c) where
-    are-idle : AreIdle system front moment
+    pub are-idle : AreIdle system front moment
     are-idle c known n l = quiet-inbox c known n (let s = soonest c known in omega arith)
 
     abbrev later : List ℕ

@@ -19,8 +19,8 @@ use Rattle.mcs_stretch.proofs.Ranges.{rows-join}
 use Rattle.mcs_window.specs.stored.Cores.{AreHere, IsHere}
 use Rattle.mcs_window.specs.stored.Delivery.{AreDelivered}
 use Rattle.mcs_window.proofs.Advances.{expected, ran_here, state_here, here_later}
-use Rattle.mcs_step.specs.stored.Cores.{Cores, AreInStep, AreLowered, IsQuietTo, lowered}
-use Rattle.mcs_step.proofs.Soon.{lowered-le, lowered-from, quiet-lowered}
+use Rattle.mcs_step.specs.stored.Cores.{Cores, AreInStep, AreLowered, IsBusyAt, IsQuietTo, lowered}
+use Rattle.mcs_step.proofs.Soon.{busy-lowered, lowered-le, lowered-from, quiet-lowered}
 use Rattle.mcs_step.proofs.Still.{here-at, nothing-arrives, no-rows-so-far}
 
 -- what the core has made at its turn: the state after it, and the mail that is left
@@ -114,7 +114,7 @@ module _ (system : System) (well : IsWellFormed system) (horizon moment core : �
           by home (m, p, q, i) = reached c core m mail known p i home
 
       module _ (full : List Content) (next lowest : List ℕ) (later : ℕ) (next_is : next ≡ set cores.next core later)
-          (quiet : IsQuietTo system after left.mails later) (ahead : past ≤ later) (early : later ≤ horizon + 1)
+          (quiet : IsQuietTo system after left.mails later) (busy_then : later ≤ horizon → IsBusyAt system after left.mails later) (ahead : past ≤ later) (early : later ≤ horizon + 1)
           (delivered : AreDelivered system signals (set cores.boxes core left) full) (lowers : AreLowered system signals next lowest) where
         there : core < length front
         there = let all = kept.clocks_of in omega arith
@@ -199,6 +199,54 @@ module _ (system : System) (well : IsWellFormed system) (horizon moment core : �
           | inr e ↦ other-quiet-after c x p e.1
         ]
 
+        abbrev IsBusyThen : ℕ → ℕ → List Mail → ℕ → Type 0
+        IsBusyThen c clock ms next = next ≤ horizon → ¬ AreQuiet system c clock ms (core_at system (world system clock) c) (next + 1 - clock)
+
+        same-busy : (c clock clock' next next' : ℕ) (ms ms' : List Mail) → clock' ≡ clock → next' ≡ next → ms' ≡ ms → IsBusyThen c clock ms next → IsBusyThen c clock' ms' next'
+        same-busy c clock clock' next next' ms ms' e f g h = rw (e, f, g) h
+
+        own-busy : IsBusyThen core past left.mails later
+        own-busy l = same _ _ _ _ stands-after.number_is stands-after.clock_is (busy_then l (core_at system (world system past) core) stands-after.core_is)
+          where
+            same : (n c u t : ℕ) → n ≡ c → u ≡ t → ¬ AreQuiet system n u left.mails (core_at system (world system past) core) (later + 1 - u) →
+                ¬ AreQuiet system c t left.mails (core_at system (world system past) core) (later + 1 - t)
+            same n c u t e f h = rw (sym e, sym f) h
+
+        busy-more : (c clock next : ℕ) (box : List Mail) → clock ≤ lowered (filter (is_home system c) signals) next → IsBusyThen c clock box next →
+            IsBusyThen c clock (put_all (filter (is_home system c) signals) box) (lowered (filter (is_home system c) signals) next)
+        busy-more c clock next box from was l =
+            busy-lowered system c clock next (core_at system (world system clock) c) box (filter (is_home system c) signals) from (λ e. was (omega arith))
+
+        own-busy-after : (x : Content) → IsBusyThen core (slice_index clocks-after core) (get_or full core x).mails (slice_index lowest core)
+        own-busy-after x =
+            same-busy core past (slice_index clocks-after core) (lowered (filter (is_home system core) signals) later) (slice_index lowest core)
+            (put_all (filter (is_home system core) signals) left.mails) (get_or full core x).mails own-clock (lowest-is core later known own-next)
+            (box-is core x left.mails known (ap (λ (y : Content). y.mails) (get_or-set_same cores.boxes core left x (let all = kept.boxes_of in omega arith))))
+            (busy-more core past later left.mails (let is = lowest-is core later known own-next in let from = lowest-from core later known own-next past ahead (omega arith) in omega arith) own-busy)
+
+        other-busy-after : (c : ℕ) (x : Content) → c < system.cores → c ≢ core → slice_index front c ≤ slice_index lowest c → IsBusyThen c (slice_index clocks-after c) (get_or full c x).mails (slice_index lowest c)
+        other-busy-after c x p h from =
+            same-busy c (slice_index front c) (slice_index clocks-after c) (lowered (filter (is_home system c) signals) (slice_index cores.next c)) (slice_index lowest c)
+            (put_all (filter (is_home system c) signals) (get_or cores.boxes c x).mails) (get_or full c x).mails (other-clock c h) (lowest-is c (slice_index cores.next c) p (other-next c h))
+            (box-is c x (get_or cores.boxes c x).mails p (ap (λ (y : Content). y.mails) (get_or-set_other cores.boxes core c left x h)))
+            (busy-more c (slice_index front c) (slice_index cores.next c) (get_or cores.boxes c x).mails (let is = lowest-is c (slice_index cores.next c) p (other-next c h) in omega arith) (kept.busy c x p))
+
+        -- no clock is past the core's next busy time
+        clock-before : (c : ℕ) → c < system.cores → c ≢ core → slice_index front c ≤ slice_index lowest c
+        clock-before c p apart = elim (lt-or c) [
+          | inl l ↦ (let h = kept.place.done c l in let k = h.0 in let m = h.1 in let from = lowest-from c (slice_index cores.next c) p (other-next c apart) past m (omega arith) in omega arith)
+          | inr l ↦ (let h = kept.place.left c l p in let k = h.0 in let m = h.1 in let from = lowest-from c (slice_index cores.next c) p (other-next c apart) moment m (omega arith) in omega arith)
+        ]
+          where
+            lt-or : (c : ℕ) → (c < core) ⊎ (core ≤ c)
+            lt-or c = grind arith
+
+        busy-after : (c : ℕ) (x : Content) → c < system.cores → IsBusyThen c (slice_index clocks-after c) (get_or full c x).mails (slice_index lowest c)
+        busy-after c x p = elim (eqb_tells c core) [
+          | inl e ↦ subst (λ d. IsBusyThen d (slice_index clocks-after d) (get_or full d x).mails (slice_index lowest d)) (sym e.1) (own-busy-after x)
+          | inr e ↦ other-busy-after c x p e.1 (clock-before c p e.1)
+        ]
+
         ends-after : (c : ℕ) → c < system.cores → slice_index lowest c ≤ horizon + 1
         ends-after c p = elim (eqb_tells c core) [
           | inl e ↦ (let most = lowest-most core later known own-next in subst (λ d. slice_index lowest d ≤ horizon + 1) (sym e.1) (omega arith))
@@ -235,6 +283,7 @@ module _ (system : System) (well : IsWellFormed system) (horizon moment core : �
               over = λ e. absurd (omega arith);
               here = here-after;
               quiet = quiet-after;
+              busy = busy-after;
               ends = ends-after;
               rest = λ c l k. (let apart : c ≢ core = omega arith in lowers.rest c l ∙ other-next c apart ∙ kept.rest c l k);
               place = record { done = done-after; left = left-after };

@@ -1,7 +1,7 @@
 //! When cores are next busy: after their own turns, and once signals are on their way to them.
-ghost use Rattle.std.specs.Prelude.{◌≡◌, ◌≤◌, length, false, All, OnOk};
+ghost use Rattle.std.specs.Prelude.{◌≡◌, ◌≤◌, ◌<◌, length, false, All, OnOk};
 ghost use Rattle.mcs_core.specs.State.{Fits, IsExpected};
-ghost use Rattle.mcs_step.specs.stored.Cores.{AreLowered, IsQuietTo};
+ghost use Rattle.mcs_step.specs.stored.Cores.{AreLowered, IsBusyAt, IsQuietTo};
 ghost use Rattle.mcs_window.specs.stored.Delivery.{AreDelivered};
 
 use crate::calendar::Calendar;
@@ -18,6 +18,7 @@ pub(crate) fn next_of(system: &System, state: &CoreState, mail: &Mailbox, end: T
     requires expected { All (IsExpected system.now state.now) mail.now.mails }
     requires in_time { state.now.clock ≤ end }
     ensures quiet { IsQuietTo system.now state.now mail.now.mails result }
+    ensures busy { result < end → IsBusyAt system.now state.now mail.now.mails result }
     ensures later { state.now.clock ≤ result }
     ensures early { result ≤ end }
 {

@@ -1,6 +1,8 @@
-ghost use Rattle.std.specs.Prelude.{◌≡◌, ◌≤◌, ◌<◌, ◌+◌, ◌^◌, ◌⊎◌, ◌↔◌, true, false, IfOk, OnOk, OnErr, IsTrue, IsFalse};
+ghost use Rattle.std.specs.Prelude.{◌≡◌, ◌≤◌, ◌<◌, ◌+◌, ◌^◌, ◌⊎◌, ◌↔◌, true, false, replicate, slice_index, IfOk, OnOk, OnErr, IsTrue, IsFalse};
 ghost use Rattle.std.specs.Arc.{arc_value};
-ghost use Rattle.mcs_step.specs.Steps.{opening_steps, places_left, IsOnSchedule, IsOver, IsToldBetween};
+ghost use Rattle.mcs_stretch.specs.Idle.{IsIdleUntil};
+ghost use Rattle.mcs_stretch.specs.Stretch.{StandsAt};
+ghost use Rattle.mcs_step.specs.Steps.{opening_steps, places_left, rows_so_far, AreAfter, IsOnSchedule, IsOver, IsToldBetween, IsUpTo};
 
 use crate::busy::{deliver, next_of};
 use crate::calendar::{Calendar, Place};
@@ -8,6 +10,7 @@ use mcs_core::CoreState;
 use mcs_mail::{Mail, Mailbox};
 use mcs_system::System;
 use mcs_ticks::{CoreId, Measured, NoMemory, Sink, Tick};
+use mcs_window::skip_all;
 use std::alloc::Global;
 use std::marker::Model;
 use std::sync::Arc;
@@ -26,6 +29,8 @@ pub struct InStep {
     states: Vec<CoreState>,
     boxes: Vec<Mailbox>,
     next: Calendar,
+    /// The first busy turn of `next`.
+    first: Place,
     signals: Vec<Mail>,
 }
 
@@ -60,6 +65,7 @@ impl InStep {
             states.push(state)?;
             boxes.push(mail)?;
         }
+        let first = next.first();
         let place = Place {
             moment: Tick::ZERO,
             core: 0,
@@ -73,13 +79,15 @@ impl InStep {
             states,
             boxes,
             next,
+            first,
             signals: Vec::new(alloc),
         })
     }
 
     /// The time before which all turns were taken.
     pub fn moment(&self) -> Tick
-        ensures { result ≡ self.now.moment }
+        ensures value { result ≡ self.now.moment }
+        ensures in_time { self.now.failed ≡ false → result ≤ self.now.horizon + 1 }
     {
         self.place.moment
     }
@@ -92,24 +100,31 @@ impl InStep {
         self.place.moment.get() > self.horizon.get()
     }
 
-    /// Takes the next busy turn. Returns whether there was one up to the horizon.
+    /// Whether a call ran out of memory. No more turns can be taken then.
+    pub fn failed(&self) -> bool
+        ensures { result ≡ self.now.failed }
+    {
+        self.failed
+    }
+
+    /// Takes the next busy turn, if it comes at `last` or before. Returns whether it does. If not,
+    /// every core has taken its turn at `last`.
     #[inline(always)]
-    fn step<S: Sink>(&mut self, told: &mut S) -> Result<bool, NoMemory>
-        requires { self.old.failed ≡ false }
+    fn step<S: Sink>(&mut self, last: Tick, told: &mut S) -> Result<bool, NoMemory>
+        requires { IsUpTo last self.old }
         ensures run { (self.new.system ≡ self.old.system) × (self.new.horizon ≡ self.old.horizon) }
         ensures told { OnOk result (IsToldBetween S.takes self.old self.new told.old told.new) }
-        ensures going { OnOk result (self.new.failed ≡ false) }
+        ensures up_to { OnOk result (IsUpTo last self.new) }
         ensures on_schedule { OnOk result (IsOnSchedule self.new) }
         ensures fewer { IfOk result (λ more. IsTrue more → places_left self.new < places_left self.old) }
-        ensures ends { OnOk result (IsOver self.old ⊎ (places_left self.new < places_left self.old)) }
-        ensures over { IfOk result (λ more. IsFalse more → IsOver self.new) }
+        ensures ends { OnOk result (AreAfter last self.old ⊎ (places_left self.new < places_left self.old)) }
+        ensures after { IfOk result (λ more. IsFalse more → AreAfter last self.new) }
         ensures failed { OnErr result (self.new.failed ≡ true) }
     {
-        let place = self.next.first();
-        let end = Tick::at(self.horizon.get() + 1);
-        if place.moment.get() > self.horizon.get() {
+        let place = self.first;
+        if place.moment.get() > last.get() {
             self.place = Place {
-                moment: end,
+                moment: Tick::at(last.get() + 1),
                 core: 0,
             };
             return Ok(false);
@@ -118,6 +133,7 @@ impl InStep {
         self.signals.clear();
         let core = place.core;
         let past = Tick::at(place.moment.get() + 1);
+        let end = Tick::at(self.horizon.get() + 1);
         let state = &mut self.states[core];
         let mail = &mut self.boxes[core];
         let Ok(()) = state.run_to(&self.system, mail, past, told, &mut self.signals) else {
@@ -126,6 +142,7 @@ impl InStep {
         let moment = next_of(&self.system, &self.states[core], &self.boxes[core], end);
         self.next.set(core, moment);
         deliver(&self.system, &mut self.boxes, &mut self.next, &self.signals)?;
+        self.first = self.next.first();
         self.clocks[core] = past;
         self.place = Place {
             moment: place.moment,
@@ -151,11 +168,78 @@ impl InStep {
         ensures enough { OnOk result (IsOver self.new ⊎ (enough ≤ S.size told.new)) }
         ensures failed { OnErr result (self.new.failed ≡ true) }
     {
-        'turns: while self.step(told)? {
+        let last = self.horizon;
+        'turns: while self.step(last, told)? {
             if told.size() >= enough {
                 return Ok(());
             }
         }
         Ok(())
+    }
+
+    /// Takes all turns up to those at `last`, at most the horizon. The sink is given the rows of
+    /// the schedule, in order.
+    ///
+    /// If memory runs out, or the sink refuses a row, the cores are spent: no more turns can be
+    /// taken.
+    pub fn go_past<S: Sink>(&mut self, last: Tick, told: &mut S) -> Result<(), NoMemory>
+        requires { IsUpTo last self.old }
+        ensures run { (self.new.system ≡ self.old.system) × (self.new.horizon ≡ self.old.horizon) }
+        ensures told { OnOk result (IsToldBetween S.takes self.old self.new told.old told.new) }
+        ensures going { OnOk result (self.new.failed ≡ false) }
+        ensures after { OnOk result (AreAfter last self.new) }
+        ensures failed { OnErr result (self.new.failed ≡ true) }
+    {
+        'turns: while self.step(last, told)? {}
+        Ok(())
+    }
+
+    /// The first moment from now on at which some core does more than count a tick, at most one
+    /// past the horizon. No turn at the present moment may have been taken.
+    pub fn idle_until(&self) -> Tick
+        requires going { self.now.failed ≡ false }
+        requires first { self.now.core ≡ 0 }
+        ensures moment { IsIdleUntil self.now.system (replicate self.now.system.cores self.now.moment) (self.now.horizon + 1) result }
+        ensures later { self.now.moment ≤ result }
+    {
+        self.first.moment
+    }
+
+    /// Skips idle time: moves on to the moment of `idle_until`, and returns it. The schedule has no
+    /// row meanwhile.
+    pub fn skip(&mut self) -> Tick
+        requires going { self.old.failed ≡ false }
+        requires first { self.old.core ≡ 0 }
+        ensures moment { IsIdleUntil self.old.system (replicate self.old.system.cores self.old.moment) (self.old.horizon + 1) result }
+        ensures later { self.old.moment ≤ result }
+        ensures place { self.new ≡ record self.old { moment = result } }
+        ensures no_rows { rows_so_far self.new ≡ rows_so_far self.old }
+    {
+        let moment = self.first.moment;
+        self.place = Place { moment, core: 0 };
+        moment
+    }
+
+    /// Lets the idle cores count their ticks up to the present moment, before the first turn at it.
+    pub fn settle(&mut self)
+        requires going { self.old.failed ≡ false }
+        requires first { self.old.core ≡ 0 }
+        ensures { self.new ≡ record self.old { clocks = replicate self.old.system.cores self.old.moment } }
+    {
+        skip_all(
+            &self.system,
+            self.clocks.as_mut_slice(),
+            self.states.as_mut_slice(),
+            self.place.moment,
+        );
+    }
+
+    /// The state of a core at its clock, as on the clock over all cores.
+    pub fn state(&self, core: CoreId) -> &CoreState
+        requires going { self.now.failed ≡ false }
+        requires known { core < self.now.system.cores }
+        ensures { StandsAt self.now.system core (slice_index self.now.clocks core) result.now }
+    {
+        &self.states[core.0]
     }
 }

@@ -1,5 +1,6 @@
 -- The invariant of all cores between two turns: each has, at its clock, the state of the global
--- clock, and it only counts ticks until its next busy time. So its clock may lag.
+-- clock, and it only counts ticks until its next busy time. So its clock may lag. A busy time up to
+-- the horizon is one at which it does more.
 use Rattle.std.specs.Prelude.{◌≡◌, ℕ, ◌+◌, ◌-◌, ◌<◌, ◌≤◌, ◌^◌, min, false, List, [], ◌∷◌, filter, length, slice_index, slice_index_or}
 use Rattle.std.specs.Arc.{arc_value}
 use Rattle.mcs_mail.specs.declared.mail.Mail.{Mail}
@@ -13,6 +14,7 @@ use Rattle.mcs_core.specs.State.{State}
 use Rattle.mcs_stretch.specs.Inbox.{is_home}
 use Rattle.mcs_window.specs.stored.Cores.{AreHere}
 use Rattle.mcs_step.specs.Steps.{Steps}
+use Rattle.mcs_step.specs.stored.Places.{IsFirst}
 use Rattle.mcs_step.specs.declared.in_step.InStep.TheInside.{Inside}
 
 -- the clock, the state, the mail and the next busy time of each core; there are 64 such times
@@ -26,6 +28,12 @@ pub record Cores : Type 0 where
 abbrev pub IsQuietTo : System → State → List Mail → ℕ → Type 0
 IsQuietTo system state box next =
     (core : Core) → state.core ≡ shown core → AreQuiet system state.number state.clock box core (next - state.clock)
+
+-- and it does more at `next`
+abbrev pub IsBusyAt : System → State → List Mail → ℕ → Type 0
+IsBusyAt system state box next =
+    (core : Core) → state.core ≡ shown core →
+    ¬ AreQuiet system state.number state.clock box core (next + 1 - state.clock)
 
 -- the clocks and the next busy times at a place: the cores below number `core` have taken their
 -- turn at the moment, the others have not, and turns that only count a tick may be left out
@@ -47,6 +55,10 @@ pub record AreInStep (system : System) (horizon moment core : ℕ) (cores : Core
       AreQuiet system c (slice_index cores.clocks c) (slice_index_or cores.boxes c box).mails
       (core_at system (world system (slice_index cores.clocks c)) c)
       (slice_index cores.next c - slice_index cores.clocks c)
+  pub busy : (c : ℕ) (box : Content) → c < system.cores → slice_index cores.next c ≤ horizon →
+      ¬ AreQuiet system c (slice_index cores.clocks c) (slice_index_or cores.boxes c box).mails
+      (core_at system (world system (slice_index cores.clocks c)) c)
+      (slice_index cores.next c + 1 - slice_index cores.clocks c)
   pub ends : (c : ℕ) → c < system.cores → slice_index cores.next c ≤ horizon + 1
   pub rest : (c : ℕ) → system.cores ≤ c → c < 64 → slice_index cores.next c ≡ horizon + 1
   pub place : AreAtPlace system.cores moment core cores.clocks cores.next
@@ -74,6 +86,7 @@ steps_of a =
       horizon = a.horizon;
       moment = a.place.moment;
       core = a.place.core;
+      clocks = a.clocks.items;
       failed = a.failed;
     }
 
@@ -82,3 +95,4 @@ pub record IsKept (a : Inside) : Type 0 where
   pub well_formed : IsWellFormed (arc_value a.system)
   pub in_step : a.failed ≡ false
       → AreInStep (arc_value a.system) a.horizon a.place.moment a.place.core (cores_of a)
+  pub first : a.failed ≡ false → IsFirst a.next a.first

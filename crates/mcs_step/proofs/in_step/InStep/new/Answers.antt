@@ -4,7 +4,7 @@ use Rattle.mcs_core.specs.State.{Fits, opening_state}
 use Rattle.mcs_system.specs.System.{System}
 use Rattle.mcs_system.specs.WellFormed.{IsWellFormed}
 use Rattle.mcs_window.proofs.Openings.{opening-more, empty_boxes-more}
-use Rattle.mcs_step.specs.stored.Cores.{IsQuietTo}
+use Rattle.mcs_step.specs.stored.Cores.{IsBusyAt, IsQuietTo}
 use Rattle.mcs_step.proofs.Opened.{AreFirstQuiet, first-quiet, quiet-more, opened}
 use Rattle.mcs_step.proofs.in_step.InStep.new.Goals as goal
 
@@ -20,12 +20,13 @@ loop-core-preserved c =
     let is : state ≡ opening_state s k = (let P : System → Type 0 = λ s. state ≡ opening_state s k in subst P c.deref-in-loop-core.ensures c.in_ok-state.ensures.state) in
     let fits : Fits s state = (let P : System → Type 0 = λ s. Fits s state in subst P c.deref-in-loop-core.ensures c.in_ok-state.ensures.fits) in
     let quiet : IsQuietTo s state c.new-mail.result.mails c.next_of.result = (let P : System → Type 0 = λ s. IsQuietTo s state c.new-mail.result.mails c.next_of.result in subst P c.deref-in-loop-core-2.ensures c.next_of.ensures.quiet) in
+    let busy : c.next_of.result ≤ c.args.horizon → IsBusyAt s state c.new-mail.result.mails c.next_of.result = (λ l. let P : System → Type 0 = λ s. IsBusyAt s state c.new-mail.result.mails c.next_of.result in subst P c.deref-in-loop-core-2.ensures (c.next_of.ensures.busy (let end : c.at-end.result ≡ c.args.horizon + 1 = search rules in omega arith))) in
     let early : c.next_of.result ≤ c.args.horizon + 1 = search rules in
     record {
       states = opening-more s k c.loop-core.states.items c.push.new.self.items state c.loop-core.invariant.states is fits c.in_ok-push.ensures.items;
       boxes = empty_boxes-more k c.loop-core.boxes.items c.push-in-loop-core.new.self.items c.new-mail.result c.loop-core.invariant.boxes c.new-mail.ensures c.in_ok-push-2.ensures.items;
       next = subst (AreFirstQuiet s c.args.horizon (k + 1)) (sym c.set.ensures)
-          (quiet-more s c.args.horizon k c.loop-core.next c.loop-core.invariant.next known (omega arith) state is fits c.new-mail.result.mails c.new-mail.ensures c.next_of.result quiet early);
+          (quiet-more s c.args.horizon k c.loop-core.next c.loop-core.invariant.next known (omega arith) state is fits c.new-mail.result.mails c.new-mail.ensures c.next_of.result quiet busy early);
     }
 
 pub invariant_of-result : goal.invariant_of-result
@@ -41,6 +42,7 @@ invariant_of-result c =
       horizon = c.requires;
       well_formed = well;
       in_step = λ e. opened s c.args.horizon _ few clocks (rw all at inv.states) (rw all at inv.boxes) (rw all at inv.next);
+      first = λ e. c.first-first.ensures;
     }
 
 pub loop-core-init : goal.loop-core-init
