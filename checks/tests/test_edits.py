@@ -53,8 +53,8 @@ ALWAYS_TRIED = (
     'mcs_ever_again/signals_see_forgets_the_row',
     'mcs_ever_again/shifts_between_leaves_the_signals_out',
     'mcs_ever_found/endless_endless_round_counts_rounds_of_thread_0',
+    'mcs_ever_search/lockstep_settle_leaves_the_idle_cores_behind',
     'mcs_ever_search/search_recurs_lets_an_order_pass',
-    'mcs_ever_search/turns_take_turns_leaves_the_first_core_behind',
     # for all time: what is said of it
     'mcs_ever_told/tell_push_clean_forgets_a_finding',
     'mcs_check_forever/verdict_of_takes_open_for_clean',

@@ -53,6 +53,13 @@ failed-kept a kept cores seen =
       going = λ still. cc;
     }
 
+-- all of the cores but whether they are settled
+with-settled : (cores : Together) (system : System) (horizon clock : ℕ) (settled : Bool) →
+    cores ≡ record { system = system; horizon = horizon; clock = clock; settled = settled; failed = false } →
+    cores ≡ record { system = system; horizon = horizon; clock = clock; settled = cores.settled; failed = false }
+with-settled cores system horizon clock settled e =
+    e ∙ ap (λ (b : Bool). record { system = system; horizon = horizon; clock = clock; settled = b; failed = false }) (sym (ap (λ (t : Together). t.settled) e))
+
 module _ (a : Inside) (kept : IsKept a) (going : a.failed ≡ false) where
   now : IsGoing a
   now = kept.going going
@@ -76,8 +83,49 @@ module _ (a : Inside) (kept : IsKept a) (going : a.failed ≡ false) where
   pub course-is : a.seen.course ≡ course_of (arc_value a.system) (past_before (arc_value a.system) a.lockstep.clock)
   course-is = now.seen.course ∙ ap (λ (t : ℕ). course_of (arc_value a.system) (past_before (arc_value a.system) t)) (sym clock-is)
 
-  pub lockstep-is : a.lockstep ≡ record { system = arc_value a.system; horizon = a.horizon; clock = a.clock; failed = false }
+  pub lockstep-is : a.lockstep ≡ record { system = arc_value a.system; horizon = a.horizon; clock = a.clock; settled = a.lockstep.settled; failed = false }
   lockstep-is = now.lockstep
+
+  -- idle cores count their ticks
+  pub settled-kept : (cores : Together) → cores ≡ record a.lockstep { settled = true } → IsKept (record a { lockstep = cores })
+  settled-kept cores e =
+      record {
+        horizon = kept.horizon;
+        in_time = kept.in_time;
+        well_formed = kept.well_formed;
+        orders = kept.orders;
+        first = kept.first;
+        kept = kept.kept;
+        in_order = kept.in_order;
+        going = λ still.
+            record {
+              lockstep = with-settled cores (arc_value a.system) a.horizon a.clock true (e ∙ ap (λ (t : Together). record t { settled = true }) now.lockstep);
+              seen = now.seen;
+            };
+      }
+
+  -- what holds of the cores then
+  module _ (cores : Together) (e : cores ≡ record a.lockstep { settled = true }) where
+    clock-same : cores.clock ≡ a.lockstep.clock
+    clock-same = ap (λ (t : Together). t.clock) e
+
+    pub settled-same : cores.system ≡ arc_value a.system
+    settled-same = ap (λ (t : Together). t.system) e ∙ same
+
+    pub settled-whole : cores.failed ≡ false
+    settled-whole = ap (λ (t : Together). t.failed) e ∙ whole
+
+    pub settled-mails : UnderWayIsTold (arc_value a.system) → a.seen.under_way ≡ (world (arc_value a.system) cores.clock).mails
+    settled-mails law = mails-are law ∙ ap (λ (t : ℕ). (world (arc_value a.system) t).mails) (sym clock-same)
+
+    pub settled-watch : a.seen.watch ≡ watch_before (arc_value a.system) cores.clock
+    settled-watch = watch-is ∙ ap (watch_before (arc_value a.system)) (sym clock-same)
+
+    pub settled-course : a.seen.course ≡ course_of (arc_value a.system) (past_before (arc_value a.system) cores.clock)
+    settled-course = course-is ∙ ap (λ (t : ℕ). course_of (arc_value a.system) (past_before (arc_value a.system) t)) (sym clock-same)
+
+    pub settled-clock : cores.clock ≡ a.clock
+    settled-clock = clock-same ∙ clock-is
 
   -- idle time passes
   pub skipped-kept : RowsTellTurns (arc_value a.system) → (moment : ℕ) (cores : Together) (seen : Seen) → a.lockstep.clock ≤ moment →
@@ -106,7 +154,7 @@ module _ (a : Inside) (kept : IsKept a) (going : a.failed ≡ false) where
         in_order = (let l = kept.in_order in omega (arith, l, later));
         going = λ whole_still.
             record {
-              lockstep = at ∙ ap (λ (t : Together). together.at_moment t moment) now.lockstep;
+              lockstep = with-settled cores (arc_value a.system) a.horizon moment false (at ∙ ap (λ (t : Together). together.at_moment t moment) now.lockstep);
               seen = has-seen-none s tell k a.clock moment seen kept.in_order later rows
                   (went s (rows_before s a.clock) (told_between s k a.clock) a.clock now.seen later);
             };
@@ -147,9 +195,9 @@ module _ (a : Inside) (kept : IsKept a) (going : a.failed ≡ false) where
         in_order = (let l = kept.in_order in omega (arith, l, later));
         going = λ still.
             record {
-              lockstep =
-                  at ∙ ap (λ (x : Together). together.at_moment x (x.clock + 1)) now.lockstep
-                  ∙ ap (λ (n : ℕ). record { system = s; horizon = a.horizon; clock = n; failed = false }) (sym next-is);
+              lockstep = with-settled cores s a.horizon next false
+                  (at ∙ ap (λ (x : Together). together.at_moment x (x.clock + 1)) now.lockstep
+                  ∙ ap (λ (n : ℕ). record { system = s; horizon = a.horizon; clock = n; settled = false; failed = false }) (sym next-is));
               seen = has-seen s tell k t next made seen kept.in_order later more
                   (went s (rows_before s t ++ made) (told_between s k t ++ whats made) t after later);
             };
@@ -220,7 +268,7 @@ module _ (a : Inside) (starts : a.clock ≡ 0) (opened : a.lockstep ≡ together
         in_order = omega (arith, starts, at);
         going = λ still.
             record {
-              lockstep = opened ∙ ap (λ (t : ℕ). record { system = s; horizon = a.horizon; clock = t; failed = false }) (sym starts);
+              lockstep = with-settled a.lockstep s a.horizon a.clock true (opened ∙ ap (λ (t : ℕ). record { system = s; horizon = a.horizon; clock = t; settled = true; failed = false }) (sym starts));
               seen = subst Q (sym starts) (subst P (sym (told-none s 0) ∙ ap (λ (m : ℕ). told_between s m 0) (sym at)) seen);
             };
       }

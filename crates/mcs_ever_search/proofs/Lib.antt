@@ -1,7 +1,5 @@
 pub mod Standing
 pub mod Turning
-pub mod Idling
-pub mod Skipping
 mod WorkedTurns
 pub mod Seeing
 pub mod Going

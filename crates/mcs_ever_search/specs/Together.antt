@@ -5,23 +5,26 @@ use Rattle.mcs_system.specs.System.{System}
 use Rattle.mcs_core.specs.Clock.{clock, rows_of}
 use Rattle.mcs_laws.specs.Turns.{cores}
 
--- `clock`: the time of the next turn; `failed`: memory ran out for a turn
+-- `clock`: the time of the next turn; `settled`: no state of an idle core lags; `failed`: memory ran
+-- out for a turn
 pub record Together : Type 0 where
   pub system : System
   pub horizon : ℕ
   pub clock : ℕ
+  pub settled : Bool
   pub failed : Bool
 
 abbrev pub opening : System → ℕ → Together
-opening system horizon = record { system = system; horizon = horizon; clock = 0; failed = false }
+opening system horizon =
+    record { system = system; horizon = horizon; clock = 0; settled = true; failed = false }
 
 -- the cores move to another moment
 abbrev pub at_moment : Together → ℕ → Together
-at_moment together moment = record together { clock = moment }
+at_moment together moment = record together { clock = moment; settled = false }
 
 -- memory ran out for a turn
 abbrev pub with_failed : Together → Together
-with_failed together = record together { failed = true }
+with_failed together = record together { settled = false; failed = true }
 
 module _ (system : System) where
   -- the clocks of all cores before moment t

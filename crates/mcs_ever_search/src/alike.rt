@@ -1,4 +1,4 @@
-ghost use Rattle.std.specs.Prelude.{◌≡◌, ℕ, ◌<◌, false, map, length, IsTrue};
+ghost use Rattle.std.specs.Prelude.{◌≡◌, ℕ, ◌<◌, true, false, map, length, IsTrue};
 ghost use Rattle.mcs_core.specs.Clock.{core_shown, world};
 ghost use Rattle.mcs_ever.specs.Later.{Shift};
 ghost use Rattle.mcs_laws.specs.Turns.{cores};
@@ -21,6 +21,7 @@ pub(crate) fn may_stand_again(
 ) -> bool
     requires same { lockstep.now.system ≡ system.now }
     requires going { lockstep.now.failed ≡ false }
+    requires settled { lockstep.now.settled ≡ true }
     requires many { length before.now ≡ system.now.cores }
     ensures { (kept : ℕ) (shifts : ℕ → Shift) → before.now ≡ map (core_shown system.now (world system.now kept)) (cores system.now) →
         CoresAreLater system.now kept lockstep.now.clock group.now shifts → IsTrue result }

@@ -1,4 +1,4 @@
-ghost use Rattle.std.specs.Prelude.{◌≡◌, ◌<◌, [], false};
+ghost use Rattle.std.specs.Prelude.{◌≡◌, ◌<◌, [], true, false};
 
 use crate::lockstep::Lockstep;
 use mcs_ever::CoreSet;
@@ -14,6 +14,7 @@ fn gap(no_mail: &Mailbox, system: &System, lockstep: &Lockstep, core: CoreId) ->
     requires known { core < system.now.cores }
     requires same { lockstep.now.system ≡ system.now }
     requires going { lockstep.now.failed ≡ false }
+    requires settled { lockstep.now.settled ≡ true }
     requires none { no_mail.now.mails ≡ [] }
 {
     let next = lockstep.state(core).next_busy(system, no_mail)?;
@@ -33,6 +34,7 @@ impl Gaps {
     pub(crate) fn new(alloc: Global, system: &System, lockstep: &Lockstep) -> Result<Self, NoMemory>
         requires same { lockstep.now.system ≡ system.now }
         requires going { lockstep.now.failed ≡ false }
+        requires settled { lockstep.now.settled ≡ true }
     {
         let no_mail = Mailbox::new(alloc);
         let count = system.parts().cores;
@@ -62,6 +64,7 @@ impl Gaps {
     ) -> bool
         requires same { lockstep.now.system ≡ system.now }
         requires going { lockstep.now.failed ≡ false }
+        requires settled { lockstep.now.settled ≡ true }
     {
         let no_mail = Mailbox::new(alloc);
         for core in 0..system.parts().cores {

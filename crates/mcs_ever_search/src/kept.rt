@@ -1,4 +1,4 @@
-ghost use Rattle.std.specs.Prelude.{◌≡◌, false, IfOk};
+ghost use Rattle.std.specs.Prelude.{◌≡◌, true, false, IfOk};
 ghost use Rattle.mcs_core.specs.Clock.{world};
 ghost use Rattle.mcs_ever_found.specs.Recurs.{past_before, watch_before};
 ghost use Rattle.mcs_ever_found.specs.Course.{course_of};
@@ -6,6 +6,7 @@ ghost use Rattle.mcs_ever_search.specs.stored.Kept.{IsKeptOf};
 
 use crate::gaps::Gaps;
 use crate::lockstep::Lockstep;
+use crate::runners::Runners;
 use crate::seen::Seen;
 use crate::snapshot::snapshot;
 use mcs_ever_again::Snapshot;
@@ -21,6 +22,7 @@ use std::alloc::Global;
 pub(crate) struct Kept {
     pub(crate) snapshot: Snapshot,
     pub(crate) gaps: Gaps,
+    pub(crate) runners: Runners,
     pub(crate) watch: Watch,
     pub(crate) course: Course,
 }
@@ -35,6 +37,7 @@ impl Kept {
     ) -> Result<Self, NoMemory>
         requires same { lockstep.now.system ≡ system.now }
         requires going { lockstep.now.failed ≡ false }
+        requires settled { lockstep.now.settled ≡ true }
         requires mails { seen.now.under_way ≡ (world system.now lockstep.now.clock).mails }
         requires watch { seen.now.watch ≡ watch_before system.now lockstep.now.clock }
         requires course { seen.now.course ≡ course_of system.now (past_before system.now lockstep.now.clock) }
@@ -44,6 +47,7 @@ impl Kept {
         Ok(Kept {
             snapshot: snapshot(alloc, system, lockstep, &seen.under_way)?,
             gaps: Gaps::new(alloc, system, lockstep)?,
+            runners: Runners::new(alloc, system, lockstep)?,
             watch: seen.watch.copy(alloc)?,
             course: seen.course.copy(alloc)?,
         })

@@ -10,6 +10,7 @@ mod lockstep;
 mod orders;
 mod repeats;
 mod rest;
+mod runners;
 mod sampling;
 mod search;
 mod seen;

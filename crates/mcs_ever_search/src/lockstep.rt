@@ -6,20 +6,22 @@ ghost use Rattle.mcs_ever_search.specs.Together.{opening, at_moment, with_failed
 
 use crate::turns::append_turns;
 use mcs_core::CoreState;
+use mcs_step::InStep;
 use mcs_system::System;
-use mcs_ticks::{CoreId, NoMemory, Row, Tick};
-use mcs_window::Cores;
+use mcs_ticks::{CoreId, NoMemory, Row, ThreadId, Tick};
 use std::alloc::Global;
 use std::marker::Model;
 use std::sync::Arc;
 
-/// All cores of a system at one time, up to a horizon.
+/// All cores of a system at one time, up to a horizon. Cores that only count ticks take no turns:
+/// their states lag until the cores are settled.
 #[derive(Drop)]
 pub struct Lockstep {
     system: Arc<System>,
-    cores: Cores,
+    steps: InStep,
     clock: Tick,
     horizon: Tick,
+    settled: bool,
     /// The rows of a moment, before they are appended to others.
     made: Vec<Row>,
     failed: bool,
@@ -44,13 +46,14 @@ impl Lockstep {
         ensures { IfOk result (λ lockstep. lockstep ≡ opening (arc_value system) horizon) }
     {
         let shared = Arc::try_clone(&system)?;
-        let cores = Cores::new(alloc, shared, horizon)?;
+        let steps = InStep::new(alloc, shared, horizon)?;
         let _parts = system.parts();
         Ok(Lockstep {
             system,
-            cores,
+            steps,
             clock: Tick::ZERO,
             horizon,
+            settled: true,
             made: Vec::new(alloc),
             failed: false,
         })
@@ -64,6 +67,15 @@ impl Lockstep {
         self.clock
     }
 
+    /// The first moment from now on at which some core does more than count a tick, at most one
+    /// past the horizon. No turn may have run out of memory.
+    pub(crate) fn idle_until(&self) -> Tick
+        requires { self.now.failed ≡ false }
+        ensures { IsIdleUntil self.now.system (clocks_at self.now.system self.now.clock) (self.now.horizon + 1) result }
+    {
+        self.steps.idle_until()
+    }
+
     /// Whether a turn ran out of memory. Each later call then returns `NoMemory` too.
     pub fn failed(&self) -> bool
         ensures { result ≡ self.now.failed }
@@ -71,14 +83,40 @@ impl Lockstep {
         self.failed
     }
 
-    /// The state of a core before its turn at `clock`, as on the clock over all cores. No turn may
+    /// Whether the state of each core is that before the moment.
+    pub(crate) fn settled(&self) -> bool
+        ensures { result ≡ self.now.settled }
+    {
+        self.settled
+    }
+
+    /// Lets the idle cores count their ticks up to the moment. It allocates no memory. No turn may
     /// have run out of memory.
+    pub fn settle(&mut self)
+        requires { self.old.failed ≡ false }
+        ensures { self.new ≡ record self.old { settled = true } }
+    {
+        self.steps.settle();
+        self.settled = true;
+    }
+
+    /// The thread that runs on a core, if one does.
+    pub(crate) fn runner(&self, core: CoreId) -> Option<ThreadId>
+        requires known { core < self.now.system.cores }
+        requires whole { self.now.failed ≡ false }
+    {
+        self.steps.state(core).running().map(|chosen| chosen.thread)
+    }
+
+    /// The state of a core before its turn at `clock`, as on the clock over all cores. The cores
+    /// must be settled, and no turn may have run out of memory.
     pub fn state(&self, core: CoreId) -> &CoreState
         requires known { core < self.now.system.cores }
         requires whole { self.now.failed ≡ false }
+        requires settled { self.now.settled ≡ true }
         ensures { StandsAt self.now.system core self.now.clock result.now }
     {
-        self.cores.state(core)
+        self.steps.state(core)
     }
 
     /// Skips idle time: moves all cores to the first moment, from `clock` on, at which some core
@@ -98,8 +136,9 @@ impl Lockstep {
         if self.failed {
             return Err(NoMemory);
         }
-        let moment = self.cores.skip_idle()?;
+        let moment = self.steps.skip();
         self.clock = moment;
+        self.settled = false;
         Ok(moment)
     }
 
@@ -120,8 +159,8 @@ impl Lockstep {
             return Err(NoMemory);
         }
         self.failed = true;
-        let clock = self.clock;
-        append_turns(&self.system, &mut self.cores, clock, &mut self.made, rows)?;
+        self.settled = false;
+        append_turns(&mut self.steps, &mut self.made, rows)?;
         self.clock = self.clock.plus(1).unwrap();
         self.failed = false;
         Ok(())

@@ -105,6 +105,7 @@ pub fn find_repeats(
     while compared.clock() <= horizon && is_any_left(told.as_slice()) {
         sampling.go_on(alloc, &mut compared, &mut rows)?;
         rows.clear();
+        compared.settle();
         compare(alloc, &compared, groups, told.as_mut_slice())?;
     }
     Ok(told)

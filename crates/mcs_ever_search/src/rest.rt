@@ -1,4 +1,4 @@
-ghost use Rattle.std.specs.Prelude.{◌≡◌, ℕ, ◌<◌, [], false, None, IsTrue};
+ghost use Rattle.std.specs.Prelude.{◌≡◌, ℕ, ◌<◌, [], true, false, None, IsTrue};
 ghost use Rattle.mcs_core.specs.Clock.{core_at, world};
 ghost use Rattle.mcs_core.specs.Quiet.{IsNextBusy};
 
@@ -13,6 +13,7 @@ use std::alloc::Global;
 pub(crate) fn are_idle(alloc: Global, system: &System, lockstep: &Lockstep) -> bool
     requires same { lockstep.now.system ≡ system.now }
     requires going { lockstep.now.failed ≡ false }
+    requires settled { lockstep.now.settled ≡ true }
     ensures { IsTrue result → (core : ℕ) → core < system.now.cores →
         IsNextBusy system.now core lockstep.now.clock [] (core_at system.now (world system.now lockstep.now.clock) core) None }
 {
@@ -30,6 +31,7 @@ fn is_busy(system: &System, lockstep: &Lockstep, no_mail: &Mailbox, core: CoreId
     requires known { core < system.now.cores }
     requires same { lockstep.now.system ≡ system.now }
     requires going { lockstep.now.failed ≡ false }
+    requires settled { lockstep.now.settled ≡ true }
     requires none { no_mail.now.mails ≡ [] }
     ensures { result ≡ false →
         IsNextBusy system.now core lockstep.now.clock [] (core_at system.now (world system.now lockstep.now.clock) core) None }

@@ -114,8 +114,9 @@ impl Sampling {
 
     /// Whether the search stays at the present moment, even if no core does more than count a tick
     /// at it.
-    fn stays(&mut self, alloc: Global, compared: &Search) -> bool
-        requires { compared.now.failed ≡ false }
+    fn stays(&mut self, alloc: Global, compared: &mut Search) -> bool
+        requires { compared.old.failed ≡ false }
+        ensures { compared.new ≡ compared.old }
     {
         self.rest = match self.rest {
             Rest::NotYet if compared.is_at_rest(alloc) => Rest::Now,

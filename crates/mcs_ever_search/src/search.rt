@@ -121,18 +121,39 @@ impl Search {
 
     /// Whether no core does more than count a tick from this moment on, and no signal is under way.
     /// Allocates no memory.
-    pub fn is_at_rest(&self, alloc: Global) -> bool
-        requires { self.now.failed ≡ false }
-        ensures { IsTrue result → IsAtRest self.now.system self.now.clock }
+    pub fn is_at_rest(&mut self, alloc: Global) -> bool
+        requires { self.old.failed ≡ false }
+        ensures rest { IsTrue result → IsAtRest self.old.system self.old.clock }
+        ensures same { self.new ≡ self.old }
     {
-        if self.driven {
+        if self.driven || self.lockstep.idle_until().get() <= self.horizon.get() {
             return false;
         }
         under_way_is_told();
         if !self.seen.under_way.is_empty() {
             return false;
         }
+        self.lockstep.settle();
         are_idle(alloc, &self.system, &self.lockstep)
+    }
+
+    /// Whether the group may recur at this moment: the same threads run as before the kept one. If
+    /// not, it need not be compared. Allocates no memory.
+    pub fn may_recur(&self, group: &CoreSet) -> bool {
+        !self.failed
+            && self
+                .kept
+                .runners
+                .are_same(&self.system, &self.lockstep, group)
+    }
+
+    /// Prepares a comparison of this moment with the kept one. Allocates no memory.
+    pub fn settle(&mut self)
+        ensures { self.new ≡ self.old }
+    {
+        if !self.failed {
+            self.lockstep.settle();
+        }
     }
 
     /// The watch of all rows before this moment.
@@ -236,6 +257,7 @@ impl Search {
             return Err(NoMemory);
         }
         under_way_is_told();
+        self.lockstep.settle();
         let kept = Kept::new(alloc, &self.system, &self.lockstep, &self.seen)?;
         self.kept = kept;
         self.seen.clear();
@@ -249,9 +271,9 @@ impl Search {
     /// - each date that was compared with the current time meanwhile is later by the whole period.
     ///
     /// If no core outside the group signals one in it, it then recurs, for ever. `None` says
-    /// nothing: the group may recur by other moments. Allocates no memory if another thread runs,
-    /// a thread is at another item, or the first signal under way is another one. Fails only if
-    /// memory runs out, or ran out in a turn before.
+    /// nothing: the group may recur by other moments, or no comparison was prepared (`settle`).
+    /// Allocates no memory if another thread runs, a thread is at another item, or the first signal
+    /// under way is another one. Fails only if memory runs out, or ran out in a turn before.
     pub fn recurs(&self, alloc: Global, group: &CoreSet) -> Result<Option<Shifts>, NoMemory>
         ensures going { OnOk result (self.now.failed ≡ false) }
         ensures recurs { IsClosed self.now.system (has group.now) →
@@ -262,7 +284,7 @@ impl Search {
         }
         let system: &System = &self.system;
         let earlier = &self.kept.snapshot;
-        if earlier.moment().get() < self.orders_end {
+        if !self.lockstep.settled() || earlier.moment().get() < self.orders_end {
             return Ok(None);
         }
         if !may_stand_again(system, &self.lockstep, earlier.cores(), group) {

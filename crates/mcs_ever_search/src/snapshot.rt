@@ -1,4 +1,4 @@
-ghost use Rattle.std.specs.Prelude.{◌≡◌, ◌<◌, false, map, IfOk};
+ghost use Rattle.std.specs.Prelude.{◌≡◌, ◌<◌, true, false, map, IfOk};
 ghost use Rattle.mcs_core.specs.Clock.{core_shown, world};
 ghost use Rattle.mcs_laws.specs.Turns.{cores};
 ghost use Rattle.mcs_ever_again.specs.Snapshot.{IsOfClock};
@@ -18,6 +18,7 @@ fn image(
     requires known { core < system.now.cores }
     requires same { lockstep.now.system ≡ system.now }
     requires going { lockstep.now.failed ≡ false }
+    requires settled { lockstep.now.settled ≡ true }
     ensures { IfOk result (λ image. image ≡ core_shown system.now (world system.now lockstep.now.clock) core) }
 {
     let image = CoreImage::new(alloc, system, lockstep.state(core))?;
@@ -28,6 +29,7 @@ fn image(
 fn images(alloc: Global, system: &System, lockstep: &Lockstep) -> Result<Vec<CoreImage>, NoMemory>
     requires same { lockstep.now.system ≡ system.now }
     requires going { lockstep.now.failed ≡ false }
+    requires settled { lockstep.now.settled ≡ true }
     ensures { IfOk result (λ images.
         images.items ≡ map (core_shown system.now (world system.now lockstep.now.clock)) (cores system.now)) }
 {
@@ -48,6 +50,7 @@ pub(crate) fn present<'a>(
 ) -> Result<Present<'a>, NoMemory>
     requires same { lockstep.now.system ≡ system.now }
     requires going { lockstep.now.failed ≡ false }
+    requires settled { lockstep.now.settled ≡ true }
     requires mails { under_way.now ≡ (world system.now lockstep.now.clock).mails }
     ensures clock { IfOk result (IsOfClock system.now) }
     ensures moment { IfOk result (λ present. present.moment ≡ lockstep.now.clock) }
@@ -65,6 +68,7 @@ pub(crate) fn snapshot(
 ) -> Result<Snapshot, NoMemory>
     requires same { lockstep.now.system ≡ system.now }
     requires going { lockstep.now.failed ≡ false }
+    requires settled { lockstep.now.settled ≡ true }
     requires mails { under_way.now ≡ (world system.now lockstep.now.clock).mails }
     ensures clock { IfOk result (IsOfClock system.now) }
     ensures moment { IfOk result (λ snapshot. snapshot.moment ≡ lockstep.now.clock) }

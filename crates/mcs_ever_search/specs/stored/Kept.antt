@@ -31,7 +31,13 @@ pub record IsKeptOf (system : System) (kept : Kept) : Type 0 where
 -- the cores are before this moment, and all rows before it were added
 pub record IsGoing (a : Inside) : Type 0 where
   pub lockstep : a.lockstep
-      ≡ record { system = arc_value a.system; horizon = a.horizon; clock = a.clock; failed = false }
+      ≡ record {
+        system = arc_value a.system;
+        horizon = a.horizon;
+        clock = a.clock;
+        settled = a.lockstep.settled;
+        failed = false;
+      }
   pub seen : HasSeen (arc_value a.system) a.kept.snapshot.moment a.clock a.seen
 
 pub record IsKept (a : Inside) : Type 0 where

@@ -2,6 +2,7 @@ use Rattle.std.proofs.Common.{◌≡◌, ◌≤◌, ℕ, [], ◌++◌, List, Opt
 use Rattle.std.specs.Arc.{arc_value}
 use Rattle.std.proofs.lemmas.List.{take_all, drop_all}
 use Rattle.mcs_system.specs.System.{System}
+use Rattle.mcs_ever_search.specs.Compared.{Compared}
 use Rattle.mcs_ever_search.specs.Repeats.{AreTold}
 use Rattle.mcs_ever_search.specs.declared.repeats.Repeats.{Repeats}
 use Rattle.mcs_ever_search.proofs.repeats.find_repeats.Goals as goal
@@ -14,13 +15,13 @@ loop-told-preserved c =
     let items = c.loop-told.told.items in
     let made = c.compare.new.told in
     let len = c.loop-told.told.len in
-    let same : c.go_on.new.compared.system ≡ arc_value c.args.system = on.system ∙ so_far.system in
-    let until : c.go_on.new.compared.horizon ≡ c.args.horizon = on.horizon ∙ so_far.horizon in
+    let same : c.settle.new.self.system ≡ arc_value c.args.system = ap (λ (compared : Compared). compared.system) c.settle.ensures ∙ on.system ∙ so_far.system in
+    let until : c.settle.new.self.horizon ≡ c.args.horizon = ap (λ (compared : Compared). compared.horizon) c.settle.ensures ∙ on.horizon ∙ so_far.horizon in
     let S : System → Type 0 = λ s. AreTold s c.args.horizon groups items in
-    let H : ℕ → Type 0 = λ h. AreTold c.go_on.new.compared.system h groups items in
-    let L : List (Option Repeats) → Type 0 = λ told. AreTold c.go_on.new.compared.system c.go_on.new.compared.horizon groups told in
+    let H : ℕ → Type 0 = λ h. AreTold c.settle.new.self.system h groups items in
+    let L : List (Option Repeats) → Type 0 = λ told. AreTold c.settle.new.self.system c.settle.new.self.horizon groups told in
     let after = c.compare.ensures.told (subst L (sym c.as_mut_slice.ensures.value) (subst H (sym until) (subst S (sym same) so_far.told))) in
-    let T : System → Type 0 = λ s. AreTold s c.go_on.new.compared.horizon groups made in
+    let T : System → Type 0 = λ s. AreTold s c.settle.new.self.horizon groups made in
     let I : ℕ → Type 0 = λ h. AreTold (arc_value c.args.system) h groups made in
     let here : AreTold (arc_value c.args.system) c.args.horizon groups made = subst I until (subst T same after) in
     let many : length made ≡ length items = here.many ∙ sym so_far.told.many in
