@@ -16,9 +16,7 @@ use Rattle.mcs_verdict.specs.declared.finding.Finding.{Finding}
 use Rattle.mcs_verdict.specs.declared.finding.Finding.TheVariants.{Miss, Overdue, Untaken, Lost, Never}
 use Rattle.mcs_verdict.specs.declared.held.Held.{Held}
 use Rattle.mcs_verdict.specs.declared.job.Job.{Job}
-use Rattle.mcs_verdict.specs.declared.standing.Stood.{Stood}
 use Rattle.mcs_verdict.specs.Misses.{never}
-use Rattle.mcs_verdict.specs.Takers.{due_of}
 use Rattle.mcs_verdict.specs.Findings.{past_of}
 use Rattle.mcs_verdict.specs.Jobs.{jobs_in}
 use Rattle.mcs_ever.specs.Closed.{has}
@@ -33,7 +31,7 @@ use Rattle.mcs_ever_found.specs.Recurs.{past_before, FindingsRecur}
 use Rattle.mcs_ever_found.specs.Course.{misses, losses, greatest, was_spent, Course}
 use Rattle.mcs_ever_found.specs.Period.{whats, far, ends_in_period, is_taken_in_period}
 use Rattle.mcs_ever_found.specs.laws.Course.{is_at_most, is_within, GreatestIsForever, NeverSpent}
-use Rattle.mcs_ever_found.specs.laws.GoOn.{untaken_up_to, IsOverdueRound, ThreadGoesOn, WordGoesOn, ThreadsGoOn, WordsGoOn}
+use Rattle.mcs_ever_found.specs.laws.GoOn.{ThreadGoesOn, WordGoesOn, ThreadsGoOn, WordsGoOn}
 use Rattle.mcs_ever_found.specs.laws.Repeats.{is_of_group, FindingsRepeat}
 use Rattle.mcs_ever_found.proofs.Flags.{flag-at}
 use Rattle.mcs_ever_found.proofs.Quiet.{ends-none}
@@ -42,7 +40,7 @@ use Rattle.mcs_ever_told.specs.declared.line.Line.TheVariants as line
 use Rattle.mcs_ever_told.specs.declared.outlook.told.Period.{Period}
 use Rattle.mcs_ever_told.specs.stored.Told.{if_some}
 use Rattle.mcs_ever_told.specs.Lines.{is_some, silent_from, inactive_told, ever_told, ever_line, abandoned_told, abandoned_line, misses_of, losses_of, miss_line, lost_line, spins, thread_told, thread_line, clean_lines, is_own_thread, is_own_note, of_threads, of_notes, count_lines, ever_lines, thread_lines}
-use Rattle.mcs_ever_told.specs.ForEver.{RowsRepeat, IsNeverLonger, IsNeverThrottled, IsSilentFrom, ThreadIsSo, Happens, IsInactive, IsAbandoned}
+use Rattle.mcs_ever_told.specs.ForEver.{RowsRepeat, IsNeverLonger, IsNeverThrottled, IsSilentFrom, ThreadIsSo, Happens}
 use Rattle.mcs_ever_told.specs.Outlook.{course_before, course_up_to, ended_between, unended_at, last_of, endless, abandoned, AreSettled, found_in_period, NothingIsEverFound, HoldsForEver, period_lines}
 use Rattle.mcs_ever_told.proofs.Numbers.{told-more}
 use Rattle.mcs_ever_told.proofs.Since.{rows-on}

@@ -1,8 +1,7 @@
 -- A thread or a notification without a finding by the end of the first period never has one.
 use Rattle.std.specs.Prelude.{◌==◌, not}
 use Rattle.std.proofs.lemmas.Bool.Decides.{nat_tests}
-use Rattle.std.proofs.Common.{◌≡◌, ℕ, suc, ◌+◌, ◌-◌, ◌<◌, ◌≤◌, Bool, true, false, ◌&&◌, cond, List, [], ◌++◌, length, get_or, Option, Some, None, refl, sym, ap, subst, ◌∙◌, arith}
-use Rattle.std.specs.List.{list_any}
+use Rattle.std.proofs.Common.{◌≡◌, ℕ, suc, ◌+◌, ◌-◌, ◌<◌, ◌≤◌, Bool, true, false, ◌&&◌, cond, List, [], length, get_or, Option, Some, None, refl, sym, ap, subst, ◌∙◌, arith}
 use Rattle.mcs_core.specs.Clock.{schedule}
 use Rattle.mcs_system.specs.System.{System, no_thread, thread_part, note_part, core_of}
 use Rattle.mcs_system.specs.WellFormed.{IsWellFormed}
@@ -12,7 +11,6 @@ use Rattle.mcs_verdict.specs.Rounds.{first_wait}
 use Rattle.mcs_verdict_laws.specs.laws.Horizons.{has_miss_of}
 use Rattle.mcs_ever.specs.Closed.{has}
 use Rattle.mcs_ever.specs.Recurs.{Shifts}
-use Rattle.mcs_ever_found.specs.Course.{Course}
 use Rattle.mcs_ever_found.specs.Period.{far, ends_in_period, is_taken_in_period}
 use Rattle.mcs_ever_found.specs.Recurs.{past_before, FindingsRecur}
 use Rattle.mcs_ever_found.specs.laws.GoOn.{ThreadGoesOn, WordGoesOn, ThreadsGoOn, WordsGoOn}
@@ -21,8 +19,8 @@ use Rattle.mcs_ever_found.proofs.Scripts.{waits-first}
 use Rattle.mcs_ever_told.specs.declared.outlook.told.Period.{Period}
 use Rattle.mcs_ever_told.specs.declared.line.Line.{Line}
 use Rattle.mcs_ever_told.specs.declared.line.Line.TheVariants.{Miss, Lost}
-use Rattle.mcs_ever_told.specs.Lines.{of_threads, of_notes, count_lines, ever_line, ever_lines, abandoned_line, abandoned_told, ever_told, inactive_told, is_some, misses_of, losses_of, is_own_thread, is_own_note}
-use Rattle.mcs_ever_told.specs.Outlook.{course_before, course_up_to, unended_at, last_of, NeverLoses, MissesAreTold, ThreadIsSettled, WordIsSettled, NoteIsSettled, told_miss, told_loss, told_ever, told_abandoned, endless, abandoned, AreSettled, found_in_period, NothingIsEverFound}
+use Rattle.mcs_ever_told.specs.Lines.{of_threads, of_notes, count_lines, ever_lines, abandoned_told, ever_told, inactive_told, is_some, misses_of, losses_of, is_own_thread, is_own_note}
+use Rattle.mcs_ever_told.specs.Outlook.{course_before, course_up_to, unended_at, last_of, ThreadIsSettled, WordIsSettled, told_miss, told_loss, told_ever, told_abandoned, endless, abandoned, AreSettled, found_in_period, NothingIsEverFound}
 use Rattle.mcs_ever_told.proofs.Counted.{no-miss, no-loss}
 use Rattle.mcs_ever_told.proofs.Numbers.{front, back, none-told}
 use Rattle.mcs_ever_told.proofs.Unended.{overdue-told, never-none, word-told}

@@ -6,11 +6,11 @@ use Rattle.mcs_ticks.specs.Capped.{one_more}
 use Rattle.mcs_ticks.specs.declared.row.Row.{Row}
 use Rattle.mcs_system.specs.System.{System, thread_part}
 use Rattle.mcs_verdict.specs.declared.finding.Finding.{Finding}
-use Rattle.mcs_verdict.specs.declared.finding.Finding.TheVariants.{Miss, Overdue, Untaken, Lost, Never}
+use Rattle.mcs_verdict.specs.declared.finding.Finding.TheVariants.{Overdue, Untaken, Never}
 use Rattle.mcs_verdict.specs.declared.held.Held.{Held}
 use Rattle.mcs_verdict.specs.declared.standing.Stood.{Stood}
 use Rattle.mcs_verdict.specs.Due.{calls_each, untaken_by, untaken}
-use Rattle.mcs_verdict.specs.Misses.{is_reached, first_word, was_activated, overdue_since, overdue, never_at, never, first_of, unended}
+use Rattle.mcs_verdict.specs.Misses.{is_reached, first_word, was_activated, overdue_since, overdue, never, first_of, unended}
 use Rattle.mcs_verdict.specs.Calls.{first_wait, bits_of}
 use Rattle.mcs_verdict.specs.Parts.{free_of, queued_in, parts_in}
 use Rattle.mcs_verdict.specs.Rounds.{activated_of, rounds_of}

@@ -17,7 +17,7 @@ ghost use Rattle.mcs_ever_told.specs.Progress.{IsOpening, IsOfSame};
 use crate::outlook::dues::Dues;
 use crate::outlook::look::Look;
 use crate::outlook::sets::{Group, groups_of};
-use crate::outlook::tell::{all_told, is_any_left, nothing_told, tell_where_due};
+use crate::outlook::tell::{all_told, is_any_left, nothing_told, tell_now};
 use mcs_ever::{CoreSet, closed_sets};
 use mcs_ever_search::{Sampling, Search};
 use mcs_system::System;
@@ -117,17 +117,21 @@ impl Outlook {
         self.sampling
             .go_on(alloc, &mut self.search, &mut self.rows)?;
         self.rows.clear();
-        let due = self.dues.are_now(&self.search, self.told.as_slice());
+        self.dues.go_on(
+            &mut self.search,
+            self.groups.as_slice(),
+            self.told.as_slice(),
+        )?;
         let look = Look {
             system: &self.system,
             search: &self.search,
             allowed: self.allowed.as_slice(),
         };
-        tell_where_due(
+        tell_now(
             alloc,
             &look,
             self.groups.as_slice(),
-            due,
+            self.dues.due(),
             self.told.as_mut_slice(),
         )?;
         self.failed = false;

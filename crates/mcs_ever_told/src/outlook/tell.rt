@@ -142,12 +142,13 @@ fn tell_one(
     Ok(())
 }
 
-/// Sets the result of each set that has none and recurs at this moment. Other results are kept.
-/// Fails only if memory runs out.
-fn tell_now(
+/// Sets the result of the set at this place, if it has none and recurs at this moment. Nothing
+/// changes if there is no such set.
+fn tell_at(
     alloc: Global,
     look: &Look<'_>,
     groups: &[Group],
+    place: usize,
     told: &mut [Option<Told>],
 ) -> Result<(), NoMemory>
     requires look { IsLook look.now.system.now look.now.search.now }
@@ -156,31 +157,31 @@ fn tell_now(
     ensures { (horizon : ℕ) → AreToldSoFar look.now.system.now look.now.allowed.now horizon groups.now told.old →
         AreToldSoFar look.now.system.now look.now.allowed.now horizon groups.now told.new }
 {
-    for i in 0..groups.len() {
-        tell_one(alloc, look, &groups[i], &mut told[i])?;
-    }
-    Ok(())
-}
-
-/// Sets the results as `tell_now` does, if some set may recur at this moment (`due`). If none may,
-/// no set is compared. Fails only if memory runs out.
-pub(crate) fn tell_where_due(
-    alloc: Global,
-    look: &Look<'_>,
-    groups: &[Group],
-    due: bool,
-    told: &mut [Option<Told>],
-) -> Result<(), NoMemory>
-    requires look { IsLook look.now.system.now look.now.search.now }
-    requires closed { AreClosed look.now.system.now groups.now }
-    requires many { length told.old ≡ length groups.now }
-    ensures { (horizon : ℕ) → AreToldSoFar look.now.system.now look.now.allowed.now horizon groups.now told.old →
-        AreToldSoFar look.now.system.now look.now.allowed.now horizon groups.now told.new }
-{
-    if !due {
+    if place >= groups.len() {
         return Ok(());
     }
-    tell_now(alloc, look, groups, told)
+    tell_one(alloc, look, &groups[place], &mut told[place])
+}
+
+/// Sets the result of each of the sets at the places `due` that has none and recurs at this moment.
+/// Other results are kept. Fails only if memory runs out.
+pub(crate) fn tell_now(
+    alloc: Global,
+    look: &Look<'_>,
+    groups: &[Group],
+    due: &[usize],
+    told: &mut [Option<Told>],
+) -> Result<(), NoMemory>
+    requires look { IsLook look.now.system.now look.now.search.now }
+    requires closed { AreClosed look.now.system.now groups.now }
+    requires many { length told.old ≡ length groups.now }
+    ensures { (horizon : ℕ) → AreToldSoFar look.now.system.now look.now.allowed.now horizon groups.now told.old →
+        AreToldSoFar look.now.system.now look.now.allowed.now horizon groups.now told.new }
+{
+    for place in due {
+        tell_at(alloc, look, groups, *place, told)?;
+    }
+    Ok(())
 }
 
 /// Returns the result of a set that was not found to recur.

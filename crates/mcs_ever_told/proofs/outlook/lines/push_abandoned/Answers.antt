@@ -1,4 +1,4 @@
-use Rattle.std.proofs.Common.{◌≡◌, ◌++◌, ℕ, List, length, ap, ◌∙◌, arith, rules}
+use Rattle.std.proofs.Common.{◌≡◌, ◌++◌, ℕ, length, ap, ◌∙◌, arith, rules}
 use Rattle.std.specs.List.{filter_map, range_with_len}
 use Rattle.mcs_system.specs.System.{System}
 use Rattle.mcs_ever_found.specs.Period.{abandoned_word}

@@ -2,7 +2,6 @@ use Rattle.std.proofs.Common.{◌≡◌, ℕ, ◌-◌, [], length, None, refl, s
 use Rattle.mcs_core.specs.Clock.{schedule}
 use Rattle.mcs_verdict.specs.Findings.{past_of}
 use Rattle.mcs_verdict.specs.Watch.{watch_of}
-use Rattle.mcs_ever_told.specs.declared.line.Line.TheVariants as line
 use Rattle.mcs_ever_told.specs.Outlook.{IsTold, course_up_to}
 use Rattle.mcs_ever_told.proofs.Since.{course-now, watch-at}
 use Rattle.mcs_ever_told.proofs.Telling.{told-open}
