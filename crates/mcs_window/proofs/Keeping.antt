@@ -1,5 +1,5 @@
 -- The invariant of `Cores` after a core's turns, and after memory ran out.
-use Rattle.std.proofs.Common.{◌≡◌, ℕ, ◌+◌, ◌<◌, ◌≤◌, true, false, List, [], ◌++◌, length, Vec, get_or, set, ◌≢◌, inl, inr, sym, ap, ◌∙◌, subst, arith}
+use Rattle.std.proofs.Common.{◌≡◌, ℕ, ◌+◌, ◌<◌, ◌≤◌, true, false, List, [], ◌++◌, length, Vec, get_or, set, inl, inr, sym, ap, ◌∙◌, subst, arith}
 use Rattle.std.specs.Prelude.{slice_index}
 use Rattle.std.specs.Arc.{arc_value}
 use Rattle.std.specs.Vec.{with_item, with_items}
@@ -19,7 +19,6 @@ use Rattle.mcs_window.specs.declared.cores.Cores.TheInside.{Inside}
 use Rattle.mcs_stretch.proofs.Deliveries.{signals_from}
 use Rattle.mcs_window.proofs.Advances.{list-more, ran_here, state_here, here_later, since_later}
 use Rattle.mcs_stretch.proofs.Later.{signals_own}
-use Rattle.mcs_stretch.proofs.Ranges.{rows-join, rows-none}
 
 -- what a core has made, its turns taken
 pub record HasRun (system : System) (to : ℕ) (state after : State) (box left : Content) (rows : List Row) (signals made : List Mail) : Type 0 where
@@ -87,13 +86,6 @@ module _ (a : Inside) (kept : IsKept a) where
     pub made_is : (made_by system state to box.mails).rows ≡ rows_between system k (slice_index a.clocks.items k) to
     made_is = ran.rows_are
 
-    -- the rows from the moment at which they were last taken, if there were none since
-    pub made_since : rows_between system k (slice_index a.taken.items k) (slice_index a.clocks.items k) ≡ [] →
-        (made_by system state to box.mails).rows ≡ rows_between system k (slice_index a.taken.items k) to
-    made_since none =
-        made_is ∙ ap (λ rows. rows ++ rows_between system k (slice_index a.clocks.items k) to) (sym none)
-        ∙ rows-join system k (slice_index a.taken.items k) (slice_index a.clocks.items k) to (kept.kept.since.in_order k h) l
-
     -- it has taken them, and the rows are kept or taken
     pub gone_kept : (full : List Content) (rows : List Row) (taken : Vec ℕ Global) (told : Vec (Vec Row Global) Global) (signals none : Vec Mail Global) →
         HasRun system to state after box left rows a.signals.items signals.items → AreDelivered system signals.items (set a.boxes.items k left) full →
@@ -150,55 +142,3 @@ module _ (a : Inside) (kept : IsKept a) where
         (since_later system kept.well_formed a.clocks.items k to there a.horizon a.taken.items a.rows.items kept.kept.since h l in_time old new r_at
         (list-more old new _ (more ∙ ap (λ xs. old.items ++ xs) (run.rows_are ∙ made_is))))
         no_signals
-
-    -- its rows are taken, and those before were, too
-    pub poured_kept : (full : List Content) (at : ℕ) (signals none : Vec Mail Global) → to ≤ a.horizon + 1 → at ≡ get_or (set a.clocks.items k to) k at →
-        rows_between system k (slice_index a.taken.items k) (slice_index a.clocks.items k) ≡ [] →
-        HasRun system to state after box left (made_by system state to box.mails).rows a.signals.items signals.items →
-        AreDelivered system signals.items (set a.boxes.items k left) full → none.items ≡ [] →
-        IsKept (record a {
-          clocks = with_item a.clocks k to;
-          taken = with_item a.taken k at;
-          states = with_item a.states k after;
-          boxes = with_items (with_item a.boxes k left) full;
-          failed = false;
-          signals = none;
-        })
-    poured_kept full at signals none in_time at_is none_kept run delivered no_signals =
-        gone_kept full (made_by system state to box.mails).rows (with_item a.taken k at) a.rows signals none run delivered
-        (length-set a.taken.items k at ∙ kept.kept.taken_of) since no_signals
-      where
-        clock_own : slice_index (set a.clocks.items k to) k ≡ to
-        clock_own = get_or-set_same a.clocks.items k to 0 there
-
-        taken_own : slice_index (set a.taken.items k at) k ≡ to
-        taken_own = get_or-set_same a.taken.items k at 0 (let all = kept.kept.taken_of in omega arith) ∙ at_is ∙ get_or-set_same a.clocks.items k to at there
-
-        clock_other : (c : ℕ) → c ≢ k → slice_index (set a.clocks.items k to) c ≡ slice_index a.clocks.items c
-        clock_other c apart = get_or-set_other a.clocks.items k c to 0 apart
-
-        taken_other : (c : ℕ) → c ≢ k → slice_index (set a.taken.items k at) c ≡ slice_index a.taken.items c
-        taken_other c apart = get_or-set_other a.taken.items k c at 0 apart
-
-        own : (x : Vec Row Global) → (get_or a.rows.items k x).items ≡ rows_between system k (slice_index (set a.taken.items k at) k) (slice_index (set a.clocks.items k to) k)
-        own x = kept.kept.since.told_are.each k x h ∙ none_kept ∙ rw (taken_own, clock_own) (sym (rows-none system k to))
-
-        since : AreSince HasItems system a.horizon (set a.clocks.items k to) (set a.taken.items k at) a.rows.items
-        since =
-            record {
-              in_time = λ c p. elim (eqb_tells c k) [
-                | inl e ↦ (let i = clock_own in rw e.1 (omega arith))
-                | inr e ↦ rw (clock_other c e.1) (kept.kept.since.in_time c p)
-              ];
-              in_order = λ c p. elim (eqb_tells c k) [
-                | inl e ↦ (let i = clock_own in let j = taken_own in rw e.1 (omega arith))
-                | inr e ↦ rw (clock_other c e.1, taken_other c e.1) (kept.kept.since.in_order c p)
-              ];
-              told_are = record {
-                many_are = kept.kept.since.told_are.many_are;
-                each = λ c x p. elim (eqb_tells c k) [
-                  | inl e ↦ subst (λ d. (get_or a.rows.items d x).items ≡ rows_between system d (slice_index (set a.taken.items k at) d) (slice_index (set a.clocks.items k to) d)) (sym e.1) (own x)
-                  | inr e ↦ rw (clock_other c e.1, taken_other c e.1) (kept.kept.since.told_are.each c x p)
-                ];
-              };
-            }

@@ -239,40 +239,6 @@ impl Cores {
         self.failed = false;
         Ok(())
     }
-
-    /// Takes the turns as `advance` does, but appends the rows to `rows`. The core keeps no row,
-    /// and its rows so far must have been taken. It allocates no list. If memory runs out, what is
-    /// appended is unspecified.
-    pub fn advance_onto(
-        &mut self,
-        core: CoreId,
-        to: Tick,
-        rows: &mut Vec<Row>,
-    ) -> Result<(), NoMemory>
-        requires known { core < self.old.system.cores }
-        requires not_back { clock_of self.old core ≤ to }
-        requires in_time { to ≤ self.old.horizon + 1 }
-        requires reached { NothingArrivesBefore self.old.system core to self.old.clocks }
-        requires no_rows { rows_between self.old.system core (taken_of self.old core) (clock_of self.old core) ≡ [] }
-        ensures ok { OnOk result ((self.old.failed ≡ false) × (self.new ≡ with_taken (advanced self.old core to) core)) }
-        ensures rows { OnOk result
-            (rows.new.items ≡ rows.old.items ++ rows_between self.old.system core (taken_of self.old core) to) }
-        ensures err { OnErr result (self.new ≡ with_failed self.old) }
-    {
-        if self.failed {
-            return Err(NoMemory);
-        }
-        self.failed = true;
-        let state = &mut self.states[core.0];
-        let mail = &mut self.boxes[core.0];
-        state.run(&self.system, mail, to, rows, &mut self.signals)?;
-        deliver(&self.system, &mut self.boxes, &self.signals)?;
-        self.signals.clear();
-        self.clocks[core.0] = to;
-        self.taken[core.0] = self.clocks[core.0];
-        self.failed = false;
-        Ok(())
-    }
 }
 
 /// Appends rows to those that are kept. If no rows are kept, no row is copied. If memory runs out,
