@@ -5,13 +5,15 @@ The systems are random ones as of verdicts.py, a third as many random sets of pe
 notification or a lock, and the files of this repository. A set is looked at up to a horizon. Where no repetition is found, though the rows of the set
 came ten times at its end, that is counted: there one may have been missed, and --missed names each. A row of the schedule counts as an event.
 
-What it takes is held against a run of mcsim --show reports to the end of the latest first period, or to the horizon where a set does not repeat, both on
+What it takes is held against a run of mcsim --show reports to the end of the latest first period, or to the horizon where a set or a chain does not repeat, both on
 one worker: of systems for which that run takes some hundredths of a second, CPU seconds, of each the least of three tries; nothing else
-should run meanwhile. With --instructions valgrind counts them instead, without those of a run to horizon 0, whatever else runs. With --write both tables,
-or the first one with --found, are written to docs/FOREVER.md, between the lines that mark their place. The count of the last line is of runs of which two agree on the status."""
+should run meanwhile. With --instructions valgrind counts them instead, without those of a run to horizon 0, whatever else runs: on all processors, since
+nothing is timed. With --write both tables, or the first one with --found, are written to docs/FOREVER.md, between the lines that mark their place. The count of the last line is of runs of which two agree on the status."""
 from __future__ import annotations
 
 import argparse
+import concurrent.futures
+import os
 import pathlib
 import random
 import re
@@ -38,6 +40,7 @@ PAGE = TOP / 'docs' / 'FOREVER.md'
 FOUND_HEAD = ['Systems', 'Sets', 'Repeat', 'Within', 'End of the first period', 'Rows up to then', 'Nothing ever found', 'Perhaps missed']
 COST_HEAD = ['Systems', 'Runs', 'Reports: {}', 'Forever: {}', 'Together', 'Median', '9 of 10', 'Greatest']
 WITHIN = (100, 1000, 10_000)
+CHAIN = re.compile(r'^chain \S+: (?:repeats from (\d+) with period (\d+)|no repetition found)', re.M)
 STATUSES = (0, 5, 6)
 # a run that takes less is not measured, in seconds and in instructions
 LEAST = {False: 0.02, True: 2e6}
@@ -72,6 +75,23 @@ class Cost(NamedTuple):
     forever: float
 
 
+class Look(NamedTuple):
+    """A system that was looked at: its kind and name, the status and standard error of the check, its sets, the lines of what may be missed, and its cost if that is measured."""
+
+    kind: str
+    name: str
+    status: int
+    error: str
+    sets: Sequence[Set]
+    missed: Sequence[str]
+    cost: Optional[Cost]
+
+
+def chain_ends(text: str, horizon: int) -> list[int]:
+    """Where the first period of each chain ends, or the horizon if it was not found to repeat."""
+    return [int(first) + int(period) if period else horizon for first, period in CHAIN.findall(text)]
+
+
 def quartiles(numbers: Sequence[float]) -> str:
     """The quartiles of numbers, and the greatest."""
     if not numbers:
@@ -93,26 +113,34 @@ class Table:
         self.costs: dict[str, list[Cost]] = {}
         self.count = Count()
 
-    def look(self, kind: str, name: str, text: str, file: pathlib.Path) -> None:
-        """Looks at a system, unless it is refused."""
-        file.write_text(text)
+    def look(self, kind: str, name: str, text: str) -> Optional[Look]:
+        """Looks at a system; none if it is refused."""
+        with tempfile.TemporaryDirectory() as folder:
+            file = pathlib.Path(folder, 'system.toml')
+            file.write_text(text)
+            return self.look_at(kind, name, file)
+
+    def look_at(self, kind: str, name: str, file: pathlib.Path) -> Optional[Look]:
         ran = common.run([self.checker, file, '--forever', f'--horizon={self.words.horizon}'], seconds=600)
         if ran.status == 1:
-            return
-        self.count.expect(f'{name}: status {ran.status}: {ran.stderr.decode(errors="replace")}', ran.status in STATUSES)
+            return None
         claims = forever.claims_of(ran.stdout.decode())
-        far = max((self.words.horizon if claim.end is None else claim.end for claim in claims), default=0)
+        ends = [self.words.horizon if claim.end is None else claim.end for claim in claims]
+        far = max(ends + chain_ends(ran.stdout.decode(), self.words.horizon), default=0)
         lines = common.run([self.simulator, file, f'--horizon={far}'], seconds=600).stdout.decode().splitlines()
-        for claim in claims:
-            found = self.set_of(claim, lines)
-            self.sets.setdefault(kind, []).append(found)
-            if found.may_be_missed and self.words.missed:
-                print(f'{name}: cores {claim.cores}: rows come again from {forever_rows.period_of(self.own(claim, lines), self.words.horizon)}')
-        if self.words.found:
-            return
-        cost = self.cost(file, far, ran.status)
-        if cost.reports >= LEAST[self.words.instructions]:
-            self.costs.setdefault(kind, []).append(cost)
+        sets = [self.set_of(claim, lines) for claim in claims]
+        missed = [f'{name}: cores {claim.cores}: rows come again from {forever_rows.period_of(self.own(claim, lines), self.words.horizon)}' for claim, found in zip(claims, sets) if found.may_be_missed]
+        cost = None if self.words.found else self.cost(file, far, ran.status)
+        return Look(kind, name, ran.status, ran.stderr.decode(errors='replace'), sets, missed, cost)
+
+    def add(self, look: Look) -> None:
+        self.count.expect(f'{look.name}: status {look.status}: {look.error}', look.status in STATUSES)
+        self.sets.setdefault(look.kind, []).extend(look.sets)
+        if self.words.missed:
+            for line in look.missed:
+                print(line)
+        if look.cost is not None:
+            self.costs.setdefault(look.kind, []).append(look.cost)
 
     def own(self, claim: forever.Claim, lines: Sequence[str]) -> list[str]:
         cores = {int(core) for core in claim.cores.split()}
@@ -126,13 +154,21 @@ class Table:
 
     # ---- what it takes
 
-    def cost(self, file: pathlib.Path, far: int, status: int) -> Cost:
-        commands: tuple[list[common.Word], ...] = [self.simulator, file, '--show=reports', f'--horizon={far}'], [self.checker, file, '--forever', f'--horizon={self.words.horizon}']
+    def cost(self, file: pathlib.Path, far: int, status: int) -> Optional[Cost]:
+        """What the two runs of a system take; none if the first takes too little to be measured."""
+        reports: tuple[common.Word, ...] = (self.simulator, file, '--show=reports', f'--horizon={far}')
+        check: tuple[common.Word, ...] = (self.checker, file, '--forever', f'--horizon={self.words.horizon}')
         if self.words.instructions:
-            return Cost(*(max(self.instructions(command) - self.instructions([*command[:-1], '--horizon=0']), 1) for command in commands))
-        runs = [[run_measured(command) for command in commands] for _ in range(TRIES)]
-        self.count.expect(f'{file.name}: another status than {status}', all(check.status == status for _, check in runs))
-        return Cost(*(max(min(run[place].of_processor for run in runs), 1e-3) for place in (0, 1)))
+            least = self.instructions_of_run(reports)
+            return Cost(least, self.instructions_of_run(check)) if least >= LEAST[True] else None
+        runs = [[run_measured(command) for command in (reports, check)] for _ in range(TRIES)]
+        self.count.expect(f'{file.name}: another status than {status}', all(checked.status == status for _, checked in runs))
+        cost = Cost(*(max(min(run[place].of_processor for run in runs), 1e-3) for place in (0, 1)))
+        return cost if cost.reports >= LEAST[False] else None
+
+    def instructions_of_run(self, command: Sequence[common.Word]) -> int:
+        """The instructions of a run without those up to horizon 0; its last word is the horizon."""
+        return max(self.instructions(command) - self.instructions([*command[:-1], '--horizon=0']), 1)
 
     def instructions(self, command: Sequence[common.Word]) -> int:
         found = re.search(rb'Collected : (\d+)', common.run([*COUNTING, *command], seconds=3600).stderr)
@@ -188,9 +224,10 @@ def asked() -> argparse.Namespace:
 def main() -> None:
     words = asked()
     found = Table(words, common.built_program(words.program))
-    with tempfile.TemporaryDirectory() as folder:
-        for kind, name, text in texts(words.systems, words.seed):
-            found.look(kind, name, text, pathlib.Path(folder, 'system.toml'))
+    with concurrent.futures.ThreadPoolExecutor(len(os.sched_getaffinity(0)) if words.instructions or words.found else 1) as pool:
+        for look in pool.map(found.look, *zip(*texts(words.systems, words.seed))):
+            if look is not None:
+                found.add(look)
     print('\n'.join(found.tables()))
     if words.write:
         PAGE.write_text(written(PAGE.read_text(), found.tables()))
