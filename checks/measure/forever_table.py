@@ -1,7 +1,7 @@
 #!/usr/bin/env python3
 """Measures how often mcscheck --forever finds a repetition, how late, and at which cost.
 
-The systems are random ones as of verdicts.py, a third as many random sets of periodic tasks with a clock each, as many of workers that share a
+The systems are random ones as of verdicts.py, those with chains apart, a third as many random sets of periodic tasks with a clock each, as many of workers that share a
 notification or a lock, and the files of this repository. A set is looked at up to a horizon. Where no repetition is found, though the rows of the set
 came ten times at its end, that is counted: there one may have been missed, and --missed names each. A row of the schedule counts as an event.
 
@@ -51,7 +51,8 @@ COUNTING = ('valgrind', '--tool=callgrind', '--callgrind-out-file=/dev/null')
 def texts(many: int, seed: int) -> Iterator[tuple[str, str, str]]:
     """The kind, the name and the text of each system."""
     for number in range(many):
-        yield 'random', f'random {number}', text_of(verdicts.tables_of(random.Random(f'{seed} {number}')))
+        tables = verdicts.tables_of(random.Random(f'{seed} {number}'))
+        yield 'random, with chains' if tables.get('chain') else 'random', f'random {number}', text_of(tables)
     for number in range(many // 3):
         form = analyses.form_of(random.Random(f'{seed} {number}'), True)
         yield 'periodic tasks', f'tasks {number}', writing.system_text(form.tables())
