@@ -5,10 +5,11 @@ ghost use Rattle.mcs_ever_found.specs.Course.{course_of};
 ghost use Rattle.mcs_ever_search.specs.stored.Kept.{IsKeptOf};
 
 use crate::gaps::Gaps;
+use crate::heads::Heads;
 use crate::lockstep::Lockstep;
-use crate::runners::Runners;
 use crate::seen::Seen;
 use crate::snapshot::snapshot;
+use crate::stances::Stances;
 use mcs_ever_again::Snapshot;
 use mcs_ever_found::Course;
 use mcs_system::System;
@@ -22,7 +23,8 @@ use std::alloc::Global;
 pub(crate) struct Kept {
     pub(crate) snapshot: Snapshot,
     pub(crate) gaps: Gaps,
-    pub(crate) runners: Runners,
+    pub(crate) heads: Heads,
+    pub(crate) stances: Stances,
     pub(crate) watch: Watch,
     pub(crate) course: Course,
 }
@@ -47,7 +49,8 @@ impl Kept {
         Ok(Kept {
             snapshot: snapshot(alloc, system, lockstep, &seen.under_way)?,
             gaps: Gaps::new(alloc, system, lockstep)?,
-            runners: Runners::new(alloc, system, lockstep)?,
+            heads: Heads::new(alloc, system, lockstep)?,
+            stances: Stances::new(alloc, system, lockstep)?,
             watch: seen.watch.copy(alloc)?,
             course: seen.course.copy(alloc)?,
         })

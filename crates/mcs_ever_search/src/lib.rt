@@ -5,16 +5,17 @@
 mod alike;
 mod beats;
 mod gaps;
+mod heads;
 mod kept;
 mod lockstep;
 mod orders;
 mod repeats;
 mod rest;
-mod runners;
 mod sampling;
 mod search;
 mod seen;
 mod snapshot;
+mod stances;
 mod turns;
 
 pub use beats::beat_of;

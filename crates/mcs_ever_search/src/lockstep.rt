@@ -1,11 +1,11 @@
-ghost use Rattle.std.specs.Prelude.{◌≡◌, ◌≤◌, ◌<◌, ◌^◌, ◌+◌, ◌++◌, false, true, IfOk, OnOk, OnErr};
+ghost use Rattle.std.specs.Prelude.{◌≡◌, ◌≤◌, ◌<◌, ◌^◌, ◌+◌, ◌++◌, false, true, length, IfOk, OnOk, OnErr};
 ghost use Rattle.std.specs.Arc.{arc_value};
 ghost use Rattle.mcs_window.specs.Idle.{IsIdleUntil};
 ghost use Rattle.mcs_window.specs.Stretch.{StandsAt};
 ghost use Rattle.mcs_ever_search.specs.Together.{opening, at_moment, with_failed, clocks_at, rows_at, rows_before};
 
 use crate::turns::append_turns;
-use mcs_core::CoreState;
+use mcs_core::{CoreState, Thread};
 use mcs_step::InStep;
 use mcs_system::System;
 use mcs_ticks::{CoreId, NoMemory, Row, ThreadId, Tick};
@@ -100,12 +100,13 @@ impl Lockstep {
         self.settled = true;
     }
 
-    /// The thread that runs on a core, if one does.
-    pub(crate) fn runner(&self, core: CoreId) -> Option<ThreadId>
-        requires known { core < self.now.system.cores }
+    /// The state of a thread of a core. Its ticks left may lag, unless the cores are settled.
+    pub(crate) fn thread(&self, core: CoreId, thread: ThreadId) -> Thread
+        requires core { core < self.now.system.cores }
+        requires thread { thread < length self.now.system.threads }
         requires whole { self.now.failed ≡ false }
     {
-        self.steps.state(core).running().map(|chosen| chosen.thread)
+        self.steps.state(core).thread(thread)
     }
 
     /// The state of a core before its turn at `clock`, as on the clock over all cores. The cores

@@ -23,7 +23,7 @@ use mcs_ever::CoreSet;
 use mcs_ever_again::{Shifts, rows_tell_turns, under_way_is_told};
 use mcs_ever_found::{Course, Doings};
 use mcs_system::System;
-use mcs_ticks::{NoMemory, Row, Tick};
+use mcs_ticks::{CoreId, NoMemory, Row, ThreadId, Tick};
 use mcs_verdict::Watch;
 use mcs_verdict_laws::schedules_are_in_order;
 use std::alloc::Global;
@@ -137,14 +137,14 @@ impl Search {
         are_idle(alloc, &self.system, &self.lockstep)
     }
 
-    /// Whether the group may recur at this moment: the same threads run as before the kept one. If
-    /// not, it need not be compared. Allocates no memory.
-    pub fn may_recur(&self, group: &CoreSet) -> bool {
+    /// Whether a thread of this core stands as before the kept moment, at the same item. If not, no
+    /// group with the core need be compared at this moment. Allocates no memory.
+    pub fn stands_again(&self, core: CoreId, thread: ThreadId) -> bool {
         !self.failed
             && self
                 .kept
-                .runners
-                .are_same(&self.system, &self.lockstep, group)
+                .stances
+                .is_same(&self.system, &self.lockstep, core, thread)
     }
 
     /// Prepares a comparison of this moment with the kept one. Allocates no memory.
@@ -306,6 +306,13 @@ impl Search {
             return Ok(None);
         }
         if !may_beat_again(system, group, by) {
+            return Ok(None);
+        }
+        if !self
+            .kept
+            .heads
+            .are_again(system, &self.lockstep, group, &self.seen.marks, by)
+        {
             return Ok(None);
         }
         under_way_is_told();

@@ -117,11 +117,10 @@ impl Outlook {
         self.sampling
             .go_on(alloc, &mut self.search, &mut self.rows)?;
         self.rows.clear();
-        self.dues.go_on(
-            &mut self.search,
-            self.groups.as_slice(),
-            self.told.as_slice(),
-        )?;
+        if !self.dues.go_on(&mut self.search)? {
+            self.failed = false;
+            return Ok(true);
+        }
         let look = Look {
             system: &self.system,
             search: &self.search,
@@ -134,6 +133,7 @@ impl Outlook {
             self.dues.due(),
             self.told.as_mut_slice(),
         )?;
+        self.dues.forget(self.told.as_slice());
         self.failed = false;
         Ok(true)
     }

@@ -12,10 +12,10 @@ use Rattle.mcs_ever_told.proofs.outlook.Outlook.step.Goals as goal
 pub tell_now-requires-clause-closed : goal.tell_now-requires-clause-closed
 tell_now-requires-clause-closed c =
     let a = c.self.inside in
-    let P : System → Type 0 = λ s. AreClosed s c.as_slice-5.result.now in
+    let P : System → Type 0 = λ s. AreClosed s c.as_slice-3.result.now in
     let Q : List Group → Type 0 = λ groups. AreClosed (arc_value a.system) groups in
     subst P (sym c.deref.ensures)
-    (subst Q (sym c.as_slice-5.ensures.value) (groups-closed a.sets.items a.groups.items c.self.invariant.groups (arc_value a.system) c.self.invariant.sets))
+    (subst Q (sym c.as_slice-3.ensures.value) (groups-closed a.sets.items a.groups.items c.self.invariant.groups (arc_value a.system) c.self.invariant.sets))
 
 pub invariant_of-self-in_err-tell_now : goal.invariant_of-self-in_err-tell_now
 invariant_of-self-in_err-tell_now c =
@@ -29,8 +29,8 @@ invariant_of-self-in_err-tell_now c =
           ap (λ (told : List (Option Told)). length told) items ∙ c.tell_now.auto.told
           ∙ ap (λ (told : List (Option Told)). length told) c.as_mut_slice.ensures.value ∙ kept.many;
       told =
-          told-on (arc_value a.system) c.deref.result.now a.allowed.items c.as_slice-4.result.now a.horizon a.groups.items c.as_slice-5.result.now
-          a.told.items c.as_mut_slice.result.now c.tell_now.new.told _ c.deref.ensures c.as_slice-4.ensures.value c.as_slice-5.ensures.value
+          told-on (arc_value a.system) c.deref.result.now a.allowed.items c.as_slice-2.result.now a.horizon a.groups.items c.as_slice-3.result.now
+          a.told.items c.as_mut_slice.result.now c.tell_now.new.told _ c.deref.ensures c.as_slice-2.ensures.value c.as_slice-3.ensures.value
           c.as_mut_slice.ensures.value items (c.in_err-tell_now.ensures a.horizon) kept.told;
       going = λ still. cc;
     }
@@ -52,8 +52,8 @@ invariant_of-self-2 c =
           ap (λ (told : List (Option Told)). length told) items ∙ c.tell_now.auto.told
           ∙ ap (λ (told : List (Option Told)). length told) c.as_mut_slice.ensures.value ∙ kept.many;
       told =
-          told-on (arc_value a.system) c.deref.result.now a.allowed.items c.as_slice-4.result.now a.horizon a.groups.items c.as_slice-5.result.now
-          a.told.items c.as_mut_slice.result.now c.tell_now.new.told _ c.deref.ensures c.as_slice-4.ensures.value c.as_slice-5.ensures.value
+          told-on (arc_value a.system) c.deref.result.now a.allowed.items c.as_slice-2.result.now a.horizon a.groups.items c.as_slice-3.result.now
+          a.told.items c.as_mut_slice.result.now c.tell_now.new.told _ c.deref.ensures c.as_slice-2.ensures.value c.as_slice-3.ensures.value
           c.as_mut_slice.ensures.value items (c.in_ok-tell_now.ensures a.horizon) kept.told;
       going = λ still. record { look = looks.0; horizon = looks.1 };
     }
