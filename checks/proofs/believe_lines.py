@@ -39,9 +39,10 @@ SAYS = {
         'unanswered': 'the finding at the horizon: the earliest origin without an answer, if its deadline has passed',
     },
     'mcs_chain/src/set.rt': {
-        'Marks': 'the origins of a set: none, one, or a list of them',
+        'Marks': 'the origins of a set: none, one stretch, or a list of stretches',
     },
     'mcs_chain/specs/stored/Sets.antt': {
+        'all_of': 'the origins of a stretch, the latest first',
         'marks_of': 'the list of the origins of a set',
     },
     'mcs_chain/specs/Moves.antt': {

@@ -1,12 +1,15 @@
 //! Tests whether the origins of a chain on a group of cores are the earlier ones, but later. A
 //! group has a yes or a no for each core.
-ghost use Rattle.std.specs.Prelude.{◌≡◌, ◌↔◌, ◌+◌, [], false, map, filter, get_or, reverse, IsTrue, IfOk};
+ghost use Rattle.std.specs.Prelude.{◌≡◌, ◌↔◌, ◌+◌, [], false, map, filter, get_or, IsTrue, IfOk};
 ghost use Rattle.mcs_chain.specs.Later.{later_mark, later_set, later_sent, later_origins, is_within, AreCarriedLater, AreHeldLater, AreLater, StepsAreSame};
+ghost use Rattle.mcs_chain.specs.stored.Sets.{flat};
 
 use crate::mark::{Mark, Sent};
 use crate::origins::Origins;
 use crate::set::Set;
 use crate::step::{Gone, gone_of};
+use crate::stretch::Stretch;
+use crate::stretches;
 use mcs_system::SystemParts;
 use mcs_ticks::{CoreId, Limits, NoMemory, NoteId, ThreadId, Tick};
 use std::alloc::Global;
@@ -59,21 +62,6 @@ pub(crate) fn are_ticks_later(before: &[Tick], by: u64, after: &[Tick]) -> bool
     true
 }
 
-/// Whether origins and their places are the earlier ones, `by` ticks later.
-fn are_marks_later(before: &[Mark], by: u64, after: &[Mark]) -> bool
-    ensures { IsTrue result → after.now ≡ later_set by before.now }
-{
-    if before.len() != after.len() {
-        return false;
-    }
-    for i in 0..after.len() {
-        if !is_mark_later(&before[i], by, &after[i]) {
-            return false;
-        }
-    }
-    true
-}
-
 fn are_sent_later(before: &[Sent], by: u64, after: &[Sent]) -> bool
     ensures { IsTrue result → after.now ≡ map (later_sent by) before.now }
 {
@@ -88,9 +76,9 @@ fn are_sent_later(before: &[Sent], by: u64, after: &[Sent]) -> bool
     true
 }
 
-/// The origins of the set with this number, the earliest first.
-fn marks_at(sets: &[Set], number: usize) -> &[Mark]
-    ensures { result.now ≡ reverse (get_or sets.now number []) }
+/// The stretches of the set with this number, the earliest first.
+fn stretches_at(sets: &[Set], number: usize) -> &[Stretch]
+    ensures { flat result.now ≡ get_or sets.now number [] }
 {
     if number < sets.len() {
         sets[number].as_slice()
@@ -103,7 +91,11 @@ fn marks_at(sets: &[Set], number: usize) -> &[Mark]
 fn is_set_later(before: &[Set], by: u64, after: &[Set], number: usize) -> bool
     ensures { IsTrue result → get_or after.now number [] ≡ later_set by (get_or before.now number []) }
 {
-    are_marks_later(marks_at(before, number), by, marks_at(after, number))
+    stretches::are_later(
+        stretches_at(before, number),
+        by,
+        stretches_at(after, number),
+    )
 }
 
 /// Whether a core of the group made the signal, for a notification of the group.

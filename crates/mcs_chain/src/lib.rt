@@ -15,6 +15,8 @@ mod set;
 mod state;
 mod step;
 mod steps;
+mod stretch;
+mod stretches;
 mod tallies;
 mod tally;
 mod watch;

@@ -1,11 +1,13 @@
 //! The sets of origins without an answer.
-ghost use Rattle.std.specs.Prelude.{◌≡◌, [], ◌++◌, ◌&&◌, map, filter, not, get_or, length, reverse, slice_set, take, OnOk, OnErr, IfOk};
+ghost use Rattle.std.specs.Prelude.{◌≡◌, [], ◌∷◌, ◌++◌, ◌&&◌, false, map, filter, not, get_or, length, slice_set, take, OnOk, OnErr, IfOk};
 ghost use Rattle.mcs_chain.specs.Origins.{join, given, taken, sent, is_sent, is_one_of, without, is_answer, no_origins, rest, started, sets_out, lands, holds, takes, gets, ends, answers, moved};
+ghost use Rattle.mcs_chain.specs.stored.Sets.{all_of, flat};
 ghost use Rattle.mcs_chain.specs.stored.Still.{are_apart, is_none};
 
 use crate::mark::{Mark, Sent};
 use crate::moves::{Move, Taking, reach};
 use crate::set::{Set, is_one_of};
+use crate::stretch::Stretch;
 use mcs_system::{ChainPart, SystemParts};
 use mcs_ticks::{CoreId, NoMemory, NoteId, ThreadId, Tick};
 use std::alloc::Global;
@@ -61,25 +63,75 @@ fn is_answer(badges: u32, word: u32) -> bool
     badges == 0 || badges & word != 0
 }
 
-/// Drops what was answered from each set.
-fn drop_from_sets(sets: &mut [Set], answered: &[Tick])
-    ensures { sets.new ≡ map (without answered.now) sets.old }
+/// Whether some of the origins of these sets may have been answered, but for the set with this
+/// number.
+fn may_have(sets: &[Set], number: usize, answered: &[Tick]) -> bool
+    ensures { result ≡ false → map (without answered.now) (slice_set sets.now number []) ≡ slice_set sets.now number [] }
 {
-    if answered.is_empty() {
-        return;
+    for i in 0..sets.len() {
+        if i != number && sets[i].may_have(answered) {
+            return true;
+        }
     }
-    for set in sets.iter_mut() {
-        set.drop_answered(answered);
+    false
+}
+
+/// Returns the sets without what was answered.
+fn all_without(alloc: Global, sets: &[Set], answered: &[Tick]) -> Result<Vec<Set>, NoMemory>
+    ensures { IfOk result (λ left. left.items ≡ map (without answered.now) sets.now) }
+{
+    let mut left = Vec::with_capacity(alloc, sets.len())?;
+    for set in sets {
+        left.push(set.without(alloc, answered)?)?;
     }
+    Ok(left)
+}
+
+/// Drops what was answered from all sets, and leaves nothing in the carried set with this number.
+/// If memory runs out, they are unchanged.
+fn make_sets(
+    alloc: Global,
+    held: &mut Vec<Set>,
+    carried: &mut Vec<Set>,
+    number: usize,
+    answered: &[Tick],
+) -> Result<(), NoMemory>
+    ensures ok { OnOk result ((held.new.items ≡ map (without answered.now) held.old.items)
+        × (carried.new.items ≡ slice_set (map (without answered.now) carried.old.items) number [])) }
+    ensures err { OnErr result ((held.new.items ≡ held.old.items) × (carried.new.items ≡ carried.old.items)) }
+{
+    let held_left = all_without(alloc, held, answered)?;
+    let mut carried_left = all_without(alloc, carried, answered)?;
+    clear(&mut carried_left, number);
+    *held = held_left;
+    *carried = carried_left;
+    Ok(())
+}
+
+/// Drops what was answered from all sets, and leaves nothing in the carried set with this number.
+/// If memory runs out, they are unchanged. Memory is needed only if another set has such an origin.
+fn drop_from_sets(
+    alloc: Global,
+    held: &mut Vec<Set>,
+    carried: &mut Vec<Set>,
+    number: usize,
+    answered: &[Tick],
+) -> Result<(), NoMemory>
+    ensures ok { OnOk result ((held.new.items ≡ map (without answered.now) held.old.items)
+        × (carried.new.items ≡ map (without answered.now) (slice_set carried.old.items number []))) }
+    ensures err { OnErr result ((held.new.items ≡ held.old.items) × (carried.new.items ≡ carried.old.items)) }
+{
+    if may_have(held, held.len(), answered) || may_have(carried, number, answered) {
+        return make_sets(alloc, held, carried, number, answered);
+    }
+    clear(carried, number);
+    Ok(())
 }
 
 /// Drops what was answered from the signals to other cores.
 fn drop_from_sent(under_way: &mut Vec<Sent>, answered: &[Tick])
     ensures { under_way.new.items ≡ filter (λ sent. not (is_one_of answered.now sent.mark.origin)) under_way.old.items }
 {
-    if answered.is_empty() {
-        return;
-    }
     under_way.retain(|sent| !is_one_of(answered, sent.mark.origin));
 }
 
@@ -87,9 +139,6 @@ fn drop_from_sent(under_way: &mut Vec<Sent>, answered: &[Tick])
 fn drop_from_origins(origins: &mut Vec<Tick>, answered: &[Tick])
     ensures { origins.new.items ≡ filter (λ origin. not (is_one_of answered.now origin)) origins.old.items }
 {
-    if answered.is_empty() {
-        return;
-    }
     origins.retain(|origin| !is_one_of(answered, *origin));
 }
 
@@ -113,25 +162,57 @@ fn send(
     result
 }
 
-/// Appends the origins that a signal carries, which are given the earliest first.
+/// Appends the origins that a signal carries, the latest first.
 fn append_sent(
     under_way: &mut Vec<Sent>,
     note: NoteId,
     maker: CoreId,
     made: u64,
-    marks: &[Mark],
+    stretches: &[Stretch],
 ) -> Result<(), NoMemory>
-    ensures ok { OnOk result (under_way.new.items ≡ under_way.old.items ++ map (sent note maker made) (reverse marks.now)) }
+    ensures ok { OnOk result (under_way.new.items ≡ under_way.old.items ++ map (sent note maker made) (flat stretches.now)) }
     ensures kept { take (length under_way.old.items) under_way.new.items ≡ under_way.old.items }
 {
-    for i in (0..marks.len()).rev() {
-        under_way.push(Sent {
-            note,
-            maker,
-            made,
-            mark: marks[i],
-        })?;
+    for i in (0..stretches.len()).rev() {
+        append_stretch(under_way, note, maker, made, &stretches[i])?;
     }
+    Ok(())
+}
+
+/// Appends the origins of one stretch that a signal carries.
+fn append_stretch(
+    under_way: &mut Vec<Sent>,
+    note: NoteId,
+    maker: CoreId,
+    made: u64,
+    stretch: &Stretch,
+) -> Result<(), NoMemory>
+    ensures ok { OnOk result (under_way.new.items ≡ under_way.old.items ++ map (sent note maker made) (all_of stretch.now)) }
+    ensures kept { take (length under_way.old.items) under_way.new.items ≡ under_way.old.items }
+{
+    for number in 0..stretch.more {
+        append_one(under_way, note, maker, made, stretch.mark_at(number))?;
+    }
+    append_one(under_way, note, maker, made, stretch.mark_at(stretch.more))
+}
+
+/// Appends one origin that a signal carries.
+fn append_one(
+    under_way: &mut Vec<Sent>,
+    note: NoteId,
+    maker: CoreId,
+    made: u64,
+    mark: Mark,
+) -> Result<(), NoMemory>
+    ensures ok { OnOk result (under_way.new.items ≡ under_way.old.items ++ sent note maker made mark ∷ []) }
+    ensures kept { take (length under_way.old.items) under_way.new.items ≡ under_way.old.items }
+{
+    under_way.push(Sent {
+        note,
+        maker,
+        made,
+        mark,
+    })?;
     Ok(())
 }
 
@@ -382,16 +463,27 @@ impl Origins {
     }
 
     /// The round answers these origins.
-    fn end(&mut self, thread: ThreadId, answered: Vec<Tick>)
-        ensures { self.new ≡ ends thread answered.items self.old }
+    fn end(&mut self, alloc: Global, thread: ThreadId, answered: Vec<Tick>) -> Result<(), NoMemory>
+        ensures ok { OnOk result (self.new ≡ ends thread answered.items self.old) }
+        ensures err { OnErr result (self.new ≡ self.old) }
     {
-        clear(&mut self.carried, thread.0);
-        drop_from_sets(&mut self.held, &answered);
-        drop_from_sets(&mut self.carried, &answered);
+        if answered.is_empty() {
+            clear(&mut self.carried, thread.0);
+            self.rest();
+            return Ok(());
+        }
+        drop_from_sets(
+            alloc,
+            &mut self.held,
+            &mut self.carried,
+            thread.0,
+            &answered,
+        )?;
         drop_from_sent(&mut self.under_way, &answered);
         drop_from_origins(&mut self.unanswered, &answered);
         self.posted = Set::empty();
         self.answered = answered;
+        Ok(())
     }
 
     /// A row that moves this.
@@ -422,8 +514,7 @@ impl Origins {
             Move::Got(thread, note, taking) => self.get(alloc, thread, note, taking),
             Move::End(thread, word) => {
                 let answered = self.answers(alloc, chain, thread, word)?;
-                self.end(thread, answered);
-                Ok(())
+                self.end(alloc, thread, answered)
             }
         }
     }

@@ -1,28 +1,30 @@
 //! Sets of origins.
-ghost use Rattle.std.specs.Prelude.{◌≡◌, ◌↔◌, [], ◌∷◌, ◌++◌, map, reverse, take, IfOk, OnOk, OnErr, IsTrue};
-ghost use Rattle.mcs_chain.specs.Origins.{both, join, is_at, at_places, put_at, keep_at, given, taken, is_one_of, without};
-ghost use Rattle.mcs_chain.specs.stored.Sets.{marks_of};
+ghost use Rattle.std.specs.Prelude.{◌≡◌, ◌↔◌, false, [], ◌∷◌, ◌++◌, map, IfOk, IfSome, OnOk, OnErr, IsTrue};
+ghost use Rattle.mcs_chain.specs.Origins.{join, at_places, given, taken, is_one_of, without};
+ghost use Rattle.mcs_chain.specs.stored.Sets.{all_of, flat, marks_of, maybe};
 
 use crate::mark::Mark;
 use crate::moves::Taking;
+use crate::stretch::Stretch;
+use crate::stretches;
 use mcs_ticks::{NoMemory, Tick};
 use std::alloc::Global;
 use std::marker::Model;
 use std::slice;
 
-/// Origins, the latest first, each once, with the places at which it is. A set of one takes no
-/// memory.
+/// Origins, the latest first, each once, with the places at which it is. It is kept as stretches.
+/// A set of one stretch takes no memory.
 #[derive(Debug, Drop)]
 pub(crate) struct Set {
     marks: Marks,
 }
 
-/// Many origins have the latest one at the end, so adding a later one is a push.
+/// Many stretches have the latest one at the end, so adding a later one is a push.
 #[derive(Debug, Drop)]
 enum Marks {
     Empty,
-    One(Mark),
-    Many(Vec<Mark>),
+    One(Stretch),
+    Many(Vec<Stretch>),
 }
 
 impl Model for Set {
@@ -35,37 +37,11 @@ impl Model for Set {
     ghost view = { λ a. marks_of a.marks };
 }
 
-fn is_at(mark: &Mark, places: u64) -> bool
-    ensures { result ≡ is_at places mark.now }
-{
-    mark.places & places != 0
-}
-
 /// Whether an origin is one of these.
 pub(crate) fn is_one_of(origins: &[Tick], origin: Tick) -> bool
     ensures { result ≡ is_one_of origins.now origin }
 {
     origins.iter().any(|other| *other == origin)
-}
-
-/// An origin at these places instead.
-fn put_at(mark: &Mark, places: u64) -> Mark
-    ensures { result ≡ put_at places mark.now }
-{
-    Mark {
-        origin: mark.origin,
-        places,
-    }
-}
-
-/// An origin, at those of its places that are among these.
-fn keep_at(mark: &Mark, places: u64) -> Mark
-    ensures { result ≡ keep_at places mark.now }
-{
-    Mark {
-        origin: mark.origin,
-        places: mark.places & places,
-    }
 }
 
 impl Set {
@@ -85,26 +61,39 @@ impl Set {
         ensures { result ≡ mark ∷ [] }
     {
         Set {
-            marks: Marks::One(mark),
+            marks: Marks::One(Stretch::one(&mark)),
         }
     }
 
-    fn many(marks: Vec<Mark>) -> Self
-        ensures { result ≡ reverse marks.items }
+    /// The origins of a stretch, if there is one.
+    fn of_one(stretch: Option<Stretch>) -> Self
+        ensures { result ≡ maybe stretch }
+    {
+        match stretch {
+            Some(stretch) => Set {
+                marks: Marks::One(stretch),
+            },
+            None => Set::empty(),
+        }
+    }
+
+    /// The origins of these stretches.
+    fn of(stretches: Vec<Stretch>) -> Self
+        ensures { result ≡ flat stretches.items }
     {
         Set {
-            marks: Marks::Many(marks),
+            marks: marks_from(stretches),
         }
     }
 
-    /// The origins, the earliest first.
-    pub(crate) fn as_slice(&self) -> &[Mark]
-        ensures { result.now ≡ reverse self.now }
+    /// The stretches, the earliest first.
+    pub(crate) fn as_slice(&self) -> &[Stretch]
+        ensures { flat result.now ≡ self.now }
     {
         match &self.marks {
             Marks::Empty => &[],
-            Marks::One(mark) => slice::from_ref(mark),
-            Marks::Many(marks) => marks.as_slice(),
+            Marks::One(stretch) => slice::from_ref(stretch),
+            Marks::Many(stretches) => stretches.as_slice(),
         }
     }
 
@@ -116,7 +105,7 @@ impl Set {
         match &self.marks {
             Marks::Empty => true,
             Marks::One(_) => false,
-            Marks::Many(marks) => marks.is_empty(),
+            Marks::Many(stretches) => stretches.is_empty(),
         }
     }
 
@@ -125,10 +114,11 @@ impl Set {
         ensures ok { OnOk result (self.new ≡ mark ∷ self.old) }
         ensures err { OnErr result (self.new ≡ self.old) }
     {
+        let later = Stretch::one(&mark);
         match &mut self.marks {
-            Marks::Empty => self.marks = Marks::One(mark),
-            Marks::One(first) => self.marks = Marks::Many(two(alloc, *first, mark)?),
-            Marks::Many(marks) => marks.push(mark)?,
+            Marks::Empty => self.marks = Marks::One(later),
+            Marks::One(first) => self.marks = with_later(alloc, first, &later)?,
+            Marks::Many(stretches) => stretches::push(stretches, &later)?,
         }
         Ok(())
     }
@@ -140,8 +130,8 @@ impl Set {
     {
         match &mut self.marks {
             Marks::Empty => *self = set.copied(alloc)?,
-            Marks::One(mark) => self.marks = join_to_one(alloc, *mark, set)?,
-            Marks::Many(marks) => join_to_many(alloc, marks, set.as_slice())?,
+            Marks::One(stretch) => self.marks = join_to_one(alloc, stretch, set)?,
+            Marks::Many(stretches) => join_to_many(alloc, stretches, set.as_slice())?,
         }
         Ok(())
     }
@@ -152,21 +142,22 @@ impl Set {
     {
         match &self.marks {
             Marks::Empty => Ok(Set::empty()),
-            Marks::One(mark) => Ok(Set::one(*mark)),
-            Marks::Many(marks) => Ok(Set::many(Vec::from_slice(alloc, marks.as_slice())?)),
+            Marks::One(stretch) => Ok(Set::of_one(Some(*stretch))),
+            Marks::Many(stretches) => Ok(Set::of(Vec::from_slice(alloc, stretches.as_slice())?)),
         }
     }
 
     /// Returns what a signal of this badge carries of the origins at these places.
+    #[inline(always)]
     pub(crate) fn given(&self, alloc: Global, places: u64, badge: u32) -> Result<Self, NoMemory>
         ensures { IfOk result (λ set. set ≡ given places badge self.now) }
     {
         match &self.marks {
             Marks::Empty => Ok(Set::empty()),
-            Marks::One(mark) => Ok(one_given(mark, places, badge)),
-            Marks::Many(marks) => Ok(Set::many(many_given(
+            Marks::One(stretch) => Ok(Set::of_one(stretches::given(stretch, places, badge))),
+            Marks::Many(stretches) => Ok(Set::of(stretches::all_given(
                 alloc,
-                marks.as_slice(),
+                stretches.as_slice(),
                 places,
                 badge,
             )?)),
@@ -179,201 +170,106 @@ impl Set {
     {
         match &self.marks {
             Marks::Empty => Ok(Set::empty()),
-            Marks::One(mark) => Ok(one_taken(mark, taking)),
-            Marks::Many(marks) => Ok(Set::many(many_taken(alloc, marks.as_slice(), taking)?)),
+            Marks::One(stretch) => Ok(Set::of_one(stretches::taken(stretch, taking))),
+            Marks::Many(stretches) => Ok(Set::of(stretches::all_taken(
+                alloc,
+                stretches.as_slice(),
+                taking,
+            )?)),
         }
     }
 
-    /// Lets go of the origins that were answered.
-    pub(crate) fn drop_answered(&mut self, answered: &[Tick])
-        ensures { self.new ≡ without answered.now self.old }
+    /// Whether some of the origins may have been answered.
+    #[inline(always)]
+    pub(crate) fn may_have(&self, answered: &[Tick]) -> bool
+        ensures { result ≡ false → without answered.now self.now ≡ self.now }
     {
-        match &mut self.marks {
-            Marks::Empty => {}
-            Marks::One(mark) => {
-                if is_one_of(answered, mark.origin) {
-                    self.marks = Marks::Empty;
-                }
-            }
-            Marks::Many(marks) => drop_from_many(marks, answered),
+        match &self.marks {
+            Marks::Empty => false,
+            Marks::One(stretch) => stretch.may_have(answered),
+            Marks::Many(stretches) => stretches::may_have(stretches.as_slice(), answered),
         }
+    }
+
+    /// Returns the origins that were not answered.
+    pub(crate) fn without(&self, alloc: Global, answered: &[Tick]) -> Result<Self, NoMemory>
+        ensures { IfOk result (λ set. set ≡ without answered.now self.now) }
+    {
+        Ok(Set::of(stretches::all_without(alloc, self.as_slice(), answered)?))
     }
 
     /// The origins at these places.
     pub(crate) fn origins_at(&self, alloc: Global, places: u64) -> Result<Vec<Tick>, NoMemory>
         ensures { IfOk result (λ origins. origins.items ≡ map (λ mark. mark.origin) (at_places places self.now)) }
     {
-        origins_of(alloc, self.as_slice(), places)
+        stretches::origins_at(alloc, self.as_slice(), places)
     }
 }
 
-/// The origins at these places, in the opposite order.
-fn origins_of(alloc: Global, marks: &[Mark], places: u64) -> Result<Vec<Tick>, NoMemory>
-    ensures { IfOk result (λ origins. origins.items ≡ map (λ mark. mark.origin) (at_places places (reverse marks.now))) }
+/// How stretches are kept.
+fn marks_from(stretches: Vec<Stretch>) -> Marks
+    ensures { marks_of result ≡ flat stretches.items }
 {
-    let origins = marks
-        .iter()
-        .rev()
-        .filter(|mark| is_at(mark, places))
-        .map(|mark| mark.origin)
-        .collect(alloc)?;
-    Ok(origins)
-}
-
-fn two(alloc: Global, first: Mark, second: Mark) -> Result<Vec<Mark>, NoMemory>
-    ensures { IfOk result (λ marks. marks.items ≡ first ∷ second ∷ []) }
-{
-    let mut marks = Vec::new(alloc);
-    marks.push(first)?;
-    marks.push(second)?;
-    Ok(marks)
-}
-
-/// Returns what a signal of this badge carries of one origin.
-fn one_given(mark: &Mark, places: u64, badge: u32) -> Set
-    ensures { result ≡ given places badge (mark.now ∷ []) }
-{
-    if is_at(mark, places) {
-        Set::one(put_at(mark, u64::from(badge)))
+    if stretches.len() == 1 {
+        Marks::One(stretches[0])
     } else {
-        Set::empty()
+        Marks::Many(stretches)
     }
 }
 
-/// Returns what a signal of this badge carries of these origins.
-fn many_given(alloc: Global, marks: &[Mark], places: u64, badge: u32) -> Result<Vec<Mark>, NoMemory>
-    ensures { IfOk result (λ all. all.items ≡ given places badge marks.now) }
+/// The origins of a stretch and of a later one.
+fn with_later(alloc: Global, first: &Stretch, later: &Stretch) -> Result<Marks, NoMemory>
+    ensures { IfOk result (λ marks. marks_of marks ≡ all_of later.now ++ all_of first.now) }
 {
-    let all = marks
-        .iter()
-        .filter(|mark| is_at(mark, places))
-        .map(|mark| put_at(mark, u64::from(badge)))
-        .collect(alloc)?;
-    Ok(all)
-}
-
-/// Returns what a thread takes of one origin.
-fn one_taken(mark: &Mark, taking: Taking) -> Set
-    ensures { result ≡ taken taking (mark.now ∷ []) }
-{
-    match taking {
-        Taking::First(bits) if !is_at(mark, bits) => Set::empty(),
-        Taking::First(bits) => Set::one(keep_at(mark, bits)),
-        Taking::Later(places) => Set::one(put_at(mark, places)),
+    match first.followed_by(later) {
+        Some(whole) => Ok(Marks::One(whole)),
+        None => Ok(Marks::Many(stretches::two(alloc, first, later)?)),
     }
 }
 
-/// Returns what a thread takes of these origins.
-fn many_taken(alloc: Global, marks: &[Mark], taking: Taking) -> Result<Vec<Mark>, NoMemory>
-    ensures { IfOk result (λ all. all.items ≡ taken taking marks.now) }
+/// The origins of two stretches as one stretch, in some cases.
+fn one_of_two(a: &Stretch, b: &Stretch) -> Option<Stretch>
+    ensures { IfSome result (λ whole. all_of whole ≡ join (all_of a.now) (all_of b.now)) }
 {
-    match taking {
-        Taking::First(bits) => many_kept(alloc, marks, bits),
-        Taking::Later(places) => many_put(alloc, marks, places),
+    if b.last < a.at(a.more) {
+        b.followed_by(a)
+    } else if a.last == b.last && a.more == b.more && a.has_step(b.step) {
+        Some(a.put_at(a.places | b.places))
+    } else {
+        None
     }
 }
 
-fn many_kept(alloc: Global, marks: &[Mark], bits: u64) -> Result<Vec<Mark>, NoMemory>
-    ensures { IfOk result (λ all. all.items ≡ map (keep_at bits) (at_places bits marks.now)) }
-{
-    let all = marks
-        .iter()
-        .filter(|mark| is_at(mark, bits))
-        .map(|mark| keep_at(mark, bits))
-        .collect(alloc)?;
-    Ok(all)
-}
-
-fn many_put(alloc: Global, marks: &[Mark], places: u64) -> Result<Vec<Mark>, NoMemory>
-    ensures { IfOk result (λ all. all.items ≡ map (put_at places) marks.now) }
-{
-    let all = marks
-        .iter()
-        .map(|mark| put_at(mark, places))
-        .collect(alloc)?;
-    Ok(all)
-}
-
-fn drop_from_many(marks: &mut Vec<Mark>, answered: &[Tick])
-    ensures { marks.new.items ≡ without answered.now marks.old.items }
-{
-    marks.retain(|mark| !is_one_of(answered, mark.origin));
-}
-
-/// One origin of two sets.
-fn both(a: Mark, b: Mark) -> Mark
-    ensures { result ≡ both a b }
-{
-    Mark {
-        origin: a.origin,
-        places: a.places | b.places,
-    }
-}
-
-/// The origins of a set and this one.
-fn join_to_one(alloc: Global, mark: Mark, set: &Set) -> Result<Marks, NoMemory>
-    ensures { IfOk result (λ marks. marks_of marks ≡ join set.now (mark ∷ [])) }
+/// The origins of a set and of this stretch.
+fn join_to_one(alloc: Global, stretch: &Stretch, set: &Set) -> Result<Marks, NoMemory>
+    ensures { IfOk result (λ marks. marks_of marks ≡ join set.now (all_of stretch.now)) }
 {
     if let Marks::One(other) = &set.marks
-        && other.origin == mark.origin
+        && let Some(whole) = one_of_two(other, stretch)
     {
-        return Ok(Marks::One(both(*other, mark)));
+        return Ok(Marks::One(whole));
     }
-    let mut marks = Vec::new(alloc);
-    marks.push(mark)?;
-    join_to_many(alloc, &mut marks, set.as_slice())?;
-    Ok(Marks::Many(marks))
+    Ok(marks_from(stretches::joined(alloc, set.as_slice(), slice::from_ref(stretch))?))
 }
 
-/// Adds origins to many. If memory runs out, these are unchanged. It looks only at those that are
-/// not earlier than all added ones.
-fn join_to_many(alloc: Global, marks: &mut Vec<Mark>, set: &[Mark]) -> Result<(), NoMemory>
-    ensures ok { OnOk result (reverse marks.new.items ≡ join (reverse set.now) (reverse marks.old.items)) }
-    ensures err { OnErr result (marks.new.items ≡ marks.old.items) }
+/// Adds the origins of stretches to many. If memory runs out, these are unchanged.
+fn join_to_many(alloc: Global, others: &mut Vec<Stretch>, set: &[Stretch]) -> Result<(), NoMemory>
+    ensures ok { OnOk result (flat others.new.items ≡ join (flat set.now) (flat others.old.items)) }
+    ensures err { OnErr result (flat others.new.items ≡ flat others.old.items) }
 {
-    if set.len() == 1 && is_latest(set[0], marks) {
-        marks.push(set[0])?;
-        return Ok(());
+    if set.len() == 1 && is_after(&set[0], others) {
+        return stretches::push(others, &set[0]);
     }
-    let (mut joined, kept) = joined(alloc, set, marks)?;
-    joined.reverse();
-    marks.reserve(joined.len())?;
-    marks.truncate(kept);
-    marks.extend_from_slice(&joined)?;
+    *others = stretches::joined(alloc, set, others)?;
     Ok(())
 }
 
-/// Whether an origin is later than the last one of many.
-fn is_latest(mark: Mark, marks: &[Mark]) -> bool
-    ensures { IsTrue result → join (mark ∷ []) (reverse marks.now) ≡ mark ∷ reverse marks.now }
+/// Whether all of a stretch is later than all of others.
+fn is_after(stretch: &Stretch, others: &[Stretch]) -> bool
+    ensures { IsTrue result → join (all_of stretch.now) (flat others.now) ≡ all_of stretch.now ++ flat others.now }
 {
-    match marks.last() {
-        Some(last) => last.origin < mark.origin,
-        None => true,
+    if others.is_empty() {
+        return true;
     }
-}
-
-/// Returns the origins of a set and those of many that are not earlier than all of the set, the
-/// latest first; and how many of the many are left.
-fn joined(alloc: Global, set: &[Mark], marks: &[Mark]) -> Result<(Vec<Mark>, usize), NoMemory>
-    ensures { IfOk result (λ r. r.0.items ++ reverse (take r.1 marks.now) ≡ join (reverse set.now) (reverse marks.now)) }
-{
-    let mut all = Vec::new(alloc);
-    let mut i = set.len();
-    let mut k = marks.len();
-    while i > 0 {
-        let a = set[i - 1];
-        if k == 0 || marks[k - 1].origin < a.origin {
-            all.push(a)?;
-            i -= 1;
-        } else if a.origin < marks[k - 1].origin {
-            all.push(marks[k - 1])?;
-            k -= 1;
-        } else {
-            all.push(both(a, marks[k - 1]))?;
-            i -= 1;
-            k -= 1;
-        }
-    }
-    Ok((all, k))
+    others[others.len() - 1].last < stretch.at(stretch.more)
 }

@@ -2,11 +2,7 @@
 use Rattle.std.proofs.Common.{not, rules}
 use Rattle.std.proofs.lemmas.Fn.{filter_same}
 use Rattle.mcs_chain.specs.Origins.{is_one_of}
-use Rattle.mcs_chain.proofs.Nothing.{origins-stay, none-of}
 use Rattle.mcs_chain.proofs.origins.drop_from_origins.Goals as goal
 
 pub returns : goal.returns
 returns c = filter_same _ (λ origin. not (is_one_of c.args.answered.now origin)) _ (λ x b f' k. search rules) _ _ c.retain.ensures.filtered
-
-pub returns-then-is_empty : goal.returns-then-is_empty
-returns-then-is_empty c = origins-stay c.args.answered.now c.args.origins.now.items (none-of c.args.answered.now c.if-is_empty.ensures)
