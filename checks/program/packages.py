@@ -22,7 +22,7 @@ from checks.common import TOP, Count, Ran
 LAUNCHER, EXAMPLE, TEST = TOP / 'mcsim', TOP / 'examples' / 'c' / 'reports.c', TOP / 'examples' / 'c' / 'test_design.c'
 SYSTEM = TOP / 'examples' / 'systems' / 'network_driver.toml'
 HORIZON = '100'
-# bytes of the shared library: 675 KB of 1,024; each of its sinks has a turn of its own, whose short calls are inlined, chains for all time take 20 KB, and stretches of origins 9 of the archive
+# bytes of the shared library: 675 KB of 1,024; each of its sinks has a turn of its own, whose short calls are inlined, and chains for all time take 20 KB
 MOST = 675 * 1024
 SANITIZED = ('-fsanitize=address,undefined',)
 STRICT = ('-Wall', '-Wextra', '-Wpedantic', '-Werror')
