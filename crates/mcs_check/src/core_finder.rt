@@ -53,12 +53,12 @@ impl<B: Sought> Sink for CoreFinder<'_, B> {
         let Some(own) = &mut self.own else {
             return Err(Refused);
         };
-        own.rows = own.rows.saturating_add(1);
+        own.rows = own.rows.wrapping_add(1);
         own.see(self.allowed, self.from, row)
     }
 }
 
-/// The size is the number of rows taken, at most `usize::MAX`.
+/// The size is the number of rows taken, in 64 bits.
 impl<B: Sought> Measured for CoreFinder<'_, B> {
     ghost use Rattle.mcs_check.specs.stored.OwnRows.{rows_seen};
 

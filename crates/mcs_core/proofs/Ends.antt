@@ -42,7 +42,14 @@ pub nothing-ready : (queue : List Queued) → thread_of_queued (first_of queue) 
 nothing-ready [] e = refl
 nothing-ready (x ∷ xs) e = cc
 
--- the head of a context that was chosen is no longer than a period may be
+-- the head of a context is no longer than a period may be
+head-short : (system : System) (k : ℕ) (context : Context) → IsContextOf system k context → head_amount context ≤ 2 ^ 40
+head-short system k context h =
+    let a = accepted-is system.min_budget context.config h.accepted in
+    let most : head_amount context ≤ context.config.budget = kept-head-most context.config context.budget h.kept in
+    omega (arith, most, a.within, a.short)
+
+-- and that of one that was chosen
 pub chosen-short : (system : System) (k t : ℕ) (context : Context) → IsContextOf system k context → head_amount (context_chosen t context) ≤ 2 ^ 40
 chosen-short system k t context h =
     let b = chosen-budget system k t context.mode context h in
@@ -97,7 +104,14 @@ module _ (system : System) where
           let r = runner system c from each phase chosen core h f in
           let p = runner-placed system c from each phase chosen core h f in
           let u : chosen.using < head_amount (its_context system chosen.thread core) + slack phase = r.unspent in
-          record { known = rw h.threads p.known; part = p.known; has = p.has; unspent = omega arith }
+          let k = (thread_part system chosen.thread).context in
+          record {
+            known = rw h.threads p.known;
+            part = p.known;
+            has = p.has;
+            unspent = omega arith;
+            short = head-short system k (its_context system chosen.thread core) (h.budgets k p.has);
+          }
 
   -- after the count of a tick with which the thread continues, nothing follows
   pub counted-goes : (c t n used : ℕ) (chosen : Chosen) (core left : Core) → chosen.thread < length core.threads → used ≡ chosen.using + n + 1 → left ≡ counted_by (n + 1) chosen core →

@@ -1,5 +1,5 @@
 -- The alarms of a core: which ring, and when the next one does.
-use Rattle.std.proofs.Common.{◌≡◌, ℕ, zero, suc, ◌+◌, ◌-◌, ◌^◌, ◌<◌, ◌≤◌, Bool, true, false, cond, List, [], ◌∷◌, ◌++◌, length, take, get_or, set, refl, sym, ap, subst, ◌∙◌, arith}
+use Rattle.std.proofs.Common.{◌≡◌, ℕ, zero, suc, ◌+◌, ◌-◌, ◌^◌, ◌<◌, ◌≤◌, Bool, true, false, cond, List, [], ◌∷◌, length, refl, sym, ap, subst, ◌∙◌, arith}
 use Rattle.std.specs.Prelude.{◌==◌, nat_le, nat_lt, filter, map, All, Option, Some, None}
 use Rattle.std.specs.List.{AllByRecursion}
 use Rattle.std.proofs.lemmas.Bool.Decides.{nat_tests}
@@ -11,7 +11,6 @@ use Rattle.mcs_core.specs.Alarms.{alarm_of, is_at_home, alarms_of, later_by, run
 use Rattle.mcs_core.specs.Busy.{IsFirst}
 use Rattle.mcs_core.specs.declared.alarm.Alarm.{Alarm}
 use Rattle.mcs_core.specs.stored.Places.{alarm_at, AreSilent, IsFirstPlace}
-use Rattle.std.proofs.lemmas.List.Elements.{filter_more}
 use Rattle.mcs_core.proofs.Counts.{either}
 use Rattle.mcs_core.proofs.Firsts.{not_le}
 

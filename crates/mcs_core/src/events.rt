@@ -18,7 +18,8 @@ impl Local {
     /// head, if there is one up to 2^42.
     #[inline(always)]
     pub(crate) fn next_end(&self, system: &SystemParts, from: Tick) -> Soonest
-        requires { IfSome self.now.running (IsUnspent system.now self.now) }
+        requires early { from ≤ 2 ^ 40 + 1 }
+        requires unspent { IfSome self.now.running (IsUnspent system.now self.now) }
         ensures { IsFirst from (λ n. GoesOnAfter system.now n self.now.running self.now) result }
     {
         let Some(chosen) = self.running() else {
@@ -26,7 +27,8 @@ impl Local {
         };
         let left = self.thread(chosen.thread).place.left;
         let head = self.head_amount(system, chosen.thread);
-        Soonest::after(from, ticks_before_end(left, chosen.using, head))
+        let ticks = ticks_before_end(left, chosen.using, head);
+        Soonest::at(Tick::at(from.get() + ticks))
     }
 
     /// This moment, if a ready thread has to run instead of the running one; otherwise never.

@@ -2,7 +2,7 @@ ghost use Rattle.std.specs.Prelude.{◌≡◌, ◌^◌, ◌≤◌, ◌<◌, OnOk
 ghost use Rattle.mcs_ticks.specs.Queue.{by_priority};
 ghost use Rattle.mcs_core.specs.Alarms.{ringing, past, AreAlarms};
 ghost use Rattle.mcs_core.specs.Turn.{each, interrupts};
-ghost use Rattle.mcs_core.specs.stored.Parts.{Makes};
+ghost use Rattle.mcs_core.specs.stored.Parts.{Makes, MakesApart};
 ghost use Rattle.mcs_core.specs.stored.Sound.{IsSound};
 ghost use Rattle.mcs_core.specs.stored.Sound.Phase.{PastTick};
 ghost use Rattle.mcs_system.specs.WellFormed.{IsWellFormed};
@@ -11,6 +11,7 @@ use crate::Alarm;
 use crate::alarms::Alarms;
 use crate::local::Local;
 use crate::log::{Here, Log};
+use mcs_mail::Mail;
 use mcs_ticks::{FlowFault, Sink, What};
 
 impl Local {
@@ -66,18 +67,35 @@ impl Local {
         if !alarms.next().has_come(here.moment) {
             return Ok(());
         }
-        // A copy, since the caller can keep a value in registers if no call has its address.
-        let here = Here {
-            system: here.system,
-            core: here.core,
-            delays: here.delays,
-            moment: here.moment,
-        };
-        self.ring(&here, alarms, log)
+        self.ring_apart(&here.copied(), alarms, &mut *log.sink, &mut *log.signals)
+    }
+
+    /// Does what `ring` does. It is not inlined, and has no address of the caller's log, so a turn
+    /// without interrupts keeps the log in registers.
+    #[inline(never)]
+    fn ring_apart<S: Sink>(
+        &mut self,
+        here: &Here<'_>,
+        alarms: &mut Alarms,
+        sink: &mut S,
+        signals: &mut Vec<Mail>,
+    ) -> Result<(), FlowFault>
+        requires well_formed { IsWellFormed here.now.system.now }
+        requires sound { IsSound here.now.system.now here.now.core here.now.moment PastTick None self.old }
+        requires alarms { AreAlarms (length here.now.system.now.notes) here.now.moment alarms.old }
+        requires soon { here.now.moment ≤ 2 ^ 40 }
+        ensures makes { OnOk result
+            (MakesApart S.takes here.now
+            (each (interrupts by_priority here.now.system.now here.now.moment) (ringing here.now.moment alarms.old) self.old)
+            self.new sink.old sink.new signals.old.items signals.new.items) }
+        ensures alarms { OnOk result (alarms.new ≡ past here.now.moment alarms.old) }
+    {
+        let mut log = Log { sink, signals };
+        self.ring(here, alarms, &mut log)
     }
 
     /// Posts the interrupts of all sources with a date at this moment, in file order.
-    #[inline(never)]
+    #[inline(always)]
     fn ring<S: Sink>(
         &mut self,
         here: &Here<'_>,

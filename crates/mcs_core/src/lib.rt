@@ -10,6 +10,7 @@ mod choice;
 mod contexts;
 mod events;
 mod interrupts;
+mod items;
 mod local;
 mod log;
 mod moves;

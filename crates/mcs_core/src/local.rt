@@ -20,7 +20,6 @@ use mcs_control::{ContextView, Order};
 use mcs_notify::{Notes, Posted, Waited};
 use mcs_ready::Ready;
 use mcs_release::Releases;
-use mcs_script::Place;
 use mcs_ticks::{ContextId, NoMemory, NoteId, Soonest, ThreadId, Tick};
 use std::alloc::Global;
 use std::marker::Model;
@@ -29,7 +28,7 @@ use std::marker::Model;
 #[derive(Drop)]
 pub(crate) struct Local {
     running: Option<Chosen>,
-    threads: Vec<Thread>,
+    pub(crate) threads: Vec<Thread>,
     ready: Ready,
     releases: Releases,
     pub(crate) contexts: Contexts,
@@ -61,17 +60,6 @@ impl Local {
         ensures { self.new ≡ stands thread standing self.old }
     {
         self.threads[thread.0].standing = standing;
-    }
-
-    /// Sets the place of the thread in its script, and the beginning of its round.
-    pub(crate) fn set_place(&mut self, thread: ThreadId, place: Place, since: Tick)
-        requires { thread < length self.old.threads }
-        ensures { self.new
-            ≡ with_thread thread (record (thread_of self.old thread) { place = place; since = since }) self.old }
-    {
-        let state = &mut self.threads[thread.0];
-        state.place = place;
-        state.since = since;
     }
 
     /// Takes ticks off the rest of the thread's item, down to 0. Returns the rest.

@@ -1,4 +1,4 @@
-ghost use Rattle.std.specs.Prelude.{◌∷◌, [], OnOk};
+ghost use Rattle.std.specs.Prelude.{◌≡◌, ◌∷◌, [], OnOk};
 ghost use Rattle.mcs_core.specs.stored.Parts.{Adds};
 
 use mcs_mail::Mail;
@@ -13,6 +13,22 @@ pub(crate) struct Here<'a> {
     pub(crate) core: CoreId,
     pub(crate) delays: &'a [u64; Limits::CORES],
     pub(crate) moment: Tick,
+}
+
+impl Here<'_> {
+    /// A copy, for a call that is not inlined: the caller can keep a value in registers if no call
+    /// has its address.
+    #[inline(always)]
+    pub(crate) fn copied(&self) -> Here<'_>
+        ensures { result ≡ self.now }
+    {
+        Here {
+            system: self.system,
+            core: self.core,
+            delays: self.delays,
+            moment: self.moment,
+        }
+    }
 }
 
 /// The sink for the rows of turns, and the list for their signals to other cores.

@@ -32,6 +32,25 @@ impl Local {
         place.advance(&part.script, system.call, part.rounds)
     }
 
+    /// Moves the thread on in its script, in place. If its round ends, the next one begins now.
+    #[inline(always)]
+    fn advance(&mut self, here: &Here<'_>, thread: ThreadId) -> Moved
+        requires known { thread < length self.old.threads }
+        requires placed { IsPlaced here.now.system.now thread self.old }
+        ensures moved { result ≡ move_of here.now.system.now thread self.old }
+        ensures core { self.new ≡ (moves_on here.now.system.now here.now.moment thread self.old).core }
+    {
+        let part = here.system.thread(thread);
+        let state = &mut self.threads[thread.0];
+        let moved = state
+            .place
+            .advance(&part.script, here.system.call, part.rounds);
+        if moved == Moved::RoundEnds {
+            state.since = here.moment;
+        }
+        moved
+    }
+
     /// Finishes the thread's item, and moves the thread on in its script.
     #[inline(always)]
     pub(crate) fn move_on<S: Sink>(
@@ -46,25 +65,22 @@ impl Local {
             (Makes S.takes here.now (moves_on here.now.system.now here.now.moment thread self.old) self.new log.old log.new) }
         ensures moved { IfOk result (λ moved. moved ≡ move_of here.now.system.now thread self.old) }
     {
-        let part = here.system.thread(thread);
         let state = self.thread(thread);
-        let mut place = state.place;
-        let moved = place.advance(&part.script, here.system.call, part.rounds);
+        let number = state.place.round;
+        let since = state.since;
+        let moved = self.advance(here, thread);
         if moved == Moved::Next {
-            self.set_place(thread, place, state.since);
             return Ok(moved);
         }
+        let response = here.moment.get().saturating_sub(since.get());
         log.tell(
             here,
             What::Round {
                 thread,
-                number: state.place.round,
-                response: here.moment.get().saturating_sub(state.since.get()),
+                number,
+                response,
             },
         )?;
-        if moved == Moved::RoundEnds {
-            self.set_place(thread, place, here.moment);
-        }
         Ok(moved)
     }
 
@@ -75,13 +91,10 @@ impl Local {
         requires part { thread < length here.now.system.now.threads }
         ensures { self.new ≡ given here.now.system.now here.now.moment thread word self.old }
     {
-        let state = self.thread(thread);
-        let mut place = state.place;
-        let mut since = state.since;
-        if place.item == 0 {
-            place.hear(&here.system.thread(thread).script, word);
-            since = here.moment;
+        let state = &mut self.threads[thread.0];
+        if state.place.item == 0 {
+            state.place.hear(&here.system.thread(thread).script, word);
+            state.since = here.moment;
         }
-        self.set_place(thread, place, since);
     }
 }

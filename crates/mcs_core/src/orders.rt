@@ -3,7 +3,7 @@ ghost use Rattle.mcs_ticks.specs.Queue.{by_priority};
 ghost use Rattle.mcs_system.specs.System.{thread_part};
 ghost use Rattle.mcs_core.specs.Turn.{each, applied, charged, orders_running, obeys};
 ghost use Rattle.mcs_core.specs.Orders.{IsPlanned, ArePlanned, AreByMoment, due_now, to_come};
-ghost use Rattle.mcs_core.specs.stored.Parts.{Makes};
+ghost use Rattle.mcs_core.specs.stored.Parts.{Makes, MakesApart};
 ghost use Rattle.mcs_core.specs.stored.Sound.{IsFree, IsSound};
 ghost use Rattle.mcs_core.specs.stored.Sound.Phase.{PastTick};
 ghost use Rattle.mcs_system.specs.WellFormed.{IsWellFormed};
@@ -13,6 +13,7 @@ use crate::agenda::Agenda;
 use crate::local::Local;
 use crate::log::{Here, Log};
 use mcs_control::Order;
+use mcs_mail::Mail;
 use mcs_ticks::{FlowFault, Sink, What, Why};
 
 impl Local {
@@ -109,18 +110,36 @@ impl Local {
         if !agenda.next().has_come(here.moment) {
             return Ok(());
         }
-        // A copy, since the caller can keep a value in registers if no call has its address.
-        let here = Here {
-            system: here.system,
-            core: here.core,
-            delays: here.delays,
-            moment: here.moment,
-        };
-        self.obey_due(&here, agenda, log)
+        self.obey_due_apart(&here.copied(), agenda, &mut *log.sink, &mut *log.signals)
+    }
+
+    /// Does what `obey_due` does. It is not inlined, and has no address of the caller's log, so a
+    /// turn without orders keeps the log in registers.
+    #[inline(never)]
+    fn obey_due_apart<S: Sink>(
+        &mut self,
+        here: &Here<'_>,
+        agenda: &mut Agenda,
+        sink: &mut S,
+        signals: &mut Vec<Mail>,
+    ) -> Result<(), FlowFault>
+        requires well_formed { IsWellFormed here.now.system.now }
+        requires sound { IsSound here.now.system.now here.now.core here.now.moment PastTick None self.old }
+        requires planned { ArePlanned here.now.system.now here.now.core agenda.old }
+        requires by_moment { AreByMoment here.now.moment agenda.old }
+        requires soon { here.now.moment ≤ 2 ^ 40 }
+        ensures makes { OnOk result
+            (MakesApart S.takes here.now
+            (each (obeys by_priority here.now.system.now here.now.moment) (due_now here.now.moment agenda.old) self.old)
+            self.new sink.old sink.new signals.old.items signals.new.items) }
+        ensures agenda { OnOk result (agenda.new ≡ to_come (here.now.moment + 1) agenda.old) }
+    {
+        let mut log = Log { sink, signals };
+        self.obey_due(here, agenda, &mut log)
     }
 
     /// Obeys the orders of this moment.
-    #[inline(never)]
+    #[inline(always)]
     fn obey_due<S: Sink>(
         &mut self,
         here: &Here<'_>,

@@ -9,6 +9,12 @@ pub entered-none : (places : List (Option Dated)) → ((i : ℕ) → get_or plac
 entered-none [] none = refl
 entered-none (place ∷ places) none = grind (arith, none zero, entered-none places (λ i. none (suc i)))
 
+-- there are at most as many entries as places
+pub length-entered : (places : List (Option Dated)) → length (entered places) ≤ length places
+length-entered [] = omega arith
+length-entered (None ∷ places) = omega (arith, length-entered places)
+length-entered (Some x ∷ places) = omega (arith, length-entered places)
+
 -- the entries before a tail of empty places are all entries
 pub entered-before : (places : List (Option Dated)) (past : ℕ) → ((i : ℕ) → past ≤ i → get_or places i None ≡ None) →
     entered (take past places) ≡ entered places

@@ -1,12 +1,12 @@
 -- Properties of a release queue that each call keeps.
-use Rattle.std.proofs.Common.{◌≡◌, ℕ, zero, suc, ◌+◌, ◌^◌, ◌<◌, ◌≤◌, false, List, [], ◌∷◌, ◌++◌, length, get_or, set, Option, Some, None, refl, sym, ap, ◌∙◌, arith, get_or-set_other, length-set}
+use Rattle.std.proofs.Common.{◌≡◌, ℕ, zero, suc, ◌+◌, ◌<◌, ◌≤◌, false, List, [], ◌∷◌, ◌++◌, length, get_or, set, Option, Some, None, refl, sym, ap, ◌∙◌, arith, get_or-set_other, length-set}
 use Rattle.std.specs.Prelude.{nat_lt}
 use Rattle.std.proofs.lemmas.Bool.Decides.{nat_tests}
 use Rattle.std.proofs.lemmas.Grind.{common_steps}
 use Rattle.std.proofs.lemmas.List.{get_or_past}
 use Rattle.mcs_ticks.specs.Soonest.{sooner}
 use Rattle.mcs_release.specs.declared.dated.Dated.{Dated}
-use Rattle.mcs_release.specs.stored.Places.{entered, times, one_if, waiting, AreEmptyFrom, IsAlone, IsKept, IsTaken}
+use Rattle.mcs_release.specs.stored.Places.{entered, times, one_if, waiting, most, AreEmptyFrom, AreEnoughFor, AsManyFit, IsAlone, IsKept, IsTaken}
 use Rattle.mcs_release.specs.Release.{ReleaseQueue, is_held, earliest, next_date, when_left, AreBelow, AreDistinct}
 use Rattle.mcs_release.proofs.Earliest.{next_date-entered, next_date-none}
 use Rattle.mcs_release.proofs.Entered.{empty_from, entered-none, entered-push, entered-left, times-left}
@@ -16,14 +16,23 @@ use Rattle.mcs_release.proofs.Times.{times-append, times-cons_same, times-free, 
 pub entered-new : (places : List (Option Dated)) → AreEmptyFrom 0 places → entered places ≡ []
 entered-new places empty = entered-none places (λ place. empty place (omega arith))
 
-pub IsKept-new : (places : List (Option Dated)) (room : ℕ) → AreEmptyFrom 0 places → room < length places → length places ≤ 2 ^ 21 → IsKept None None places 0 room
-IsKept-new places room empty wide few = record {
+pub IsKept-new : (places : List (Option Dated)) (spare : Option (List (Option Dated))) (room : ℕ) → AreEmptyFrom 0 places → AreEnoughFor room places spare →
+    IsKept None None places spare 0 room
+IsKept-new places spare room empty enough = record {
   first = sym (ap next_date (entered-new places empty));
   alone = tt;
   behind = empty;
   once = λ thread. omega (arith, ap (times thread) (entered-new places empty));
-  wide = wide;
-  few = few;
+  enough = enough;
+}
+
+-- as many fit into as many places
+pub AreEnoughFor-same : (count : ℕ) (places places' : List (Option Dated)) (spare : Option (List (Option Dated))) → length places' ≡ length places →
+    AreEnoughFor count places spare → AreEnoughFor count places' spare
+AreEnoughFor-same count places places' spare same enough = record {
+  two = omega (arith, enough.two);
+  wide = omega (arith, enough.wide, ap (λ (n : ℕ). most n spare) same);
+  unused = enough.unused;
 }
 
 -- if no thread waits, no place has a thread
@@ -32,14 +41,19 @@ entered-nil None places e = e
 entered-nil (Some x) places e = cc
 
 -- one enters
-module _ (soonest : Option ℕ) (lone : Option Dated) (places : List (Option Dated)) (end room : ℕ) (kept : IsKept soonest lone places end room) (x : Dated)
+module _ (soonest : Option ℕ) (lone : Option Dated) (places : List (Option Dated)) (spare : Option (List (Option Dated))) (end room : ℕ)
+    (kept : IsKept soonest lone places spare end room) (x : Dated)
     (x_below : x.thread < room) (free : is_held x.thread (waiting lone places) ≡ false) where
   once-more : (thread : ℕ) → times thread (x ∷ waiting lone places) ≤ one_if (nat_lt thread room)
   once-more thread = grind (arith, nat_tests, times-free x.thread (waiting lone places) free, kept.once thread)
 
   -- there is a place for one more
-  pub fewer-than-places : length (waiting lone places) < length places
-  fewer-than-places = omega (arith, length-le-room (x ∷ waiting lone places) room once-more, kept.wide)
+  pub enough-for-more : AreEnoughFor (length (waiting lone places)) places spare
+  enough-for-more = record {
+    two = kept.enough.two;
+    wide = omega (arith, length-le-room (x ∷ waiting lone places) room once-more, kept.enough.wide);
+    unused = kept.enough.unused;
+  }
 
   -- it is the only one
   pub alone-now : soonest ≡ None → x ∷ entered places ≡ waiting lone places ++ x ∷ []
@@ -47,7 +61,7 @@ module _ (soonest : Option ℕ) (lone : Option Dated) (places : List (Option Dat
       let empty = next_date-none (waiting lone places) (sym kept.first ∙ none) in
       ap (λ (xs : List Dated). x ∷ xs) (entered-nil lone places empty) ∙ sym (ap (λ (xs : List Dated). xs ++ x ∷ []) empty)
 
-  pub IsKept-alone : soonest ≡ None → IsKept (Some x.date) (Some x) places end room
+  pub IsKept-alone : soonest ≡ None → IsKept (Some x.date) (Some x) places spare end room
   IsKept-alone none =
       let empty = next_date-none (waiting lone places) (sym kept.first ∙ none) in
       let nil = entered-nil lone places empty in
@@ -56,18 +70,17 @@ module _ (soonest : Option ℕ) (lone : Option Dated) (places : List (Option Dat
         alone = nil;
         behind = kept.behind;
         once = λ thread. omega (arith, once-more thread, ap (λ (xs : List Dated). times thread (x ∷ xs)) (nil ∙ sym empty));
-        wide = kept.wide;
-        few = kept.few;
+        enough = kept.enough;
       }
 
   -- it gets a place behind all
-  module _ (places' : List (Option Dated)) (place : ℕ) (same : entered places' ≡ waiting lone places) (within : place < length places')
-      (behind : AreEmptyFrom place places') (wide : length places' ≡ length places)
+  module _ (places' : List (Option Dated)) (spare' : Option (List (Option Dated))) (place : ℕ) (same : entered places' ≡ waiting lone places)
+      (within : place < length places') (behind : AreEmptyFrom place places') (fit : AsManyFit places spare places' spare')
     where
       pub entered-more : entered (set places' place (Some x)) ≡ waiting lone places ++ x ∷ []
       entered-more = entered-push places' place x within behind ∙ ap (λ (xs : List Dated). xs ++ x ∷ []) same
 
-      pub IsKept-entered : IsKept (sooner soonest (Some x.date)) None (set places' place (Some x)) (place + 1) room
+      pub IsKept-entered : IsKept (sooner soonest (Some x.date)) None (set places' place (Some x)) spare' (place + 1) room
       IsKept-entered = record {
         first = ap (λ (r : Option ℕ). sooner r (Some x.date)) kept.first ∙ sym (next_date-entered (waiting lone places) x) ∙ sym (ap next_date entered-more);
         alone = tt;
@@ -78,8 +91,7 @@ module _ (soonest : Option ℕ) (lone : Option Dated) (places : List (Option Dat
           times-append thread (waiting lone places) (x ∷ []),
           once-more thread,
         );
-        wide = omega (arith, length-set places' place (Some x), wide, kept.wide);
-        few = omega (arith, length-set places' place (Some x), wide, kept.few);
+        enough = AreEnoughFor-same room places' (set places' place (Some x)) spare' (length-set places' place (Some x)) (fit room kept.enough);
       }
 
 -- an empty place stays empty when another is emptied
@@ -87,7 +99,8 @@ still : (places : List (Option Dated)) (k i : ℕ) → get_or places i None ≡ 
 still places k i e = grind (arith, common_steps, get_or_past (set places k None) i None)
 
 -- the earliest leaves its place
-module _ (soonest : Option ℕ) (lone : Option Dated) (places : List (Option Dated)) (end room : ℕ) (kept : IsKept soonest lone places end room) (places' : List (Option Dated))
+module _ (soonest : Option ℕ) (lone : Option Dated) (places : List (Option Dated)) (spare : Option (List (Option Dated))) (end room : ℕ)
+    (kept : IsKept soonest lone places spare end room) (places' : List (Option Dated))
     (thread : ℕ) (taken : IsTaken places places' thread) (none : lone ≡ None) where
   all : waiting lone places ≡ entered places
   all = ap (λ (r : Option Dated). waiting r places) none
@@ -102,7 +115,7 @@ module _ (soonest : Option ℕ) (lone : Option Dated) (places : List (Option Dat
       ∙ sym (ap (λ (r : Option Dated). when_left r (entered places)) taken.is_earliest)
       ∙ sym (ap (λ (xs : List Dated). when_left (earliest xs) xs) all)
 
-  pub IsKept-left : IsKept (next_date (entered places')) None places' end room
+  pub IsKept-left : IsKept (next_date (entered places')) None places' spare end room
   IsKept-left = record {
     first = refl;
     alone = tt;
@@ -114,8 +127,7 @@ module _ (soonest : Option ℕ) (lone : Option Dated) (places : List (Option Dat
       ap (times t) all,
       kept.once t,
     );
-    wide = omega (arith, ap length taken.left, length-set places taken.place None, kept.wide);
-    few = omega (arith, ap length taken.left, length-set places taken.place None, kept.few);
+    enough = AreEnoughFor-same room places places' spare (ap length taken.left ∙ length-set places taken.place None) kept.enough;
   }
 
 -- no thread stands twice, and none above what there is room for

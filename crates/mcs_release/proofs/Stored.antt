@@ -211,6 +211,18 @@ module _ (inner : ℕ) (nodes threads : List ℕ) (stored : IsStored inner nodes
           ∙ ap (set (places_of (leaves inner nodes) threads) place) (in_place-key date place thread range put-few)
           ∙ ap (λ (ps : List (Option Dated)). set ps place (Some (dated thread date))) are
 
+      pub put-stored-few : (nodes' : List ℕ) → leaves inner nodes' ≡ set (leaves inner nodes) place (key date place) →
+          length (places_of (leaves inner nodes') (set threads place thread)) ≤ 2 ^ 21
+      put-stored-few nodes' put = omega (
+        arith,
+        ap length (put-stored nodes' put),
+        length-set places place (Some (dated thread date)),
+        ap length are,
+        count-stored,
+        stored.wide,
+        stored.few,
+      )
+
       -- in an empty place it is lower
       pub put-lower : get_or places place None ≡ None → key date place ≤ get_or (leaves inner nodes) place empty
       put-lower none = by (get_or (leaves inner nodes) place empty) (stored.numbered place) (sym (places_of-get (leaves inner nodes) threads place same-length) ∙ ap (λ (ps : List (Option Dated)). get_or ps place None) are ∙ none)
@@ -259,6 +271,22 @@ place-dated numbers threads place date same below e =
     places_of-get numbers threads place same
     ∙ ap (λ (n : ℕ). in_place n (get_or threads place 0)) (get_or_default numbers place empty 0 (omega arith))
     ∙ ap (option_map (dated (get_or threads place 0))) (sym e)
+
+module _ (inner : ℕ) (nodes threads : List ℕ) (stored : IsStored inner nodes threads) (places : List (Option Dated)) (are : places_of (leaves inner nodes) threads ≡ places)
+    (place : ℕ) (within : place < length places) where
+  pub get-within : place < length threads
+  get-within = omega (arith, within, ap length are, count-stored inner nodes threads stored)
+
+  pub get-stored : (number : ℕ) (date : Option ℕ) → number ≡ get_or nodes (inner + 3 + place) number → date ≡ date_of number →
+      get_or places place None ≡ option_map (dated (get_or threads place 0)) date
+  get-stored number date read e =
+      ap (λ (ps : List (Option Dated)). get_or ps place None) (sym are)
+      ∙ place-dated (leaves inner nodes) threads place date (same-length inner nodes threads stored) get-within (e ∙ ap date_of there)
+    where
+      there : number ≡ get_or (leaves inner nodes) place 0
+      there =
+          read ∙ get_or_default nodes (inner + 3 + place) number 0 (omega (arith, get-within, stored.wide, stored.tree.size))
+          ∙ sym (get_or-drop (inner + 3) nodes place 0)
 
 pub entered-dated : (numbers threads : List ℕ) (place : ℕ) (date : Option ℕ) → length numbers ≡ length threads → place < length threads →
     date ≡ date_of (get_or numbers place 0) →

@@ -8,6 +8,7 @@ mod laws;
 mod least;
 mod places;
 mod releases;
+mod spare;
 
 pub use dated::Dated;
 pub use laws::equal_dates_leave_in_order;

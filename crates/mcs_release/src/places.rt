@@ -45,7 +45,6 @@ impl Places {
         requires few { wanted + 4 ≤ 2 ^ 21 }
         ensures empty { IfOk result (λ places. AreEmptyFrom 0 places) }
         ensures wide { IfOk result (λ places. wanted ≤ length places) }
-        ensures few { IfOk result (λ places. length places ≤ 2 ^ 21) }
     {
         let inner = wanted / 3 + 1;
         let threads = vec![in alloc; ThreadId(0); 3 * inner + 1]?;
@@ -80,6 +79,18 @@ impl Places {
         entries(alloc, &self.nodes[self.inner + ROOT..], &self.threads)
     }
 
+    /// Returns the thread in a place with its date, or `None` if the place is empty.
+    pub(crate) fn get(&self, place: usize) -> Option<Dated>
+        requires { place < length self.now }
+        ensures { result ≡ slice_index_or self.now place None }
+    {
+        let date = date_of(self.nodes[self.inner + ROOT + place])?;
+        Some(Dated {
+            thread: self.threads[place],
+            date,
+        })
+    }
+
     /// Takes the thread with the earliest date; at equal dates, the one in the first place. The
     /// caller ensures that there is one.
     #[inline(always)]
@@ -97,7 +108,8 @@ impl Places {
     pub(crate) fn put(&mut self, place: usize, entry: Dated)
         requires within { place < length self.old }
         requires empty { slice_index_or self.old place None ≡ None }
-        ensures { self.new ≡ slice_set self.old place (Some entry) }
+        ensures put { self.new ≡ slice_set self.old place (Some entry) }
+        ensures few { length self.new ≤ 2 ^ 21 }
     {
         self.threads[place] = entry.thread;
         lower(&mut self.nodes, self.inner, place, key(entry.date, place));

@@ -1,9 +1,10 @@
 ghost use Rattle.std.specs.Prelude.{◌≡◌, ℕ, ◌+◌, ◌<◌, ◌≤◌, ◌++◌, ◌∷◌, false, [], None, Some, length, slice_index_or, IfOk, IsSome};
-ghost use Rattle.mcs_release.specs.stored.Places.{entered, waiting, AreEmptyFrom, IsAlone};
+ghost use Rattle.mcs_release.specs.stored.Places.{entered, waiting, AreEmptyFrom, AreEnoughFor, AsManyFit, IsAlone};
 ghost use Rattle.mcs_release.specs.Release.{dated, earliest, is_held, next_date, first_due, without_first_due, thread_of, when_left, AreDistinct, AreBelow};
 
 use crate::Dated;
 use crate::places::Places;
+use crate::spare::make_room;
 use mcs_ticks::{NoMemory, Soonest, ThreadId, Tick};
 use std::alloc::Global;
 use std::marker::Model;
@@ -13,6 +14,14 @@ const MOST: usize = 1 << 20;
 
 /// Places beyond five for each four threads.
 const MORE: usize = 34;
+
+/// Largest number of threads for which a queue has no spare places. These threads take at most half
+/// of the 64 places of a larger queue, so they would never move into spare ones.
+const FEW: usize = 32;
+
+/// Places that a queue of more threads wants at first. It gets 64, the largest number that are all
+/// only three nodes below the root of their tree.
+const FIRST: usize = 62;
 
 /// The threads of one core that wait for a date, each with its date. Contracts see them in the
 /// order in which they entered, and `room`, the number of threads that fit.
@@ -28,6 +37,8 @@ pub struct Releases {
     /// the place of the next thread that enters, after all held threads
     end: usize,
     room: usize,
+    /// empty places for all threads, if `places` are few
+    spare: Option<Places>,
 }
 
 impl Model for Releases {
@@ -39,7 +50,7 @@ impl Model for Releases {
 
     ghost view = { λ a. record { queue = waiting a.lone a.places; room = a.room } };
 
-    ghost invariant = { λ a. IsKept a.soonest a.lone a.places a.end a.room };
+    ghost invariant = { λ a. IsKept a.soonest a.lone a.places a.spare a.end a.room };
 }
 
 impl Releases {
@@ -52,13 +63,19 @@ impl Releases {
         if threads > MOST {
             return Err(NoMemory);
         }
-        let places = Places::new(alloc, threads + threads / 4 + MORE)?;
+        let all = Places::new(alloc, threads + threads / 4 + MORE)?;
+        let (places, spare) = if threads > FEW {
+            (Places::new(alloc, FIRST)?, Some(all))
+        } else {
+            (all, None)
+        };
         Ok(Releases {
             soonest: Soonest::never(),
             lone: None,
             places,
             end: 0,
             room: threads,
+            spare,
         })
     }
 
@@ -149,7 +166,7 @@ impl Releases {
         ensures { self.new ≡ record self.old { queue = self.old.queue ++ entry ∷ [] } }
     {
         let at = Soonest::at(entry.date);
-        let place = place_behind(&mut self.places, &mut self.lone, self.end);
+        let place = place_behind(&mut self.places, &mut self.spare, &mut self.lone, self.end);
         self.places.put(place, entry);
         self.end = place + 1;
         self.soonest = self.soonest.or(at);
@@ -160,15 +177,20 @@ impl Releases {
 /// place is taken, all threads move to the front; since the last such move, the threads of at least
 /// a fifth of the places have left.
 #[inline(always)]
-fn place_behind(places: &mut Places, lone: &mut Option<Dated>, end: usize) -> usize
+fn place_behind(
+    places: &mut Places,
+    spare: &mut Option<Places>,
+    lone: &mut Option<Dated>,
+    end: usize,
+) -> usize
     requires alone { IsAlone lone.old places.old }
     requires behind { AreEmptyFrom end places.old }
-    requires room { length (waiting lone.old places.old) < length places.old }
+    requires enough { AreEnoughFor (length (waiting lone.old places.old)) places.old spare.old }
     ensures none { lone.new ≡ None }
     ensures entered { entered places.new ≡ waiting lone.old places.old }
     ensures within { result < length places.new }
     ensures behind { AreEmptyFrom result places.new }
-    ensures len { length places.new ≡ length places.old }
+    ensures enough { AsManyFit places.old spare.old places.new spare.new }
 {
     if let Some(only) = *lone {
         *lone = None;
@@ -178,7 +200,7 @@ fn place_behind(places: &mut Places, lone: &mut Option<Dated>, end: usize) -> us
     if end < places.len() {
         return end;
     }
-    places.close_up()
+    make_room(places, spare)
 }
 
 /// Law of every release queue: no thread is held twice, and each number is below `room`.

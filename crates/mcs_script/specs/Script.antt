@@ -92,7 +92,8 @@ cost call Spin = never
 cost call (Enter server priority) = call
 cost call (Leave server priority) = call
 
-abbrev cost_at : ℕ → Option Item → ℕ
+-- the ticks that an item costs, if there is one
+abbrev pub cost_at : ℕ → Option Item → ℕ
 cost_at call None = 0
 cost_at call (Some item) = cost call item
 

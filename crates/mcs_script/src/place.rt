@@ -1,5 +1,5 @@
-ghost use Rattle.std.specs.Prelude.{◌≡◌, ◌<◌, length};
-ghost use Rattle.mcs_script.specs.Script.{first_place, goes_to, move_after, place_after, heard, left_after};
+ghost use Rattle.std.specs.Prelude.{◌≡◌, ◌<◌, length, slice_get};
+ghost use Rattle.mcs_script.specs.Script.{first_place, goes_to, move_after, place_after, priority_after, heard, left_after};
 
 use crate::{Item, Moved, Script};
 
@@ -24,11 +24,10 @@ impl Place {
     pub fn first(script: &Script, call: u64, priority: u8) -> Self
         ensures { result ≡ first_place call priority script.now }
     {
-        let left = script.get(0).map_or(0, |item| item.cost(call));
         Place {
             round: 1,
             item: 0,
-            left,
+            left: script.cost_at(call, 0),
             word: 0,
             priority,
         }
@@ -45,12 +44,13 @@ impl Place {
         ensures place { self.new ≡ place_after call script.now result self.old }
     {
         if let Some(item) = script.next(self.item, self.word) {
-            *self = self.to(script, call, self.round, item);
+            self.go_to(script, call, item);
             Moved::Next
         } else if rounds != 0 && rounds <= self.round {
             Moved::AllDone
         } else {
-            *self = self.to(script, call, self.round.saturating_add(1), 0);
+            self.go_to(script, call, 0);
+            self.round = self.round.saturating_add(1);
             Moved::RoundEnds
         }
     }
@@ -72,22 +72,27 @@ impl Place {
         }
     }
 
+    /// Returns the priority after the item at which the thread is.
     #[inline(always)]
-    fn to(&self, script: &Script, call: u64, round: u64, item: usize) -> Self
-        ensures { result ≡ goes_to call script.now round item self.now }
+    fn priority_after(&self, script: &Script) -> u8
+        ensures { result ≡ priority_after (slice_get script.now self.now.item) self.now.priority }
     {
-        let left = script.get(item).map_or(0, |item| item.cost(call));
-        let word = if item == 0 { 0 } else { self.word };
-        let priority = match script.get(self.item) {
+        match script.get(self.item) {
             Some(Item::Enter(_, priority) | Item::Leave(_, priority)) => priority,
             _ => self.priority,
-        };
-        Place {
-            round,
-            item,
-            left,
-            word,
-            priority,
+        }
+    }
+
+    /// Goes to the start of an item of this round.
+    #[inline(always)]
+    fn go_to(&mut self, script: &Script, call: u64, item: usize)
+        ensures { self.new ≡ goes_to call script.now self.old.round item self.old }
+    {
+        self.priority = self.priority_after(script);
+        self.left = script.cost_at(call, item);
+        self.item = item;
+        if item == 0 {
+            self.word = 0;
         }
     }
 }

@@ -2,7 +2,7 @@ ghost use Rattle.std.specs.Prelude.{◌≡◌, ◌↔◌, ◌<◌, ◌+◌, fals
 ghost use Rattle.std.specs.Cmp.Lexicographic.{pointwise, lists_per, lists_equiv};
 ghost use Rattle.mcs_script.specs.contracts.item.ItemPartialEq.TheImpl.Laws.{laws-law as item_partial_laws};
 ghost use Rattle.mcs_script.specs.contracts.item.ItemEq.TheImpl.Laws.{laws-law as item_laws};
-ghost use Rattle.mcs_script.specs.Script.{IsScript, badges_of, is_bare, IsFirstBare, is_left_open, IsFirstOpen, ends_handler, listens, heard, first_taken, next_item, or_again};
+ghost use Rattle.mcs_script.specs.Script.{IsScript, badges_of, is_bare, IsFirstBare, is_left_open, IsFirstOpen, ends_handler, listens, heard, cost_at, first_taken, next_item, or_again};
 
 use crate::Item;
 use mcs_ticks::Limits;
@@ -101,6 +101,17 @@ impl Script {
         ensures { result ≡ slice_get self.now item }
     {
         self.items.get(item).copied()
+    }
+
+    /// Returns the ticks that the item with this number costs, or 0 past the last.
+    #[inline(always)]
+    pub(crate) fn cost_at(&self, call: u64, item: usize) -> u64
+        ensures { result ≡ cost_at call (slice_get self.now item) }
+    {
+        match self.items.get(item) {
+            Some(item) => item.cost(call),
+            None => 0,
+        }
     }
 
     /// Returns the items.

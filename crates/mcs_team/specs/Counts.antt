@@ -1,5 +1,5 @@
 -- Counts of rows, made by each core for its own.
-use Rattle.std.specs.Prelude.{ℕ, ◌+◌, ◌-◌, ◌^◌, fold, min, List, replicate}
+use Rattle.std.specs.Prelude.{ℕ, ◌+◌, ◌%◌, ◌^◌, fold, List, replicate}
 use Rattle.mcs_ticks.specs.declared.row.Row.{Row}
 use Rattle.mcs_report.specs.CoreTally.{CoreTally}
 use Rattle.mcs_report.specs.laws.CoreTallies.{AreOfCores}
@@ -9,10 +9,10 @@ use Rattle.mcs_system.specs.System.{System}
 abbrev pub AreWhole : System → ℕ → List CoreTally → Type 0
 AreWhole system horizon tallies = AreOfCores system horizon (replicate system.cores (horizon + 1)) tallies
 
--- the next number, up to the maximum of 64 bits
+-- the next number, in 64 bits
 abbrev pub one_more : ℕ → ℕ
-one_more n = min (n + 1) (2 ^ 64 - 1)
+one_more n = (n + 1) % 2 ^ 64
 
--- the number of rows, up to the maximum of 64 bits
+-- the number of rows, in 64 bits
 abbrev pub many_of : List Row → ℕ
 many_of rows = fold (λ n _. one_more n) 0 rows

@@ -85,12 +85,13 @@ impl<B: Run> Sink for OwnTally<B> {
     #[inline(always)]
     fn row(&mut self, row: &Row) -> Result<(), Refused> {
         self.tally.row(row)?;
-        self.rows = self.rows.saturating_add(1);
+        self.rows = self.rows.wrapping_add(1);
         Ok(())
     }
 }
 
-/// The size is the number of rows counted, capped at `usize::MAX`.
+/// The size is the number of rows counted, in 64 bits. No run has so many, and a count that is
+/// capped would cost each row four instructions more.
 impl<B: Run> Measured for OwnTally<B> {
     ghost size = { λ own. own.rows };
 

@@ -34,12 +34,12 @@ impl Sink for StepTally {
     #[inline(always)]
     fn row(&mut self, row: &Row) -> Result<(), Refused> {
         self.tally.row(row)?;
-        self.rows = self.rows.saturating_add(1);
+        self.rows = self.rows.wrapping_add(1);
         Ok(())
     }
 }
 
-/// The size is the number of rows counted, capped at `usize::MAX`.
+/// The size is the number of rows counted, in 64 bits.
 impl Measured for StepTally {
     ghost size = { λ counted. counted.rows };
 

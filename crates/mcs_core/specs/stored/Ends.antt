@@ -1,6 +1,6 @@
 -- When the running thread ends its item or exhausts its head, or has to give way, if its core has
 -- no other event.
-use Rattle.std.specs.Prelude.{◌≡◌, ℕ, ◌<◌, true, length, nat_lt, if◌then◌else◌, Option, Some, None, IfSome}
+use Rattle.std.specs.Prelude.{◌≡◌, ℕ, ◌^◌, ◌<◌, ◌≤◌, true, length, nat_lt, if◌then◌else◌, Option, Some, None, IfSome}
 use Rattle.mcs_ticks.specs.Queue.{first_of}
 use Rattle.mcs_ticks.specs.declared.queue.Queued.{Queued}
 use Rattle.mcs_control.specs.Context.{head_amount}
@@ -19,6 +19,7 @@ module _ (system : System) where
     pub part : chosen.thread < length system.threads
     pub has : has_context (thread_part system chosen.thread).context core ≡ true
     pub unspent : chosen.using < head_amount (its_context system chosen.thread core)
+    pub short : head_amount (its_context system chosen.thread core) ≤ 2 ^ 40
 
   -- no ready thread has to run instead of the running one, if there is one
   abbrev pub HoldsOn : Core → Type 0

@@ -46,6 +46,12 @@ module _ {S : Type 0} (takes : S → Row → Bool → S → Type 0) where
     pub core : left ≡ made.core
     pub adds : Adds here made.rows made.mails before after
 
+  -- the same of a part to which the sink and the list of signals are lent one by one
+  pub record MakesApart (here : Here) (made : Turn) (left : Core) (sink sink' : S) (signals signals' : List Mail) : Type 0 where
+    pub core : left ≡ made.core
+    pub rows : Given takes sink (stamped here.core here.moment made.rows) sink'
+    pub sent : signals' ≡ signals ++ made.mails
+
 -- core c of a system may take its turn at moment t, after `quiet` quiet ticks are counted; `row`:
 -- the delays of its signals, `orders`: its orders to come, `mails`: the mail in its box
 pub record CanTurn (system : System) (c t : ℕ) (row : List ℕ) (quiet : ℕ) (orders : List Order) (alarms : List Alarm) (mails : List Mail) (core : Core) : Type 0 where

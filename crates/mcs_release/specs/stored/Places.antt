@@ -1,7 +1,7 @@
 -- The storage of threads that wait for a date. Each has a place, in the order in which they
 -- entered, and a number that orders by date and then by place. The only thread of a queue may be
 -- stored separately.
-use Rattle.std.specs.Prelude.{◌≡◌, ℕ, ◌+◌, ◌*◌, ◌/◌, ◌^◌, ◌<◌, ◌≤◌, ◌==◌, ◌⊎◌, nat_lt, if◌then◌else◌, Bool, List, [], ◌∷◌, length, slice_index_or, slice_set, Option, Some, None, option_map}
+use Rattle.std.specs.Prelude.{◌≡◌, ℕ, ◌+◌, ◌*◌, ◌/◌, ◌^◌, ◌<◌, ◌≤◌, ◌==◌, ◌⊎◌, nat_lt, IfSome, if◌then◌else◌, Bool, List, [], ◌∷◌, length, slice_index_or, slice_set, Option, Some, None, option_map}
 use Rattle.mcs_ticks.specs.Soonest.{moment_of}
 use Rattle.mcs_release.specs.declared.dated.Dated.{Dated}
 use Rattle.mcs_release.specs.Release.{dated, earliest, next_date}
@@ -76,12 +76,27 @@ abbrev pub times : ℕ → List Dated → ℕ
 times thread [] = 0
 times thread (x ∷ xs) = (if x.thread == thread then 1 else 0) + times thread xs
 
+-- the number of the spare places, or of the others if there are none
+abbrev pub most : ℕ → Option (List (Option Dated)) → ℕ
+most count None = count
+most count (Some spare) = length spare
+
+-- more than this many threads fit: into the places or, as long as there are spare ones, into those,
+-- which are empty; two always fit into the places
+pub record AreEnoughFor (count : ℕ) (places : List (Option Dated)) (spare : Option (List (Option Dated))) : Type 0 where
+  pub two : 2 ≤ length places
+  pub wide : count < most (length places) spare
+  pub unused : IfSome spare (AreEmptyFrom 0)
+
+-- as many threads fit as before
+abbrev pub AsManyFit : List (Option Dated) → Option (List (Option Dated)) → List (Option Dated) → Option (List (Option Dated)) → Type 0
+AsManyFit old spare new spare' = (count : ℕ) → AreEnoughFor count old spare → AreEnoughFor count new spare'
+
 -- the earliest date is known; the places from `end` on are empty; each thread below `room` waits at
--- most once, and no other waits; there are more places than `room`
-pub record IsKept (soonest : Option ℕ) (lone : Option Dated) (places : List (Option Dated)) (end room : ℕ) : Type 0 where
+-- most once, and no other waits; more than `room` threads fit
+pub record IsKept (soonest : Option ℕ) (lone : Option Dated) (places : List (Option Dated)) (spare : Option (List (Option Dated))) (end room : ℕ) : Type 0 where
   pub first : soonest ≡ next_date (waiting lone places)
   pub alone : IsAlone lone places
   pub behind : AreEmptyFrom end places
   pub once : (thread : ℕ) → times thread (waiting lone places) ≤ one_if (nat_lt thread room)
-  pub wide : room < length places
-  pub few : length places ≤ 2 ^ 21
+  pub enough : AreEnoughFor room places spare

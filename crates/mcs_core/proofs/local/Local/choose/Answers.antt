@@ -9,8 +9,8 @@ use Rattle.mcs_core.proofs.Released.{best-placed}
 use Rattle.mcs_core.proofs.Systems.{one-each}
 use Rattle.mcs_core.proofs.local.Local.choose.Goals as goal
 
-pub next_end-requires : goal.next_end-requires
-next_end-requires g c =
+pub next_end-requires-clause-unspent : goal.next_end-requires-clause-unspent
+next_end-requires-clause-unspent g c =
     unspent c.args.here.now.system.now c.args.here.now.core (c.args.here.now.moment + 1) (one-each c.args.here.now.system.now c.requires.well_formed) PastTick c.args.self.now refl c.requires.sound
 
 pub start-ends-requires-clause-known : goal.start-ends-requires-clause-known

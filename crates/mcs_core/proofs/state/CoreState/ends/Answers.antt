@@ -11,8 +11,8 @@ use Rattle.mcs_core.proofs.Firsts.{first-both}
 use Rattle.mcs_core.proofs.Systems.{one-each}
 use Rattle.mcs_core.proofs.state.CoreState.ends.Goals as goal
 
-pub next_end-requires : goal.next_end-requires
-next_end-requires c =
+pub next_end-requires-clause-unspent : goal.next_end-requires-clause-unspent
+next_end-requires-clause-unspent c =
     let fits = rw (← c.self.view_is) at c.requires.fits in
     let going = rw (← c.self.view_is) at c.requires.going in
     rw c.parts.ensures.same

@@ -14,4 +14,4 @@ returns c =
     let nodes : c.in_ok-nodes.nodes.items ≡ replicate (4 * (c.args.wanted / 3 + 1) + 4) empty = c.in_ok-nodes.ensures.items_if_clones_equal (search rules) in
     let threads : length c.in_ok-threads.threads.items ≡ 3 * (c.args.wanted / 3 + 1) + 1 = omega (arith, c.in_ok-threads.ensures.len) in
     let count = count-stored _ _ _ (IsStored-new _ _ _ nodes threads (omega arith)) in
-    record { empty = AreEmptyFrom-new _ _ _ nodes threads (omega arith); wide = omega (arith, count); few = omega (arith, count) }
+    record { empty = AreEmptyFrom-new _ _ _ nodes threads (omega arith); wide = omega (arith, count) }

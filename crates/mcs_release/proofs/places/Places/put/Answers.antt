@@ -1,6 +1,6 @@
 use Rattle.std.proofs.Common.{◌≡◌, arith, length}
 use Rattle.std.proofs.lemmas.List.{take_at}
-use Rattle.mcs_release.proofs.Stored.{IsStored-put, put-few, put-lower, put-stored, put-within}
+use Rattle.mcs_release.proofs.Stored.{IsStored-put, put-few, put-lower, put-stored, put-stored-few, put-within}
 use Rattle.mcs_release.proofs.places.Places.put.Goals as goal
 
 pub index_mut-requires : goal.index_mut-requires
@@ -30,8 +30,8 @@ invariant_of-self c =
 pub returns : goal.returns
 returns c =
     let all : length c.lower.new.nodes ≡ c.self.inside.nodes.len = omega (arith, c.lower.auto.nodes, c.deref_mut.ensures.len) in
-    rw (take_at c.lower.new.nodes _ c.self.inside.nodes.len all) (
-    put-stored _ _ _ c.self.invariant c.args.place c.args.entry.date c.args.entry.thread c.key.ensures.in_range _ c.self.view_is c.requires.within _ (
-    rw (c.key.ensures.value, c.deref_mut.ensures.value) at c.lower.ensures.leaves
-    )
-    )
+    let lowered = rw (c.key.ensures.value, c.deref_mut.ensures.value) at c.lower.ensures.leaves in
+    rw (take_at c.lower.new.nodes _ c.self.inside.nodes.len all) (record {
+      put = put-stored _ _ _ c.self.invariant c.args.place c.args.entry.date c.args.entry.thread c.key.ensures.in_range _ c.self.view_is c.requires.within _ lowered;
+      few = put-stored-few _ _ _ c.self.invariant c.args.place c.args.entry.date c.args.entry.thread c.key.ensures.in_range _ c.self.view_is c.requires.within _ lowered;
+    })
