@@ -5,9 +5,7 @@ ghost use Rattle.std.specs.Str.{bytes_eq};
 ghost use Rattle.mcs_check_run.specs.Allowed.{IsUnknownFault, first_unknown, flags_of, is_known, is_named, nearest_from, nearest_of, notifications};
 
 use crate::{CheckFault, is_short, nearer};
-use mcs_cli::RunFault;
 use mcs_system::{NotePart, SystemParts};
-use mcs_team::SimFault;
 use mcs_ticks::NoMemory;
 use std::alloc::{AllocError, Global};
 
@@ -77,7 +75,7 @@ fn unknown(alloc: Global, notes: &[NotePart], name: &str) -> CheckFault
 {
     match told(alloc, notes, name) {
         Ok((name, nearest)) => CheckFault::Unknown { name, nearest },
-        Err(_) => CheckFault::Run(RunFault::Sim(SimFault::NoMemory)),
+        Err(refusal) => CheckFault::from(refusal),
     }
 }
 

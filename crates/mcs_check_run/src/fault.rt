@@ -1,9 +1,13 @@
 ghost use Rattle.std.specs.Prelude.{◌≡◌};
 ghost use Rattle.mcs_check_run.specs.Fault.{check_fault_text, status_of};
 ghost use Rattle.mcs_check_run.specs.declared.fault.CheckFault.TheVariants.{Run};
+ghost use Rattle.mcs_cli.specs.declared.fault.RunFault.TheVariants.{Sim};
+ghost use Rattle.mcs_team.specs.declared.run.SimFault.TheVariants as memory;
 
 use mcs_cli::RunFault;
 use mcs_team::SimFault;
+use mcs_ticks::NoMemory;
+use std::alloc::AllocError;
 use std::fmt;
 
 /// Why a check failed. Its text is the line that the program writes to standard error.
@@ -72,5 +76,21 @@ impl From<RunFault> for CheckFault {
 
     fn from(fault: RunFault) -> Self {
         CheckFault::Run(fault)
+    }
+}
+
+impl From<NoMemory> for CheckFault {
+    ghost from_gives = { λ _ fault. fault ≡ Run (Sim memory.NoMemory) };
+
+    fn from(refusal: NoMemory) -> Self {
+        CheckFault::Run(RunFault::from(refusal))
+    }
+}
+
+impl From<AllocError> for CheckFault {
+    ghost from_gives = { λ _ fault. fault ≡ Run (Sim memory.NoMemory) };
+
+    fn from(refusal: AllocError) -> Self {
+        CheckFault::Run(RunFault::from(refusal))
     }
 }

@@ -138,9 +138,15 @@ fault-then a b c failed xs rest (Ok u) p q e = tt
 fault-then a b c failed xs rest (Err f) p q e =
     subst (IsWriteFault a c failed xs) (sym e.0) (e.1, prefix-then a b c xs rest p q)
 
+-- memory ran out after a first part of the output
+pub fault-memory : {U : Type 0} (a b : Option (List ℕ)) (failed : Bool) (xs : List ℕ) (r : Result U RunFault) → failed ≡ false → AppendsPrefix a b xs
+    → IfErr r (λ f. f ≡ fault.Sim NoMemory) → IfErr r (IsWriteFault a b failed xs)
+fault-memory a b failed xs (Ok u) working written e = tt
+fault-memory a b failed xs (Err f) working written e =
+    subst (IsWriteFault a b failed xs) (sym e) (working, written)
+
 -- there is no memory for the reports after the rows
 pub fault-last : {U : Type 0} (a b : Option (List ℕ)) (failed : Bool) (xs ys rest : List ℕ) (r : Result U RunFault) → AppendsBefore a b xs rest → failed ≡ false
     → IfErr r (λ f. f ≡ fault.Sim NoMemory) → IfErr r (IsWriteFault a b failed (xs ++ ys))
-fault-last a b failed xs ys rest (Ok u) p working e = tt
-fault-last a b failed xs ys rest (Err f) p working e =
-    subst (IsWriteFault a b failed (xs ++ ys)) (sym e) (working, prefix-longer a b xs ys (prefix-before a b xs rest p))
+fault-last a b failed xs ys rest r p working e =
+    fault-memory a b failed (xs ++ ys) r working (prefix-longer a b xs ys (prefix-before a b xs rest p)) e

@@ -2,9 +2,13 @@
 ghost use Rattle.std.specs.Prelude.{◌≡◌, Some};
 ghost use Rattle.mcs_cli.specs.Fault.{run_fault_text};
 ghost use Rattle.mcs_cli.specs.Status.{status_of_run};
+ghost use Rattle.mcs_cli.specs.declared.fault.RunFault.TheVariants.{Sim};
+ghost use Rattle.mcs_team.specs.declared.run.SimFault.TheVariants as memory;
 
 use mcs_load::{FaultKind, LoadFault};
 use mcs_team::SimFault;
+use mcs_ticks::NoMemory;
+use std::alloc::{AllocError, AllocFailed};
 use std::fmt;
 use thiserror::Error;
 
@@ -44,5 +48,29 @@ impl RunFault {
             RunFault::Read | RunFault::Write => 3,
             RunFault::Load(_) | RunFault::Sim(SimFault::NoMemory) => 4,
         }
+    }
+}
+
+impl From<NoMemory> for RunFault {
+    ghost from_gives = { λ _ fault. fault ≡ Sim memory.NoMemory };
+
+    fn from(_refusal: NoMemory) -> Self {
+        RunFault::Sim(SimFault::NoMemory)
+    }
+}
+
+impl From<AllocError> for RunFault {
+    ghost from_gives = { λ _ fault. fault ≡ Sim memory.NoMemory };
+
+    fn from(_refusal: AllocError) -> Self {
+        RunFault::Sim(SimFault::NoMemory)
+    }
+}
+
+impl<T: Drop> From<AllocFailed<T>> for RunFault {
+    ghost from_gives = { λ _ fault. fault ≡ Sim memory.NoMemory };
+
+    fn from(_refusal: AllocFailed<T>) -> Self {
+        RunFault::Sim(SimFault::NoMemory)
     }
 }

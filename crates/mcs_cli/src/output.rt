@@ -43,9 +43,7 @@ pub(crate) fn write_output<H: Threads + Wait + Sync, T: Target, G: Gate + Sync>(
         (IsWriteFault (T.contents target.old) (T.contents target.new) (T.has_failed target.new)
         (output_of options.now.show system options.now.horizon)) }
 {
-    let Ok(system) = Arc::new(alloc, system) else {
-        return Err(RunFault::Sim(SimFault::NoMemory));
-    };
+    let system = Arc::new(alloc, system)?;
     let mut text = Vec::new(alloc);
     put_output(rt, target, &mut text, &system, options, gate)?;
     write_text(target, text.as_slice())
@@ -110,22 +108,14 @@ fn write_rows<H: Threads + Wait + Sync, T: Target, G: Gate + Sync>(
         (schedule_text (arc_value system.now) (schedule (arc_value system.now) options.now.horizon))) }
 {
     let alloc = *text.allocator();
-    let Ok(shared) = Arc::try_clone(system) else {
-        return Err(RunFault::Sim(SimFault::NoMemory));
-    };
-    let Ok(names) = Names::new(alloc, system) else {
-        return Err(RunFault::Sim(SimFault::NoMemory));
-    };
-    let Ok(mut page) = Page::new(alloc) else {
-        return Err(RunFault::Sim(SimFault::NoMemory));
-    };
+    let shared = Arc::try_clone(system)?;
+    let names = Names::new(alloc, system)?;
+    let mut page = Page::new(alloc)?;
     let mut lines = Lines::new(target, &names, &mut page);
     let result = give_rows::<Brand, H, G, T>(rt, alloc, shared, options, gate, &mut lines);
     match result {
         Ok(reports) => {
-            if text.extend_from_slice(page.as_slice()).is_err() {
-                return Err(RunFault::Sim(SimFault::NoMemory));
-            }
+            text.extend_from_slice(page.as_slice())?;
             Ok(reports)
         }
         Err(FlowFault::NoMemory) => Err(RunFault::Sim(SimFault::NoMemory)),
@@ -183,12 +173,9 @@ fn count_rows<H: Threads + Wait + Sync, G: Gate + Sync>(
         ≡ reports_of (arc_value system.now) options.now.horizon (schedule (arc_value system.now) options.now.horizon)) }
     ensures fault { IfErr result (λ f. f ≡ RunFault.Sim SimFault.NoMemory) }
 {
-    let Ok(shared) = Arc::try_clone(system) else {
-        return Err(RunFault::Sim(SimFault::NoMemory));
-    };
-    report(rt, alloc, shared, options.horizon, options.workers, gate).map_err(|_| RunFault::Sim(
-        SimFault::NoMemory,
-    ))
+    let shared = Arc::try_clone(system)?;
+    let reports = report(rt, alloc, shared, options.horizon, options.workers, gate)?;
+    Ok(reports)
 }
 
 /// Appends the reports to the text, if there are any.
@@ -213,5 +200,6 @@ fn put_last(text: &mut Vec<u8>, system: &System, reports: &Reports) -> Result<()
     ensures ok { OnOk result (text.new.items ≡ text.old.items ++ reports_text system.now reports.now) }
     ensures fault { IfErr result (λ f. f ≡ RunFault.Sim SimFault.NoMemory) }
 {
-    put_reports(text, system, reports).map_err(|_| RunFault::Sim(SimFault::NoMemory))
+    put_reports(text, system, reports)?;
+    Ok(())
 }
