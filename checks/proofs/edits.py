@@ -82,16 +82,6 @@ def kit() -> types.ModuleType:
     return rt
 
 
-def plant_of(rt: Any) -> types.ModuleType:
-    """The program rt-plant as a module, over the crates of rt."""
-    path = os.path.join(os.path.dirname(os.path.realpath(shutil.which('rt') or 'rt')), 'rt-plant')
-    plant = types.ModuleType('rt_plant')
-    plant.__file__ = path
-    importlib.machinery.SourceFileLoader('rt_plant', path).exec_module(plant)
-    setattr(plant, 'rt', rt.rtlib)
-    return plant
-
-
 def keeps(rt: Any) -> bool:
     """Whether the kit keeps what it proved between runs. One that does not has a plainer way to try an edit."""
     return hasattr(rt, 'seeded')
@@ -181,13 +171,10 @@ def try_one(of: str, edit: str, room: str) -> Tried:
 
 def try_together(rt: Any, crate: Any, edits: Sequence[pathlib.Path]) -> Iterator[Tried]:
     """Tries a crate's edits in groups, and tells of those that are refused. What was proved stays for later checks of the crate."""
-    source = plant_of(rt).bodies.Source(crate.folder)
-    source.read('src/main.rt' if crate.is_program else 'src/lib.rt')
     kept = f'{crate.folder}/out/incremental'
     os.makedirs(kept, exist_ok=True)
-    planted = [edits_together.planted(rt, source, crate.folder, edit) for edit in edits]
     begun = used()
-    for group, came in edits_together.settled(rt, crate, source, filter(None, planted), kept):
+    for group, came in edits_together.of_crate(rt, crate, edits, kept):
         share = (used() - begun) / len(group)
         for edit, found in came.items():
             verdict = WEAK if found.is_named else GAVE_UP if found.is_at_limit else REFUSED

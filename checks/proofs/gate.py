@@ -3,7 +3,8 @@
 
 After the table: the longest chain of tasks of which each waits for the one before, the wall time on 2 and on 4 processors by a model
 (gate_tasks.py), and the dearest edits. All this goes to TIMES, or else it is shown. The columns are a crate's own proof; its tests' proof; the second
-proof, over which its edits are tried; and its edits. The last line is that of rt ci. If rt cannot be timed, it runs without clocks, and a line says so.
+proof, over which some kits try its edits (timed_rt.py); and its edits. The last line is that of rt ci. If rt cannot be timed, it runs without clocks and
+tries edits in its own way, and a line says so.
 
 A task that an earlier gate on this machine kept takes next to nothing, so a whole table needs --anew. --from FILE takes a run already made, of its
 report or of the .json beside it, and runs nothing. --write keeps a run from nothing as checks/proofs/gate.csv, and writes the section of
@@ -31,7 +32,7 @@ from checks.common import Tally
 from checks.proofs import gate_cost
 from checks.proofs.gate_beside import compare
 from checks.proofs.gate_cost import COLUMNS, PAGE, TABLE, Cost, cells
-from checks.proofs.gate_tasks import Measured, Task, longest_chain, measured, wall
+from checks.proofs.gate_tasks import Measured, Task, edits_in, longest_chain, measured, wall
 
 HERE = pathlib.Path(__file__).resolve().parent
 DEAREST = 25
@@ -52,9 +53,8 @@ def above(tasks: Sequence[Task], crate: str) -> set[str]:
 
 def row(name: str, tasks: Sequence[Task], of_change: float) -> str:
     """A row of the table; a dash is what a crate has not."""
-    edits = sum(task.part == 'edits' for task in tasks)
     shown = [f'{spent:.0f}' if spent >= 0.5 else '-' for spent in sums_of(tasks).values()]
-    return cells([name, *shown, edits or '-', f'{minutes_of(tasks):.1f}', f'{of_change:.0f}'])
+    return cells([name, *shown, edits_in(tasks) or '-', f'{minutes_of(tasks):.1f}', f'{of_change:.0f}'])
 
 
 def minutes_of(tasks: Iterable[Task]) -> float:

@@ -14,7 +14,7 @@ from typing import NamedTuple
 
 from checks.common import Count
 from checks.proofs.gate_cost import COLUMNS, LEAST, Cost
-from checks.proofs.gate_tasks import Measured, Task
+from checks.proofs.gate_tasks import Measured, Task, edits_in
 
 # how often the whole may cost what the table has
 LIMIT = 1.3
@@ -61,7 +61,7 @@ def beside(found: Measured, cost: Cost) -> Iterator[Beside]:
         for column, parts in COLUMNS.items():
             own = [task for task in done(found.tasks) if task.crate == crate and task.part in parts]
             if own:
-                known = known_of(cost, crate, column, sum(task.part == 'edits' for task in own))
+                known = known_of(cost, crate, column, edits_in(own))
                 yield Beside(f'{crate} {column.lower()}', sum(task.seconds for task in own), known if known >= LEAST else 0)
     if found.runs >= LEAST and cost.runs:
         yield Beside(RUNS, found.runs, cost.runs)

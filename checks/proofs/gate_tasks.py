@@ -5,7 +5,7 @@ runs of tests and programs come at the end, one after another. Memory is left ou
 from __future__ import annotations
 
 import heapq
-from collections.abc import Sequence
+from collections.abc import Iterable, Sequence
 from typing import Any, NamedTuple
 
 from checks.common import TOP
@@ -38,6 +38,11 @@ class Task(NamedTuple):
             return f'{self.crate} {self.part}'
         edits = edits_of(self.crate)
         return f'{self.crate}/{edits[self.number]}' if self.number < len(edits) else f'{self.crate} edit {self.number}'
+
+
+def edits_in(tasks: Iterable[Task]) -> int:
+    """How many edits these tasks try. One kind of kits has a task for each edit, and the other a task for all edits of a crate."""
+    return sum(len(edits_of(task.crate)) if task.number is None else 1 for task in tasks if task.part == 'edits')
 
 
 class Measured(NamedTuple):

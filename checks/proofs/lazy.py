@@ -35,7 +35,7 @@ sys.dont_write_bytecode = True
 sys.path[0] = str(pathlib.Path(__file__).resolve().parents[2])
 from checks import common
 from checks.common import TOP, Count
-from checks.proofs import edits, edits_table, lazy_bodies, lazy_tests, take
+from checks.proofs import edits, edits_table, edits_together, lazy_bodies, lazy_tests, take
 
 TABLE = TOP / 'checks' / 'proofs' / 'lazy.csv'
 CRATES = TOP / 'crates.txt'
@@ -93,7 +93,7 @@ def loaded() -> Kit:
     rt = edits.kit()
     if edits.keeps(rt):
         rt.share_work(False)
-    return Kit(rt, edits.plant_of(rt))
+    return Kit(rt, edits_together.plant_of(rt))
 
 
 def crates_of(crates: str) -> list[str]:

@@ -72,7 +72,8 @@ def take_left(left: Optional[Any], crate: Any) -> bool:
 def is_of_its_files(crate: Any) -> bool:
     """Whether a crate has a library that is newer than its own files and those of the crates below it."""
     built = stamp_file(crate).parent
-    if not built.is_dir():
+    # (a gate makes the folder when it begins a proof, and the library when that has ended)
+    if not (built / f'{crate.name}.rlib').exists():
         return False
     files = [file for each in (crate, *crate.below()) for part in ('src', 'specs', 'proofs') for file in pathlib.Path(each.folder, part).rglob('*')]
     return all(file.stat().st_mtime <= built.stat().st_mtime for file in files if file.is_file())

@@ -34,9 +34,9 @@ fn crate::sum::Sum::middle: proved
 def function(name: str, **more: Any) -> Any:
     """A function of SOURCE as rt-plant reads it."""
     first = SOURCE.index(b'fn ' + name.encode())
-    end = SOURCE.index(b'    }\n', first) + 5
-    said = {'file': 'src/sum.rt', 'module': ('sum',), 'owner': 'Sum', 'block': object(), 'in_trait': False, 'name': name, 'first': first, 'end': end}
-    return types.SimpleNamespace(**{**said, **more})
+    place = {'first': first, 'opens': SOURCE.index(b'{', first), 'end': SOURCE.index(b'    }\n', first) + 5}
+    said = {'file': 'src/sum.rt', 'module': ('sum',), 'owner': 'Sum', 'block': object(), 'in_trait': False, 'name': name}
+    return types.SimpleNamespace(**{**said, **place, **more})
 
 
 class Kit:
@@ -74,6 +74,9 @@ class Plants(Checkout):
     def test_an_edit_of_two_functions_or_of_none_stays_alone(self) -> None:
         self.assertIsNone(self.planted('self.items', 'self.others'))
         self.assertIsNone(self.planted('use low::Low;', 'use low::High;'))
+
+    def test_an_edit_of_what_a_function_promises_stays_alone(self) -> None:
+        self.assertIsNone(self.planted('fn first(&self) -> u8 {', 'fn first(&self) -> u16 {'))
 
     def test_a_group_changes_a_function_once(self) -> None:
         one, other = self.both()
@@ -130,7 +133,7 @@ class Answers(Checkout):
 class Groups(Checkout):
     """A group that does not compile, or of which a function has another name, is tried again in parts."""
 
-    def tried(self, wrong: str, says: str) -> tuple[list[str], int]:
+    def tried(self, wrong: str, says: str, **more: Any) -> tuple[list[str], int]:
         """The edits that were refused, and the number of checks, if a check with these words in a source says this."""
         texts: list[str] = []
 
@@ -138,7 +141,7 @@ class Groups(Checkout):
             texts.append(''.join(given.values()))
             return types.SimpleNamespace(stdout=says if wrong in texts[-1] + ' '.join(words) else SAID)
 
-        rt, crate = types.SimpleNamespace(checked=checked), types.SimpleNamespace(name='crate')
+        rt, crate = types.SimpleNamespace(checked=checked, **more), types.SimpleNamespace(name='crate')
         came = edits_together.tried(rt, crate, self.source, self.both(), 'kept')
         return [edit.stem for edit in came], len(texts)
 
@@ -148,8 +151,68 @@ class Groups(Checkout):
     def test_a_group_that_does_not_compile_is_tried_in_halves(self) -> None:
         self.assertEqual(self.tried('items[8]', 'src/sum.rt:9:9: error: no'), (['one'], 3))
 
+    def test_an_edit_that_the_kit_cannot_read_is_not_refused(self) -> None:
+        said = f'src/sum.rt:9:9: error: `one` is not in scope\n{SAID}'
+        self.assertEqual(self.tried('items[8]', said, unread=lambda line, texts: 'not in scope' in line and 'src/sum.rt' in texts), (['one'], 3))
+
+    def test_a_check_over_a_stale_library_says_nothing(self) -> None:
+        self.assertEqual(self.tried('items', f'module `Rattle-low-1`. Run the lower steps again\n{SAID}'), ([], 3))
+
     def test_a_function_of_another_name_is_left_out(self) -> None:
         self.assertEqual(self.tried('Sum::last', 'rattle: error: `crate` has no function `Sum::last`: help: write'), (['one'], 2))
+
+
+class Apart(Checkout):
+    """An edit of more than one body has a check of the functions that it changes."""
+
+    def tried(self, old: str, new: str, said: str = SAID) -> tuple[dict[pathlib.Path, Found], list[str]]:
+        """What came of an edit, and the words with which it was tried."""
+        asked: list[str] = []
+
+        def checked(crate: Any, texts: dict[str, str], words: list[str], kept: str) -> Any:
+            asked.extend(words)
+            return types.SimpleNamespace(stdout=said)
+
+        rt = types.SimpleNamespace(checked=checked, read_edit=Kit(old, new).read_edit)
+        crate = types.SimpleNamespace(name='crate', folder='crates/sum')
+        return edits_together.tried_by_itself(rt, crate, self.source, pathlib.Path('one.edit'), 'kept'), asked
+
+    def test_it_is_refused_if_one_of_them_is(self) -> None:
+        came, asked = self.tried('self.items', 'self.others')
+        self.assertEqual(asked, ['--jobs', '1', '--only', 'Sum::first', '--only', 'Sum::last'])
+        self.assertEqual(came, {pathlib.Path('one.edit'): Found(False, 'note: src/sum.rt:4:5: it is not proved that it ensures `returns` (`returns`)')})
+
+    def test_it_is_not_refused_if_each_of_them_is_proved(self) -> None:
+        self.assertEqual(self.tried('self.items', 'self.others', 'fn crate::sum::Sum::first: proved\nfn crate::sum::Sum::last: proved\n')[0], {})
+
+    def test_it_is_not_refused_if_the_crate_cannot_be_read(self) -> None:
+        self.assertEqual(self.tried('self.items', 'self.others', 'src/sum.rt:9:9: error: no')[0], {})
+
+    def test_an_edit_that_changes_no_function_is_not_tried(self) -> None:
+        self.assertEqual(self.tried('use low::Low;', 'use low::High;'), ({}, []))
+
+
+class OfACrate(Checkout):
+    """All edits of a crate: each in a group or by itself, and those that are refused for a goal."""
+
+    def test_each_edit_is_tried_once(self) -> None:
+        plants = {each.edit: each for each in self.both()}
+        edits = [*plants, pathlib.Path('third.edit')]
+        goal, name = Found(False, 'a goal'), Found(False, 'a name', is_named=True)
+
+        def tried(rt: Any, crate: Any, source: Any, group: list[Planted], kept: str | None) -> dict[pathlib.Path, Found]:
+            return dict(zip([it.edit for it in group], [goal, name]))
+
+        crate = types.SimpleNamespace(folder='crates/sum')
+        with mock.patch.multiple(edits_together, source_of=lambda *_: self.source, planted=lambda *given: plants.get(given[-1]), tried=tried,
+                                 tried_by_itself=lambda *given: {given[3]: goal}):
+            came = list(edits_together.of_crate(None, crate, edits, None))
+            self.assertEqual([group for group, _ in came], [edits[:2], edits[2:]])
+            # one is refused only since a proof names what it took away: the kit decides of it
+            self.assertEqual(edits_together.refused(None, crate, map(str, edits)), {'one.edit': 'a goal', 'third.edit': 'a goal'})
+            # and of one whose goal a search left open
+            goal = Found(True, 'a goal')
+            self.assertEqual(edits_together.refused(None, crate, map(str, edits)), {})
 
 
 class Rounds(Checkout):

@@ -21,7 +21,7 @@ OTHERS, OTHERS_OF_ALL = (2 * sum(not check.tries_program for check in checks) fo
 # what ./test, .ci/run and the made-up gate call
 TOOLS = ('sh', 'bash', 'dirname', 'mkdir', 'chmod', 'sleep')
 # the scripts that run the gate
-GATE = ('gate', 'gate_beside', 'gate_cost', 'gate_tasks', 'timed_rt')
+GATE = ('edits_together', 'gate', 'gate_beside', 'gate_cost', 'gate_tasks', 'timed_rt')
 # in place of the script that builds the library
 BUILDS_LIBRARY = """import pathlib
 file = pathlib.Path(__file__).parents[2] / 'crates' / 'mcs_c' / 'out' / 'libmcs_c.a'

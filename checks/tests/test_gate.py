@@ -1,4 +1,6 @@
 """What gate.py tells of the gate's tasks, how timed_rt.py measures them, and how a run is held to the table of the gate's cost."""
+from __future__ import annotations
+
 import contextlib
 import io
 import json
@@ -7,13 +9,16 @@ import pathlib
 import subprocess
 import sys
 import tempfile
+import types
 import unittest
+from collections.abc import Sequence
 from typing import Any
+from unittest import mock
 
 CHECKS = pathlib.Path(__file__).resolve().parent.parent
 from checks import forked
 from checks.common import Tally
-from checks.proofs import gate, gate_beside, gate_cost, gate_tasks
+from checks.proofs import edits_together, gate, gate_beside, gate_cost, gate_tasks, timed_rt
 from checks.proofs.gate_cost import Cost, Row
 from checks.proofs.gate_tasks import Measured, Task
 
@@ -57,6 +62,12 @@ class Tables(unittest.TestCase):
 
     def test_an_edit_that_was_tried_again_counts_once(self) -> None:
         self.assertEqual(gate.dearest(TASKS), ['  40.0 s  high edit 1', '  20.0 s  high edit 0'])
+
+    def test_a_task_for_all_edits_of_a_crate_counts_each(self) -> None:
+        edits = gate_tasks.edits_of('mcs_refills')
+        self.assertGreater(len(edits), 1)
+        self.assertEqual(gate_tasks.edits_in([task('mcs_refills', 'edits', 9), task('mcs_refills', 'proof', 9), *TASKS]), len(edits) + 2)
+        self.assertIn(f'| {len(edits)} |', gate.table([task('mcs_refills', 'edits', 9)])[2])
 
     def test_the_report_names_count_parts_walls_and_chain(self) -> None:
         text = gate.report(RUN)
@@ -229,6 +240,112 @@ class Compared(unittest.TestCase):
         self.assertEqual(self.told(self.run_of(0))[0], Tally())
 
 
+class Edits(unittest.TestCase):
+    """The edits of a crate: refused together, or else tried by the kit's own call, whose word decides."""
+
+    CRATE = types.SimpleNamespace(name='low')
+    EDITS = ['low/must-fail/a.edit', 'low/must-fail/b.edit']
+
+    def tried(self, came: dict[str, str] | Exception, **more: Any) -> tuple[list[tuple[bool, str]], list[str], str]:
+        """What is told of both edits if this came of them together, those that the kit tried, and what was printed."""
+        by_kit: list[str] = []
+
+        def must_fail_all(crate: Any, edits: Sequence[str], flags: list[str]) -> list[tuple[bool, str]]:
+            by_kit.extend(edits)
+            return [(False, f'{edit}: NOT REFUSED') for edit in edits]
+
+        rt = types.SimpleNamespace(must_fail_all=must_fail_all, **more)
+        how: dict[str, Any] = {'side_effect': came} if isinstance(came, Exception) else {'return_value': came}
+        with mock.patch.object(edits_together, 'refused', **how), contextlib.redirect_stdout(io.StringIO()) as out:
+            timed_rt.hook_edits(rt)
+            told = rt.must_fail_all(self.CRATE, self.EDITS, ['--jobs', '1'])
+        return told, by_kit, out.getvalue()
+
+    def test_an_edit_that_is_not_refused_together_is_tried_by_the_kit(self) -> None:
+        said = [(True, 'must-fail low/a.edit: refused, as it must be: a goal'), (False, 'low/must-fail/b.edit: NOT REFUSED')]
+        self.assertEqual(self.tried({self.EDITS[0]: 'a goal'}), (said, self.EDITS[1:], ''))
+
+    def test_the_kit_tries_none_if_all_are_refused(self) -> None:
+        told, by_kit, _ = self.tried({edit: 'a goal' for edit in self.EDITS})
+        self.assertEqual(([is_refused for is_refused, _ in told], by_kit), ([True, True], []))
+
+    def test_edits_that_cannot_be_tried_together_are_tried_by_the_kit(self) -> None:
+        told, by_kit, printed = self.tried(ValueError('no tokens'))
+        self.assertEqual(([is_refused for is_refused, _ in told], by_kit), ([False, False], self.EDITS))
+        self.assertEqual(printed, 'timed_rt.py: the edits of low are not tried together: ValueError: no tokens\n')
+
+    def test_a_kit_without_the_call_tries_them_in_its_own_way(self) -> None:
+        for rt in types.SimpleNamespace(), types.SimpleNamespace(Kept=object):
+            before = dict(vars(rt))
+            timed_rt.hook_edits(rt)
+            self.assertEqual(vars(rt), before)
+
+
+class KeptEdits(unittest.TestCase):
+    """The same over a kit that keeps its work: one task for all edits of a crate, and what came of each is kept."""
+
+    EDITS = ['low/must-fail/a.edit', 'low/must-fail/b.edit']
+
+    def setUp(self) -> None:
+        self.asked: list[str] = []
+        self.stored: dict[str, tuple[str, str]] = {}
+        self.is_untouched = True
+        self.kept = types.SimpleNamespace(
+            key=lambda crate: crate.name, of_edit=lambda edit, of_crate: f'{of_crate} {edit[-6]}', tried=self.stored.get,
+            is_untouched=lambda crate: self.is_untouched, keep_tried=lambda name, *came: self.stored.update({name: came}),
+        )
+
+    def tried(self, came: dict[str, str] | Exception, by_kit: str = 'missed', is_well: bool = True) -> tuple[list[tuple[str, str]] | None, int]:
+        """What the task tells of both edits if this came of them together and that of each by the kit, and how many an earlier gate had tried."""
+
+        def must_fail(crate: Any, edit: str, flags: list[str]) -> tuple[str, str]:
+            self.asked.append(edit)
+            return by_kit, f'{edit}: by the kit'
+
+        rt = types.SimpleNamespace(Kept=object, add_edits=None, must_fail=must_fail, need=lambda crate: 9, REFUSED='refused', SETTLED=('refused', 'bad'))
+        crate = types.SimpleNamespace(name='low', count=lambda ends: 7)
+        how: dict[str, Any] = {'side_effect': came} if isinstance(came, Exception) else {'return_value': came}
+        with mock.patch.object(edits_together, 'refused', **how) as together, contextlib.redirect_stdout(io.StringIO()):
+            timed_rt.hook_edits(rt)
+            tasks: dict[Any, Any] = {}
+            results, known = rt.add_edits(tasks, crate, self.EDITS, [], [('low', 'proof')], lambda given, new=0: is_well, self.kept)
+            self.assertEqual([(key, *task[:3]) for key, task in tasks.items()], [(('low', 'edits'), [('low', 'proof')], 7, 9)])
+            given = {key: task[3]({}, 1) for key, task in tasks.items()}
+            self.together = together.call_args
+        return results(given), len(known())
+
+    def test_an_edit_that_is_not_refused_together_is_tried_by_the_kit(self) -> None:
+        said = [('refused', 'must-fail low/a.edit: refused, as it must be: a goal'), ('missed', 'low/must-fail/b.edit: by the kit')]
+        self.assertEqual(self.tried({self.EDITS[0]: 'a goal'}), (said, 0))
+        # what is not settled is not kept
+        self.assertEqual((self.asked, self.stored), (self.EDITS[1:], {'low a': said[0]}))
+
+    def test_what_an_earlier_gate_tried_is_not_tried_again(self) -> None:
+        self.stored['low b'] = 'refused', 'told before'
+        self.assertEqual(self.tried({}, 'bad'), ([('bad', 'low/must-fail/a.edit: by the kit'), ('refused', 'told before')], 1))
+        self.assertEqual((self.together[0][2], self.asked), (self.EDITS[:1], self.EDITS[:1]))
+        self.assertEqual(self.stored['low a'], ('bad', 'low/must-fail/a.edit: by the kit'))
+        self.assertEqual(self.tried({})[1], 2)
+        self.assertIsNone(self.together)
+
+    def test_nothing_is_kept_of_a_crate_that_was_touched(self) -> None:
+        self.is_untouched = False
+        self.tried({edit: 'a goal' for edit in self.EDITS})
+        self.assertEqual(self.stored, {})
+
+    def test_edits_that_cannot_be_tried_together_are_tried_by_the_kit(self) -> None:
+        self.tried(ValueError('no tokens'))
+        self.assertEqual(self.asked, self.EDITS)
+
+    def test_no_edit_of_a_crate_that_is_not_proved_is_tried(self) -> None:
+        self.assertEqual((self.tried({}, is_well=False), self.together, self.asked), ((None, 0), None, []))
+
+    def test_a_crate_without_edits_has_no_task(self) -> None:
+        tasks: dict[Any, Any] = {}
+        results, known = timed_rt.add_edits(None, tasks, types.SimpleNamespace(name='low'), [], [], [], lambda given, new=0: True, self.kept)
+        self.assertEqual((tasks, results({}), known()), ({}, [], {}))
+
+
 # a command like rt: two tasks, of which the second starts its command in a pool of its own, and a run at the end; a command that ends with status N
 # has taken N seconds by themselves and a half of the system, whatever the machine's clock says
 RT = '''#!/usr/bin/env python3
@@ -304,6 +421,16 @@ class Timed(unittest.TestCase):
         refused = self.ran(script, times, '--anew', 'b')
         self.assertEqual((refused.returncode, refused.stdout), (1, ''))
         self.assertEqual(refused.stderr, 'timed_rt.py: `rt ci` of this kit is of all crates, so it cannot be asked for b alone\n')
+
+    def test_the_gate_tries_edits_together(self) -> None:
+        tries = 'must_fail_all(types.SimpleNamespace(name="a"), ["a.edit"], [])\n    print("words", *words)'
+        rt = RT.replace('class Kept', 'class Other').replace('print("words", *words)', tries)
+        (self.folder / 'rt').write_text(rt.replace('def main', 'def must_fail_all(crate, edits, flags):\n    print("by the kit", *edits)\n    return [(True, "")]\n\ndef main'))
+        ran = self.ran(str(CHECKS / 'proofs' / 'timed_rt.py'), str(self.folder / 'times'))
+        # there is no rt-plant in this kit, so its own call tries them
+        told, *rest = ran.stdout.splitlines()
+        self.assertTrue(told.startswith('timed_rt.py: the edits of a are not tried together: FileNotFoundError'), ran.stdout + ran.stderr)
+        self.assertEqual(rest, ['by the kit a.edit', 'words ci', '2 passed, 1 failed'])
 
     def test_the_count_of_the_gate_is_the_last_line(self) -> None:
         ran = self.ran(str(CHECKS / 'proofs' / 'gate.py'), '--crate', 'b', str(self.folder / 'table'))
