@@ -193,7 +193,7 @@ def many_threads(threads: int = 4096) -> str:
 
 
 def line(threads: int = 512) -> str:
-    """512 threads that wait for one notification."""
+    """So many threads that wait for one notification."""
     draw = random.Random(12)
     system = System()
     system.add('note', name='n', core=0)
