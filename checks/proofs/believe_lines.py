@@ -38,10 +38,10 @@ SAYS = {
         'unanswered_for': 'the finding at the horizon for this origin without an answer, if its deadline has passed',
         'unanswered': 'the finding at the horizon: the earliest origin without an answer, if its deadline has passed',
     },
-    'mcs_chain/src/set.rt': {
+    'mcs_origins/src/set.rt': {
         'Marks': 'the origins of a set: none, one stretch, or a list of stretches',
     },
-    'mcs_chain/specs/stored/Sets.antt': {
+    'mcs_origins/specs/stored/Stretches.antt': {
         'all_of': 'the origins of a stretch, the latest first',
         'marks_of': 'the list of the origins of a set',
     },
@@ -73,9 +73,11 @@ SAYS = {
         'all_figures': 'the figures of all chains, in the order of the file',
         'figures_with': 'the figures of a chain with this deadline, this number of interrupts and these latencies',
     },
+    'mcs_origins/specs/Sets.antt': {
+        'join_first': 'an origin joins a set; `rest` joins what follows it',
+    },
     'mcs_chain/specs/Origins.antt': {
         'Origins': "a chain's origins without an answer, by who has them",
-        'join_first': 'an origin joins a set; `rest` joins what follows it',
         'no_origins': 'the sets before the first row',
         'sent': 'an origin that a signal of this core and moment carries',
         'sets_out': 'a signal to another core carries these origins',

@@ -41,8 +41,8 @@ TABLE = TOP / 'checks' / 'proofs' / 'lazy.csv'
 CRATES = TOP / 'crates.txt'
 # what is below the headline, reports and verdicts; programs and worked systems; and laws, which have no body
 LEFT_OUT = (
-    'mcs_ticks', 'mcs_refills', 'mcs_script', 'mcs_ready', 'mcs_release', 'mcs_notify', 'mcs_mail', 'mcs_histogram', 'mcs_fields', 'mcs_merge', 'mcs_control',
-    'mcs_system', 'mcs_hints', 'mcs_core', 'mcs_load', 'mcs_stretch', 'mcs_check_words', 'mcsim', 'mcscheck', 'mcs_c', 'mcs_corpus', 'mcs_worked',
+    'mcs_ticks', 'mcs_refills', 'mcs_script', 'mcs_ready', 'mcs_release', 'mcs_notify', 'mcs_mail', 'mcs_histogram', 'mcs_fields', 'mcs_merge', 'mcs_origins',
+    'mcs_control', 'mcs_system', 'mcs_hints', 'mcs_core', 'mcs_load', 'mcs_stretch', 'mcs_check_words', 'mcsim', 'mcscheck', 'mcs_c', 'mcs_corpus', 'mcs_worked',
     'mcs_laws', 'mcs_verdict_laws', 'mcs_server_laws',
 )
 # what ./test tries: contracts of one crate, since each crate is loaded anew

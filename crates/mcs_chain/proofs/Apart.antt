@@ -6,16 +6,17 @@ use Rattle.mcs_ticks.specs.Capped.{capped}
 use Rattle.mcs_ticks.specs.declared.row.Row.{Row}
 use Rattle.mcs_system.specs.declared.part.ChainPart.{ChainPart}
 use Rattle.mcs_system.specs.System.{System}
-use Rattle.mcs_chain.specs.declared.mark.Mark.{Mark}
-use Rattle.mcs_chain.specs.declared.mark.Sent.{Sent}
+use Rattle.mcs_origins.specs.declared.mark.Mark.{Mark}
+use Rattle.mcs_chain.specs.declared.sent.Sent.{Sent}
 use Rattle.mcs_chain.specs.declared.moves.Move.{Move}
 use Rattle.mcs_chain.specs.declared.moves.Move.TheVariants.{Nothing, Start, Give, Send, Land, Hold, Wake, Got, End}
-use Rattle.mcs_chain.specs.declared.moves.Taking.{Taking}
-use Rattle.mcs_chain.specs.declared.moves.Taking.TheVariants.{First, Later}
+use Rattle.mcs_origins.specs.declared.taking.Taking.{Taking}
+use Rattle.mcs_origins.specs.declared.taking.Taking.TheVariants.{First, Later}
 use Rattle.mcs_chain.specs.declared.one.Late.{Late}
 use Rattle.mcs_chain.specs.Answers.{gone_after, origins, slow_of}
 use Rattle.mcs_chain.specs.Moves.{moves, reach}
-use Rattle.mcs_chain.specs.Origins.{Origins, answers, at_places, given, is_answer, is_sent, moved, rest, sets_out, started, taken}
+use Rattle.mcs_origins.specs.Sets.{at_places, given, taken}
+use Rattle.mcs_chain.specs.Origins.{Origins, answers, is_answer, is_sent, moved, rest, sets_out, started}
 use Rattle.mcs_chain.specs.Watch.{One, judged_at, judged_many, judged_sum, late_at, lately, one_if, one_of, slow_many, slow_sum}
 use Rattle.mcs_chain.specs.stored.Still.{are_apart, is_none, is_still}
 use Rattle.mcs_chain.proofs.Nothing.{joins-none, origins-stay, sent-stay, sets-stay}

@@ -2,9 +2,10 @@
 use Rattle.std.proofs.Common.{◌≡◌, ℕ, zero, suc, not, List, [], ◌∷◌, length, get_or, set, map, refl, sym, ap, ap₂, ◌∙◌}
 use Rattle.std.specs.Prelude.{filter}
 use Rattle.std.proofs.lemmas.List.{set-get_or}
-use Rattle.mcs_chain.specs.declared.mark.Mark.{Mark}
-use Rattle.mcs_chain.specs.declared.mark.Sent.{Sent}
-use Rattle.mcs_chain.specs.Origins.{Origins, ends, is_one_of, join, rest, without}
+use Rattle.mcs_origins.specs.declared.mark.Mark.{Mark}
+use Rattle.mcs_chain.specs.declared.sent.Sent.{Sent}
+use Rattle.mcs_origins.specs.Sets.{is_one_of, join, without}
+use Rattle.mcs_chain.specs.Origins.{Origins, ends, rest}
 
 without-none : (marks : List Mark) → without [] marks ≡ marks
 without-none [] = refl

@@ -1,23 +1,15 @@
 -- The origins of a chain on a group of cores, later: each by the same number of ticks.
 use Rattle.std.specs.Prelude.{◌≡◌, ℕ, ◌+◌, ◌<◌, ◌&&◌, Bool, true, List, [], map, filter, length, get_or}
 use Rattle.mcs_system.specs.System.{System, thread_part, note_part, core_of}
-use Rattle.mcs_chain.specs.declared.mark.Mark.{Mark}
-use Rattle.mcs_chain.specs.declared.mark.Sent.{Sent}
+use Rattle.mcs_origins.specs.declared.mark.Mark.{Mark}
+use Rattle.mcs_chain.specs.declared.sent.Sent.{Sent}
 use Rattle.mcs_chain.specs.declared.step.Gone.{Gone}
+use Rattle.mcs_origins.specs.Later.{later_mark, later_set}
 use Rattle.mcs_chain.specs.Steps.{gone_of}
 use Rattle.mcs_chain.specs.Origins.{Origins}
 
-abbrev pub later_mark : ℕ → Mark → Mark
-later_mark by mark = record mark { origin = mark.origin + by }
-
-abbrev pub later_set : ℕ → List Mark → List Mark
-later_set by set = map (later_mark by) set
-
 abbrev pub later_sent : ℕ → Sent → Sent
 later_sent by sent = record sent { made = sent.made + by; mark = later_mark by sent.mark }
-
-abbrev pub later_origins : ℕ → List ℕ → List ℕ
-later_origins by origins = map (λ origin. origin + by) origins
 
 module _ (system : System) (group : ℕ → Bool) where
   -- whether a core of the group made the signal, for a notification of the group

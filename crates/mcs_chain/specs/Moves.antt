@@ -8,8 +8,8 @@ use Rattle.mcs_system.specs.System.{System, thread_part, note_part, is_server, d
 use Rattle.mcs_verdict.specs.Calls.{bits_of}
 use Rattle.mcs_chain.specs.declared.moves.Move.{Move}
 use Rattle.mcs_chain.specs.declared.moves.Move.TheVariants.{Nothing, Start, Give, Send, Land, Hold, Wake, Got, End}
-use Rattle.mcs_chain.specs.declared.moves.Taking.{Taking}
-use Rattle.mcs_chain.specs.declared.moves.Taking.TheVariants.{First, Later}
+use Rattle.mcs_origins.specs.declared.taking.Taking.{Taking}
+use Rattle.mcs_origins.specs.declared.taking.Taking.TheVariants.{First, Later}
 use Rattle.mcs_chain.specs.declared.step.Gone.{Gone}
 use Rattle.mcs_chain.specs.declared.step.Step.{Step}
 use Rattle.mcs_chain.specs.Steps.{step_of, is_first_wait, gone_of}

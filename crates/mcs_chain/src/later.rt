@@ -1,17 +1,16 @@
 //! Tests whether the origins of a chain on a group of cores are the earlier ones, but later. A
 //! group has a yes or a no for each core.
 ghost use Rattle.std.specs.Prelude.{◌≡◌, ◌↔◌, ◌+◌, [], false, map, filter, get_or, IsTrue, IfOk};
-ghost use Rattle.mcs_chain.specs.Later.{later_mark, later_set, later_sent, later_origins, is_within, AreCarriedLater, AreHeldLater, AreLater, StepsAreSame};
-ghost use Rattle.mcs_chain.specs.stored.Sets.{flat};
+ghost use Rattle.mcs_origins.specs.Later.{later_set};
+ghost use Rattle.mcs_origins.specs.stored.Stretches.{flat};
+ghost use Rattle.mcs_chain.specs.Later.{later_sent, is_within, AreCarriedLater, AreHeldLater, AreLater, StepsAreSame};
 
-use crate::mark::{Mark, Sent};
 use crate::origins::Origins;
-use crate::set::Set;
+use crate::sent::Sent;
 use crate::step::{Gone, gone_of};
-use crate::stretch::Stretch;
-use crate::stretches;
+use mcs_origins::{Set, Stretch, are_stretches_later, is_mark_later};
 use mcs_system::SystemParts;
-use mcs_ticks::{CoreId, Limits, NoMemory, NoteId, ThreadId, Tick};
+use mcs_ticks::{CoreId, Limits, NoMemory, NoteId, ThreadId};
 use std::alloc::Global;
 
 fn is_own(own: &[bool; Limits::CORES], core: CoreId) -> bool
@@ -26,18 +25,6 @@ fn is_number_later(before: u64, by: u64, after: u64) -> bool
     by <= after && after - by == before
 }
 
-fn is_tick_later(before: Tick, by: u64, after: Tick) -> bool
-    ensures { IsTrue result ↔ (after ≡ before + by) }
-{
-    is_number_later(before.get(), by, after.get())
-}
-
-fn is_mark_later(before: &Mark, by: u64, after: &Mark) -> bool
-    ensures { IsTrue result → after.now ≡ later_mark by before.now }
-{
-    is_tick_later(before.origin, by, after.origin) && before.places == after.places
-}
-
 fn is_sent_later(before: &Sent, by: u64, after: &Sent) -> bool
     ensures { IsTrue result → after.now ≡ later_sent by before.now }
 {
@@ -45,21 +32,6 @@ fn is_sent_later(before: &Sent, by: u64, after: &Sent) -> bool
         && before.maker == after.maker
         && is_number_later(before.made, by, after.made)
         && is_mark_later(&before.mark, by, &after.mark)
-}
-
-/// Whether origins are the earlier ones, `by` ticks later.
-pub(crate) fn are_ticks_later(before: &[Tick], by: u64, after: &[Tick]) -> bool
-    ensures { IsTrue result → after.now ≡ later_origins by before.now }
-{
-    if before.len() != after.len() {
-        return false;
-    }
-    for i in 0..after.len() {
-        if !is_tick_later(before[i], by, after[i]) {
-            return false;
-        }
-    }
-    true
 }
 
 fn are_sent_later(before: &[Sent], by: u64, after: &[Sent]) -> bool
@@ -91,7 +63,7 @@ fn stretches_at(sets: &[Set], number: usize) -> &[Stretch]
 fn is_set_later(before: &[Set], by: u64, after: &[Set], number: usize) -> bool
     ensures { IsTrue result → get_or after.now number [] ≡ later_set by (get_or before.now number []) }
 {
-    stretches::are_later(
+    are_stretches_later(
         stretches_at(before, number),
         by,
         stretches_at(after, number),

@@ -3,29 +3,30 @@
 #![tactic(auto)]
 
 mod answer;
+mod chains;
 mod figures;
 mod finding;
 mod found;
 mod later;
-mod mark;
 mod moves;
 mod one;
 mod origins;
-mod set;
+mod sent;
+mod sets;
 mod state;
 mod step;
 mod steps;
-mod stretch;
-mod stretches;
 mod tallies;
 mod tally;
+mod under_way;
 mod watch;
 
 pub use answer::Answer;
 pub use figures::Figures;
 pub use finding::{ChainId, Finding, Found};
-pub use mark::{Mark, Sent};
-pub use moves::{Move, Taking};
+pub use mcs_origins::{Mark, Taking};
+pub use moves::Move;
+pub use sent::Sent;
 pub use state::State;
 pub use step::{Gone, Step};
 pub use steps::Steps;

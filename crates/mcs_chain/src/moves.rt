@@ -6,6 +6,7 @@ ghost use Rattle.mcs_chain.specs.Steps.{step_of, gone_of};
 ghost use Rattle.mcs_chain.specs.Moves.{reach, called_bits, later_places, taking, gives, moves};
 
 use crate::step::{Gone, Step, gone_of, is_at_first_wait, step_at};
+use mcs_origins::Taking;
 use mcs_system::{Link, SystemParts};
 use mcs_ticks::{CoreId, NoteId, Row, SourceId, ThreadId, What};
 use mcs_verdict::bits_of;
@@ -15,15 +16,6 @@ const FREE: u64 = 1 << 32;
 
 /// The bits of a word.
 const ALL_BITS: u64 = (1 << 32) - 1;
-
-/// At which places a thread holds the origins that a wait gives it.
-#[derive(Clone, Copy, Debug, PartialEq, Eq)]
-pub enum Taking {
-    /// The script's first wait keeps them at their bits, as far as these are among the given ones.
-    First(u64),
-    /// A later wait puts them at these places.
-    Later(u64),
-}
 
 /// The effect of a row on the sets of origins.
 #[derive(Clone, Copy, Debug, PartialEq, Eq)]

@@ -1,20 +1,19 @@
-//! The state that a watch keeps of a chain, and of all chains.
-ghost use Rattle.std.specs.Prelude.{◌≡◌, ◌+◌, ◌∷◌, ◌++◌, ◌&&◌, [], ℕ, List, map, OnOk, IfOk};
+//! The state that a watch keeps of a chain.
+ghost use Rattle.std.specs.Prelude.{◌≡◌, ◌+◌, ◌∷◌, ◌++◌, ◌&&◌, [], ℕ, List, OnOk, IfOk};
 ghost use Rattle.mcs_ticks.specs.declared.row.Row.{Row as TheRow};
-ghost use Rattle.mcs_system.specs.System.{System as TheSystem, core_of, thread_part};
+ghost use Rattle.mcs_system.specs.System.{System as TheSystem};
 ghost use Rattle.mcs_system.specs.declared.part.ChainPart.{ChainPart as TheChain};
 ghost use Rattle.mcs_chain.specs.Answers.{gone_after, origins};
 ghost use Rattle.mcs_ticks.specs.Capped.{capped};
-ghost use Rattle.mcs_chain.specs.Found.{all_unanswered, found_at};
 ghost use Rattle.mcs_chain.specs.Moves.{moves};
-ghost use Rattle.mcs_chain.specs.Watch.{all_due, all_judged_many, all_slow_many, due_of_one, is_due, judged_at, late_at, one_if, one_of};
-ghost use Rattle.mcs_chain.specs.stored.Still.{are_apart, are_still, have_late, is_still};
+ghost use Rattle.mcs_chain.specs.Watch.{due_of_one, is_due, judged_at, late_at, one_if, one_of};
+ghost use Rattle.mcs_chain.specs.stored.Still.{are_apart, is_still};
 
 use crate::moves::Move;
 use crate::origins::Origins;
 use crate::{ChainId, Finding, Found, found};
 use mcs_system::{ChainPart, SystemParts};
-use mcs_ticks::{ContextId, CoreId, NoMemory, Row, Tick};
+use mcs_ticks::{CoreId, NoMemory, Row, Tick};
 use std::alloc::Global;
 use std::marker::Model;
 
@@ -31,11 +30,11 @@ pub(crate) struct Late {
 pub(crate) struct One {
     pub(crate) origins: Origins,
     /// The slow answers of the latest moment.
-    late: Vec<Late>,
+    pub(crate) late: Vec<Late>,
     /// How many slow answers there are, at most 2^64 - 1.
     pub(crate) slow: u64,
     /// How many answers are judged, at most 2^64 - 1.
-    judged: u64,
+    pub(crate) judged: u64,
 }
 
 impl Model for One {
@@ -49,14 +48,14 @@ impl Model for One {
 impl One {
     /// Whether a quiet row leaves all as it is.
     #[inline(always)]
-    fn is_still(&self) -> bool
+    pub(crate) fn is_still(&self) -> bool
         ensures { result ≡ is_still self.now }
     {
         self.origins.are_still() && self.late.is_empty()
     }
 
     /// The state before the first row.
-    fn new(alloc: Global, parts: &SystemParts) -> Result<One, NoMemory>
+    pub(crate) fn new(alloc: Global, parts: &SystemParts) -> Result<One, NoMemory>
         ensures { (chain : TheChain) → IfOk result (λ one. one ≡ one_of parts.now chain []) }
     {
         Ok(One {
@@ -77,7 +76,7 @@ impl One {
 
     /// Takes one row more, which moves this.
     #[inline(always)]
-    fn see(
+    pub(crate) fn see(
         &mut self,
         alloc: Global,
         chain: &ChainPart,
@@ -123,6 +122,28 @@ impl One {
         self.judged = judged(self.judged, chain.deadline, self.origins.answered());
         keep(&mut self.late, row, finding)
     }
+
+    /// Appends the slow answers that are due.
+    pub(crate) fn put_due(
+        &self,
+        due: &mut Vec<Found>,
+        before: &Option<Tick>,
+        chain: ChainId,
+    ) -> Result<(), NoMemory>
+        ensures { OnOk result (due.new.items ≡ due.old.items ++ due_of_one before.now chain self.now) }
+    {
+        for late in self.late.as_slice() {
+            if is_due(before, late.moment) {
+                due.push(Found {
+                    moment: late.moment,
+                    core: late.core,
+                    chain,
+                    finding: late.finding,
+                })?;
+            }
+        }
+        Ok(())
+    }
 }
 
 /// One slow answer more, if there is one.
@@ -161,102 +182,6 @@ fn keep(late: &mut Vec<Late>, row: &Row, finding: Option<Finding>) -> Result<(),
     Ok(())
 }
 
-/// The state of each chain before the first row.
-pub(crate) fn all_new(alloc: Global, parts: &SystemParts) -> Result<Vec<One>, NoMemory>
-    ensures { IfOk result (λ each. each.items ≡ map (λ chain. one_of parts.now chain []) parts.now.chains) }
-{
-    let mut each = Vec::new(alloc);
-    for _number in 0..parts.chains.len() {
-        each.push(One::new(alloc, parts)?)?;
-    }
-    Ok(each)
-}
-
-/// Whether a quiet row leaves all as it is.
-#[inline(always)]
-pub(crate) fn are_still(each: &[One]) -> bool
-    ensures { result ≡ are_still each.now }
-{
-    for one in each {
-        if !one.is_still() {
-            return false;
-        }
-    }
-    true
-}
-
-/// Whether a slow answer has the moment of the latest row.
-#[inline(always)]
-pub(crate) fn have_late(each: &[One]) -> bool
-    ensures { result ≡ have_late each.now }
-{
-    for one in each {
-        if !one.late.is_empty() {
-            return true;
-        }
-    }
-    false
-}
-
-/// Each chain takes one row more.
-pub(crate) fn all_see(
-    alloc: Global,
-    each: &mut [One],
-    chains: &[ChainPart],
-    row: &Row,
-    moved: &Move,
-) -> Result<(), NoMemory>
-    ensures { (system : TheSystem) (past : List TheRow) → each.old ≡ map (λ chain. one_of system chain past) chains.now →
-        moved.now ≡ moves system (gone_after system past) row.now →
-        OnOk result (each.new ≡ map (λ chain. one_of system chain (row.now ∷ past)) chains.now) }
-{
-    for i in 0..each.len() {
-        if i < chains.len() {
-            each[i].see(alloc, &chains[i], row, moved)?;
-        }
-    }
-    Ok(())
-}
-
-/// The slow answers that are due, chain by chain.
-pub(crate) fn due_of(
-    alloc: Global,
-    before: &Option<Tick>,
-    each: &[One],
-) -> Result<Vec<Found>, NoMemory>
-    ensures { IfOk result (λ due. due.items ≡ all_due before.now 0 each.now) }
-{
-    let mut due = Vec::new(alloc);
-    for (number, one) in each.iter().enumerate() {
-        one.put_due(&mut due, before, ChainId(number))?;
-    }
-    Ok(due)
-}
-
-impl One {
-    /// Appends the slow answers that are due.
-    fn put_due(
-        &self,
-        due: &mut Vec<Found>,
-        before: &Option<Tick>,
-        chain: ChainId,
-    ) -> Result<(), NoMemory>
-        ensures { OnOk result (due.new.items ≡ due.old.items ++ due_of_one before.now chain self.now) }
-    {
-        for late in self.late.as_slice() {
-            if is_due(before, late.moment) {
-                due.push(Found {
-                    moment: late.moment,
-                    core: late.core,
-                    chain,
-                    finding: late.finding,
-                })?;
-            }
-        }
-        Ok(())
-    }
-}
-
 /// Whether a slow answer is due: before this moment, if there is one.
 fn is_due(before: &Option<Tick>, moment: Tick) -> bool
     ensures { result ≡ is_due before.now moment }
@@ -264,80 +189,5 @@ fn is_due(before: &Option<Tick>, moment: Tick) -> bool
     match before {
         Some(before) => moment.get() < before.get(),
         None => true,
-    }
-}
-
-/// How many slow answers there are.
-pub(crate) fn many_of(each: &[One]) -> u64
-    ensures { result ≡ all_slow_many each.now }
-{
-    let mut many: u64 = 0;
-    for one in each {
-        many = many.saturating_add(one.slow);
-    }
-    many
-}
-
-/// How many answers are judged.
-pub(crate) fn judged_of(each: &[One]) -> u64
-    ensures { result ≡ all_judged_many each.now }
-{
-    let mut many: u64 = 0;
-    for one in each {
-        many = many.saturating_add(one.judged);
-    }
-    many
-}
-
-/// The findings at the horizon.
-pub(crate) fn unanswered_of(
-    alloc: Global,
-    parts: &SystemParts,
-    horizon: Tick,
-    each: &[One],
-) -> Result<Vec<Found>, NoMemory>
-    ensures { (past : List TheRow) → each.now ≡ map (λ chain. one_of parts.now chain past) parts.now.chains →
-        IfOk result (λ found. found.items ≡ all_unanswered parts.now past horizon 0 parts.now.chains) }
-{
-    let mut found = Vec::new(alloc);
-    for (number, one) in each.iter().enumerate() {
-        if let Some(chain) = parts.chains.as_slice().get(number) {
-            let finding = found::unanswered_of(chain.deadline, horizon, one.origins.unanswered());
-            let core = core_of(parts, chain);
-            keep_found(&mut found, horizon, core, ChainId(number), finding)?;
-        }
-    }
-    Ok(found)
-}
-
-/// Appends the finding, if there is one.
-fn keep_found(
-    found: &mut Vec<Found>,
-    moment: Tick,
-    core: CoreId,
-    chain: ChainId,
-    finding: Option<Finding>,
-) -> Result<(), NoMemory>
-    ensures { OnOk result (found.new.items ≡ found.old.items ++ found_at moment core chain finding) }
-{
-    let Some(finding) = finding else {
-        return Ok(());
-    };
-    found.push(Found {
-        moment,
-        core,
-        chain,
-        finding,
-    })?;
-    Ok(())
-}
-
-/// The core of the thread that answers.
-fn core_of(parts: &SystemParts, chain: &ChainPart) -> CoreId
-    ensures { result ≡ core_of parts.now (thread_part parts.now chain.now.thread) }
-{
-    match parts.threads.as_slice().get(chain.thread.0) {
-        Some(part) => parts.core_of_thread(part),
-        None => parts.core_of_context(ContextId(0)),
     }
 }

@@ -1,13 +1,14 @@
 //! The sets of origins without an answer.
-ghost use Rattle.std.specs.Prelude.{◌≡◌, [], ◌∷◌, ◌++◌, ◌&&◌, false, map, filter, not, get_or, length, slice_set, take, OnOk, OnErr, IfOk};
-ghost use Rattle.mcs_chain.specs.Origins.{join, given, taken, sent, is_sent, is_one_of, without, is_answer, no_origins, rest, started, sets_out, lands, holds, takes, gets, ends, answers, moved};
-ghost use Rattle.mcs_chain.specs.stored.Sets.{all_of, flat};
+ghost use Rattle.std.specs.Prelude.{◌≡◌, ◌&&◌, [], filter, not, get_or, OnOk, OnErr, IfOk};
+ghost use Rattle.mcs_origins.specs.Sets.{given, taken, is_one_of};
+ghost use Rattle.mcs_chain.specs.Origins.{is_answer, no_origins, rest, started, sets_out, lands, holds, takes, gets, ends, answers, moved};
 ghost use Rattle.mcs_chain.specs.stored.Still.{are_apart, is_none};
 
-use crate::mark::{Mark, Sent};
-use crate::moves::{Move, Taking, reach};
-use crate::set::{Set, is_one_of};
-use crate::stretch::Stretch;
+use crate::moves::{Move, reach};
+use crate::sent::Sent;
+use crate::sets;
+use crate::under_way::{drop_from_sent, drop_sent, landed, send};
+use mcs_origins::{Mark, Set, Taking, is_one_of};
 use mcs_system::{ChainPart, SystemParts};
 use mcs_ticks::{CoreId, NoMemory, NoteId, ThreadId, Tick};
 use std::alloc::Global;
@@ -32,289 +33,14 @@ impl Model for Origins {
     ghost view = { λ a. record { held = a.held.items; carried = a.carried.items; under_way = a.under_way.items; posted = a.posted; unanswered = a.unanswered.items; answered = a.answered.items } };
 }
 
-fn none_held(alloc: Global, parts: &SystemParts) -> Result<Vec<Set>, NoMemory>
-    ensures { IfOk result (λ sets. sets.items ≡ map (λ _. []) parts.now.notes) }
-{
-    let notes = parts.notes.as_slice();
-    Ok(notes.iter().map(|_| Set::empty()).collect(alloc)?)
-}
-
-fn copied(alloc: Global, sets: &[Set]) -> Result<Vec<Set>, NoMemory>
-    ensures { IfOk result (λ copy. copy.items ≡ sets.now) }
-{
-    let mut copy = Vec::with_capacity(alloc, sets.len())?;
-    for set in sets {
-        copy.push(set.copied(alloc)?)?;
-    }
-    Ok(copy)
-}
-
-fn none_carried(alloc: Global, parts: &SystemParts) -> Result<Vec<Set>, NoMemory>
-    ensures { IfOk result (λ sets. sets.items ≡ map (λ _. []) parts.now.threads) }
-{
-    let threads = parts.threads.as_slice();
-    Ok(threads.iter().map(|_| Set::empty()).collect(alloc)?)
-}
-
-/// Whether a round that this word began answers, if the chain has these badges.
-fn is_answer(badges: u32, word: u32) -> bool
-    ensures { result ≡ is_answer badges word }
-{
-    badges == 0 || badges & word != 0
-}
-
-/// Whether some of the origins of these sets may have been answered, but for the set with this
-/// number.
-fn may_have(sets: &[Set], number: usize, answered: &[Tick]) -> bool
-    ensures { result ≡ false → map (without answered.now) (slice_set sets.now number []) ≡ slice_set sets.now number [] }
-{
-    for i in 0..sets.len() {
-        if i != number && sets[i].may_have(answered) {
-            return true;
-        }
-    }
-    false
-}
-
-/// Returns the sets without what was answered.
-fn all_without(alloc: Global, sets: &[Set], answered: &[Tick]) -> Result<Vec<Set>, NoMemory>
-    ensures { IfOk result (λ left. left.items ≡ map (without answered.now) sets.now) }
-{
-    let mut left = Vec::with_capacity(alloc, sets.len())?;
-    for set in sets {
-        left.push(set.without(alloc, answered)?)?;
-    }
-    Ok(left)
-}
-
-/// Drops what was answered from all sets, and leaves nothing in the carried set with this number.
-/// If memory runs out, they are unchanged.
-fn make_sets(
-    alloc: Global,
-    held: &mut Vec<Set>,
-    carried: &mut Vec<Set>,
-    number: usize,
-    answered: &[Tick],
-) -> Result<(), NoMemory>
-    ensures ok { OnOk result ((held.new.items ≡ map (without answered.now) held.old.items)
-        × (carried.new.items ≡ slice_set (map (without answered.now) carried.old.items) number [])) }
-    ensures err { OnErr result ((held.new.items ≡ held.old.items) × (carried.new.items ≡ carried.old.items)) }
-{
-    let held_left = all_without(alloc, held, answered)?;
-    let mut carried_left = all_without(alloc, carried, answered)?;
-    clear(&mut carried_left, number);
-    *held = held_left;
-    *carried = carried_left;
-    Ok(())
-}
-
-/// Drops what was answered from all sets, and leaves nothing in the carried set with this number.
-/// If memory runs out, they are unchanged. Memory is needed only if another set has such an origin.
-fn drop_from_sets(
-    alloc: Global,
-    held: &mut Vec<Set>,
-    carried: &mut Vec<Set>,
-    number: usize,
-    answered: &[Tick],
-) -> Result<(), NoMemory>
-    ensures ok { OnOk result ((held.new.items ≡ map (without answered.now) held.old.items)
-        × (carried.new.items ≡ map (without answered.now) (slice_set carried.old.items number []))) }
-    ensures err { OnErr result ((held.new.items ≡ held.old.items) × (carried.new.items ≡ carried.old.items)) }
-{
-    if may_have(held, held.len(), answered) || may_have(carried, number, answered) {
-        return make_sets(alloc, held, carried, number, answered);
-    }
-    clear(carried, number);
-    Ok(())
-}
-
-/// Drops what was answered from the signals to other cores.
-fn drop_from_sent(under_way: &mut Vec<Sent>, answered: &[Tick])
-    ensures { under_way.new.items ≡ filter (λ sent. not (is_one_of answered.now sent.mark.origin)) under_way.old.items }
-{
-    under_way.retain(|sent| !is_one_of(answered, sent.mark.origin));
-}
-
-/// Drops what was answered from the origins without an answer.
-fn drop_from_origins(origins: &mut Vec<Tick>, answered: &[Tick])
-    ensures { origins.new.items ≡ filter (λ origin. not (is_one_of answered.now origin)) origins.old.items }
-{
-    origins.retain(|origin| !is_one_of(answered, *origin));
-}
-
-/// Adds a set to the signals to other cores: this core made one for the notification at this
-/// moment. If memory runs out, they are unchanged.
-fn send(
-    under_way: &mut Vec<Sent>,
-    note: NoteId,
-    maker: CoreId,
-    made: u64,
-    set: &Set,
-) -> Result<(), NoMemory>
-    ensures ok { OnOk result (under_way.new.items ≡ under_way.old.items ++ map (sent note maker made) set.now) }
-    ensures err { OnErr result (under_way.new.items ≡ under_way.old.items) }
-{
-    let start = under_way.len();
-    let result = append_sent(under_way, note, maker, made, set.as_slice());
-    if result.is_err() {
-        under_way.truncate(start);
-    }
-    result
-}
-
-/// Appends the origins that a signal carries, the latest first.
-fn append_sent(
-    under_way: &mut Vec<Sent>,
-    note: NoteId,
-    maker: CoreId,
-    made: u64,
-    stretches: &[Stretch],
-) -> Result<(), NoMemory>
-    ensures ok { OnOk result (under_way.new.items ≡ under_way.old.items ++ map (sent note maker made) (flat stretches.now)) }
-    ensures kept { take (length under_way.old.items) under_way.new.items ≡ under_way.old.items }
-{
-    for i in (0..stretches.len()).rev() {
-        append_stretch(under_way, note, maker, made, &stretches[i])?;
-    }
-    Ok(())
-}
-
-/// Appends the origins of one stretch that a signal carries.
-fn append_stretch(
-    under_way: &mut Vec<Sent>,
-    note: NoteId,
-    maker: CoreId,
-    made: u64,
-    stretch: &Stretch,
-) -> Result<(), NoMemory>
-    ensures ok { OnOk result (under_way.new.items ≡ under_way.old.items ++ map (sent note maker made) (all_of stretch.now)) }
-    ensures kept { take (length under_way.old.items) under_way.new.items ≡ under_way.old.items }
-{
-    for number in 0..stretch.more {
-        append_one(under_way, note, maker, made, stretch.mark_at(number))?;
-    }
-    append_one(under_way, note, maker, made, stretch.mark_at(stretch.more))
-}
-
-/// Appends one origin that a signal carries.
-fn append_one(
-    under_way: &mut Vec<Sent>,
-    note: NoteId,
-    maker: CoreId,
-    made: u64,
-    mark: Mark,
-) -> Result<(), NoMemory>
-    ensures ok { OnOk result (under_way.new.items ≡ under_way.old.items ++ sent note maker made mark ∷ []) }
-    ensures kept { take (length under_way.old.items) under_way.new.items ≡ under_way.old.items }
-{
-    under_way.push(Sent {
-        note,
-        maker,
-        made,
-        mark,
-    })?;
-    Ok(())
-}
-
-/// Returns what the signal to the notification carries that this core made at this moment.
-fn landed(
-    alloc: Global,
-    under_way: &[Sent],
-    note: NoteId,
-    maker: CoreId,
-    made: u64,
-) -> Result<Set, NoMemory>
-    ensures { IfOk result (λ set. set ≡ map (λ sent. sent.mark) (filter (is_sent note maker made) under_way.now)) }
-{
-    let mut landed = Set::empty();
-    for i in (0..under_way.len()).rev() {
-        if is_sent(&under_way[i], note, maker, made) {
-            landed.push(alloc, under_way[i].mark)?;
-        }
-    }
-    Ok(landed)
-}
-
-fn is_sent(sent: &Sent, note: NoteId, maker: CoreId, made: u64) -> bool
-    ensures { result ≡ is_sent note maker made sent.now }
-{
-    sent.note == note && (sent.maker == maker && sent.made == made)
-}
-
-/// Lets go of the signal to the notification that this core made at this moment.
-fn drop_sent(under_way: &mut Vec<Sent>, note: NoteId, maker: CoreId, made: u64)
-    ensures { under_way.new.items ≡ filter (λ sent. not (is_sent note maker made sent)) under_way.old.items }
-{
-    under_way.retain(|sent| !is_sent(sent, note, maker, made));
-}
-
-/// Returns what a signal of the thread carries.
-fn given_by(
-    alloc: Global,
-    carried: &[Set],
-    thread: ThreadId,
-    places: u64,
-    badge: u32,
-) -> Result<Set, NoMemory>
-    ensures { IfOk result (λ set. set ≡ given places badge (get_or carried.now thread [])) }
-{
-    if thread.0 < carried.len() {
-        carried[thread.0].given(alloc, places, badge)
-    } else {
-        Ok(Set::empty())
-    }
-}
-
-/// Returns what a thread takes from a notification.
-fn taken_from(alloc: Global, held: &[Set], note: NoteId, taking: Taking) -> Result<Set, NoMemory>
-    ensures { IfOk result (λ set. set ≡ taken taking (get_or held.now note [])) }
-{
-    if note.0 < held.len() {
-        held[note.0].taken(alloc, taking)
-    } else {
-        Ok(Set::empty())
-    }
-}
-
-/// Adds the origins of a set to the one with this number.
-fn join_to(alloc: Global, sets: &mut [Set], number: usize, set: &Set) -> Result<(), NoMemory>
-    ensures ok { OnOk result (sets.new ≡ slice_set sets.old number (join set.now (get_or sets.old number []))) }
-    ensures err { OnErr result (sets.new ≡ sets.old) }
-{
-    if set.is_empty() {
-        return Ok(());
-    }
-    if number < sets.len() {
-        sets[number].join(alloc, set)?;
-    }
-    Ok(())
-}
-
-/// Whether there is no origin in the set with this number.
-#[inline(always)]
-fn has_none(sets: &[Set], number: usize) -> bool
-    ensures { result ≡ is_none (get_or sets.now number []) }
-{
-    number >= sets.len() || sets[number].is_empty()
-}
-
-/// Leaves nothing in the set with this number.
-fn clear(sets: &mut [Set], number: usize)
-    ensures { sets.new ≡ slice_set sets.old number [] }
-{
-    if number < sets.len() {
-        sets[number] = Set::empty();
-    }
-}
-
 impl Origins {
     /// Before the first row.
     pub(crate) fn new(alloc: Global, parts: &SystemParts) -> Result<Self, NoMemory>
         ensures { IfOk result (λ origins. origins ≡ no_origins parts.now) }
     {
         Ok(Origins {
-            held: none_held(alloc, parts)?,
-            carried: none_carried(alloc, parts)?,
+            held: sets::none_held(alloc, parts)?,
+            carried: sets::none_carried(alloc, parts)?,
             under_way: Vec::new(alloc),
             posted: Set::empty(),
             unanswered: Vec::new(alloc),
@@ -327,8 +53,8 @@ impl Origins {
         ensures { IfOk result (λ copy. copy ≡ self.now) }
     {
         Ok(Origins {
-            held: copied(alloc, &self.held)?,
-            carried: copied(alloc, &self.carried)?,
+            held: sets::copied(alloc, &self.held)?,
+            carried: sets::copied(alloc, &self.carried)?,
             under_way: Vec::from_slice(alloc, self.under_way.as_slice())?,
             posted: self.posted.copied(alloc)?,
             unanswered: Vec::from_slice(alloc, self.unanswered.as_slice())?,
@@ -369,7 +95,7 @@ impl Origins {
         ensures ok { OnOk result (self.new ≡ record (rest self.old) { posted = given places badge (get_or self.old.carried thread []) }) }
         ensures err { OnErr result (self.new ≡ self.old) }
     {
-        let posted = given_by(alloc, &self.carried, thread, places, badge)?;
+        let posted = sets::given_by(alloc, &self.carried, thread, places, badge)?;
         self.posted = posted;
         self.answered.clear();
         Ok(())
@@ -408,7 +134,7 @@ impl Origins {
         ensures ok { OnOk result (self.new ≡ holds note self.old) }
         ensures err { OnErr result (self.new ≡ self.old) }
     {
-        join_to(alloc, &mut self.held, note.0, &self.posted)?;
+        sets::join_to(alloc, &mut self.held, note.0, &self.posted)?;
         self.rest();
         Ok(())
     }
@@ -419,7 +145,7 @@ impl Origins {
         ensures err { OnErr result (self.new ≡ self.old) }
     {
         let taken = self.posted.taken(alloc, taking)?;
-        join_to(alloc, &mut self.carried, thread.0, &taken)?;
+        sets::join_to(alloc, &mut self.carried, thread.0, &taken)?;
         self.rest();
         Ok(())
     }
@@ -435,9 +161,9 @@ impl Origins {
         ensures ok { OnOk result (self.new ≡ gets thread note taking self.old) }
         ensures err { OnErr result (self.new ≡ self.old) }
     {
-        let taken = taken_from(alloc, &self.held, note, taking)?;
-        join_to(alloc, &mut self.carried, thread.0, &taken)?;
-        clear(&mut self.held, note.0);
+        let taken = sets::taken_from(alloc, &self.held, note, taking)?;
+        sets::join_to(alloc, &mut self.carried, thread.0, &taken)?;
+        sets::clear(&mut self.held, note.0);
         self.rest();
         Ok(())
     }
@@ -468,11 +194,11 @@ impl Origins {
         ensures err { OnErr result (self.new ≡ self.old) }
     {
         if answered.is_empty() {
-            clear(&mut self.carried, thread.0);
+            sets::clear(&mut self.carried, thread.0);
             self.rest();
             return Ok(());
         }
-        drop_from_sets(
+        sets::drop_from_sets(
             alloc,
             &mut self.held,
             &mut self.carried,
@@ -505,7 +231,7 @@ impl Origins {
             }
             Move::Give(thread, places, badge) => self.give(alloc, thread, places, badge),
             Move::Send(thread, places, badge, note, maker, made) => {
-                let given = given_by(alloc, &self.carried, thread, places, badge)?;
+                let given = sets::given_by(alloc, &self.carried, thread, places, badge)?;
                 self.set_out(note, maker, made, &given)
             }
             Move::Land(note, maker, made) => self.land(alloc, note, maker, made),
@@ -528,9 +254,9 @@ impl Origins {
             Move::Nothing | Move::Hold(_) | Move::Wake(..) => true,
             Move::Start(source, _) => source != chain.source,
             Move::Give(thread, ..) | Move::Send(thread, ..) | Move::End(thread, _) => {
-                has_none(&self.carried, thread.0)
+                sets::has_none(&self.carried, thread.0)
             }
-            Move::Got(_, note, _) => has_none(&self.held, note.0),
+            Move::Got(_, note, _) => sets::has_none(&self.held, note.0),
             Move::Land(..) => self.under_way.is_empty(),
         }
     }
@@ -556,4 +282,18 @@ impl Origins {
     {
         self.unanswered.as_slice()
     }
+}
+
+/// Whether a round that this word began answers, if the chain has these badges.
+fn is_answer(badges: u32, word: u32) -> bool
+    ensures { result ≡ is_answer badges word }
+{
+    badges == 0 || badges & word != 0
+}
+
+/// Drops what was answered from the origins without an answer.
+fn drop_from_origins(origins: &mut Vec<Tick>, answered: &[Tick])
+    ensures { origins.new.items ≡ filter (λ origin. not (is_one_of answered.now origin)) origins.old.items }
+{
+    origins.retain(|origin| !is_one_of(answered, *origin));
 }

@@ -1,9 +1,11 @@
 ghost use Rattle.std.specs.Prelude.{◌≡◌, false, get_or, IsTrue, IfOk};
-ghost use Rattle.mcs_chain.specs.Later.{AreLater, StepsAreSame, later_origins};
+ghost use Rattle.mcs_origins.specs.Later.{later_origins};
+ghost use Rattle.mcs_chain.specs.Later.{AreLater, StepsAreSame};
 
-use crate::later::{are_later, are_steps_same, are_ticks_later};
+use crate::later::{are_later, are_steps_same};
 use crate::origins::Origins;
 use crate::step::Gone;
+use mcs_origins::are_ticks_later;
 use mcs_system::SystemParts;
 use mcs_ticks::{Limits, NoMemory};
 use std::alloc::Global;

@@ -9,11 +9,12 @@ ghost use Rattle.mcs_chain.specs.Found.{all_unanswered};
 ghost use Rattle.mcs_chain.specs.Watch.{all_due, all_judged_many, all_slow_many, gone_for, slow_many, watch_of};
 
 use crate::answer::answers_at;
+use crate::chains::{
+    all_new, all_see, are_still, due_of, have_late, judged_of, many_of, unanswered_of,
+};
 use crate::found::unanswered_of as finding_of;
 use crate::moves::moves;
-use crate::one::{
-    One, all_new, all_see, are_still, due_of, have_late, judged_of, many_of, unanswered_of,
-};
+use crate::one::One;
 use crate::step::{Gone, all_fresh, all_go, is_quiet};
 use crate::{Answer, ChainId, Finding, Found, State};
 use mcs_system::{System, SystemParts};

@@ -12,7 +12,8 @@ use Rattle.mcs_core.specs.Clock.{schedule}
 use Rattle.mcs_verdict.specs.Findings.{past_of}
 use Rattle.mcs_table.specs.Rounds.{greatest}
 use Rattle.mcs_chain.specs.Answers.{earliest, latencies, origins, unanswered, unanswered_for}
-use Rattle.mcs_chain.specs.Later.{AreLater, StepsAreSame, later_origins}
+use Rattle.mcs_origins.specs.Later.{later_origins}
+use Rattle.mcs_chain.specs.Later.{AreLater, StepsAreSame}
 use Rattle.mcs_chain.specs.Origins.{Origins}
 use Rattle.mcs_chain.specs.State.{State}
 use Rattle.mcs_chain.specs.Watch.{slow_sum}

@@ -9,15 +9,16 @@ use Rattle.mcs_ticks.specs.declared.row.What.{What}
 use Rattle.mcs_ticks.specs.declared.row.What.TheVariants as row
 use Rattle.mcs_system.specs.declared.part.ChainPart.{ChainPart}
 use Rattle.mcs_system.specs.System.{System, thread_part, note_part, source_part, core_of, is_server, delay_between}
-use Rattle.mcs_chain.specs.declared.mark.Mark.{Mark}
-use Rattle.mcs_chain.specs.declared.mark.Sent.{Sent}
+use Rattle.mcs_origins.specs.declared.mark.Mark.{Mark}
+use Rattle.mcs_chain.specs.declared.sent.Sent.{Sent}
 use Rattle.mcs_chain.specs.declared.moves.Move.{Move}
 use Rattle.mcs_chain.specs.declared.moves.Move.TheVariants.{Nothing, Give, Send}
 use Rattle.mcs_chain.specs.declared.step.Gone.{Gone}
 use Rattle.mcs_chain.specs.declared.step.Step.{Step}
 use Rattle.mcs_chain.specs.Steps.{all_go, fresh, goes_by, gone_of, step_of}
 use Rattle.mcs_chain.specs.Moves.{moves, reach, taking}
-use Rattle.mcs_chain.specs.Origins.{Origins, answers, at_places, ends, given, is_answer, is_sent, join, moved, rest, sent, sets_out, started, taken}
+use Rattle.mcs_origins.specs.Sets.{at_places, given, join, taken}
+use Rattle.mcs_chain.specs.Origins.{Origins, answers, ends, is_answer, is_sent, moved, rest, sent, sets_out, started}
 use Rattle.mcs_chain.proofs.Nothing.{sets-stay, sent-stay, origins-stay}
 use Rattle.mcs_ever.specs.laws.Home.{IsOfOwn, IsOwnThread}
 use Rattle.mcs_ever_found.proofs.Alike.{at}

@@ -8,9 +8,7 @@ use Rattle.mcs_system.specs.System.{System}
 use Rattle.mcs_ever_told.proofs.Places.{pushed, written}
 use Rattle.mcs_ever_chain.specs.declared.look.Look.{Look}
 use Rattle.mcs_ever_chain.specs.declared.told.ChainTold.{ChainTold}
-use Rattle.mcs_ever_chain.specs.Told.{AreChainsTold, IsToldOfChain}
 use Rattle.mcs_ever_chain.specs.stored.Looks.{AreLooks, AreLooksTo, AreResults, IsLook, IsResult}
-use Rattle.mcs_ever_chain.proofs.Repeating.{all-each}
 
 module _ (system : System) where
   pub looks-pushed : (t s : ℕ) (looks : List Look) (look : Look) → AreLooks system t s looks → IsLook system t s look → AreLooks system t s (looks ++ look ∷ [])

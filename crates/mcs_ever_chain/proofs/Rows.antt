@@ -9,16 +9,17 @@ use Rattle.mcs_ticks.specs.declared.row.What.{What}
 use Rattle.mcs_ticks.specs.declared.row.What.TheVariants as row
 use Rattle.mcs_system.specs.declared.part.ChainPart.{ChainPart}
 use Rattle.mcs_system.specs.System.{System, thread_part, note_part, core_of, delay_between, is_server}
-use Rattle.mcs_chain.specs.declared.mark.Mark.{Mark}
-use Rattle.mcs_chain.specs.declared.mark.Sent.{Sent}
+use Rattle.mcs_origins.specs.declared.mark.Mark.{Mark}
+use Rattle.mcs_chain.specs.declared.sent.Sent.{Sent}
 use Rattle.mcs_chain.specs.declared.moves.Move.{Move}
 use Rattle.mcs_chain.specs.declared.moves.Move.TheVariants.{Nothing, Start, Give, Send, Land, Hold, Wake, Got, End}
-use Rattle.mcs_chain.specs.declared.moves.Taking.{Taking}
+use Rattle.mcs_origins.specs.declared.taking.Taking.{Taking}
 use Rattle.mcs_chain.specs.declared.step.Gone.{Gone}
 use Rattle.mcs_chain.specs.declared.step.Step.{Step}
 use Rattle.mcs_chain.specs.Steps.{all_go, fresh, goer, goes_by, gone_of, one_goes, step_of}
 use Rattle.mcs_chain.specs.Moves.{gives, moves, reach, taking}
-use Rattle.mcs_chain.specs.Origins.{Origins, answers, at_places, ends, gets, given, holds, is_answer, is_one_of, is_sent, join, lands, moved, rest, sent, sets_out, started, taken, takes, without}
+use Rattle.mcs_origins.specs.Sets.{at_places, given, is_one_of, join, taken, without}
+use Rattle.mcs_chain.specs.Origins.{Origins, answers, ends, gets, holds, is_answer, is_sent, lands, moved, rest, sent, sets_out, started, takes}
 use Rattle.mcs_ever.specs.Later.{Shift, later_what}
 use Rattle.mcs_ever.specs.laws.Home.{IsOfOwn, IsOwnNote, IsOwnThread}
 use Rattle.mcs_ever_chain.specs.Later.{AreLater, StepsAreSame, is_within, later_mark, later_origins, later_sent, later_set}

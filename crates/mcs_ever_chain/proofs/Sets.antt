@@ -3,10 +3,10 @@ use Rattle.std.proofs.Common.{◌≡◌, ◌∙◌, ℕ, zero, suc, ◌+◌, ◌
 use Rattle.std.specs.Prelude.{nat_lt, if◌then◌else◌}
 use Rattle.std.proofs.lemmas.Bool.{cases_eq}
 use Rattle.std.proofs.lemmas.List.{get_or-set_same, get_or-set_other}
-use Rattle.mcs_chain.specs.declared.mark.Mark.{Mark}
-use Rattle.mcs_chain.specs.declared.moves.Taking.{Taking}
-use Rattle.mcs_chain.specs.declared.moves.Taking.TheVariants.{First, Later}
-use Rattle.mcs_chain.specs.Origins.{at_places, both, given, is_at, is_one_of, join, keep_at, put_at, taken, without}
+use Rattle.mcs_origins.specs.declared.mark.Mark.{Mark}
+use Rattle.mcs_origins.specs.declared.taking.Taking.{Taking}
+use Rattle.mcs_origins.specs.declared.taking.Taking.TheVariants.{First, Later}
+use Rattle.mcs_origins.specs.Sets.{at_places, both, given, is_at, is_one_of, join, keep_at, put_at, taken, without}
 use Rattle.mcs_ever_chain.specs.Later.{later_mark, later_origins, later_set}
 
 -- numbers that are later by as much are in the same order

@@ -4,7 +4,7 @@ ghost use Rattle.mcs_system.specs.System.{System as TheSystem};
 ghost use Rattle.mcs_system.specs.declared.part.ChainPart.{ChainPart as TheChain};
 ghost use Rattle.mcs_ever_told.specs.declared.line.Often.TheVariants.{Forever};
 ghost use Rattle.mcs_ever_search.specs.Together.{rows_at, rows_before};
-ghost use Rattle.mcs_chain.specs.Later.{later_origins};
+ghost use Rattle.mcs_origins.specs.Later.{later_origins};
 ghost use Rattle.mcs_ever.specs.Closed.{has};
 ghost use Rattle.mcs_ever_chain.specs.Told.{IsToldOfChain, left_for};
 ghost use Rattle.mcs_ever_chain.specs.stored.Looks.{IsFound, IsHome, IsLook, IsNow, IsPair, IsResult};

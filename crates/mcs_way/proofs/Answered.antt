@@ -11,13 +11,14 @@ use Rattle.mcs_system.specs.declared.part.ChainPart.{ChainPart}
 use Rattle.mcs_system.specs.System.{System}
 use Rattle.mcs_verdict.specs.declared.standing.Stood.{Stood}
 use Rattle.mcs_chain.specs.declared.answer.Answer.{Answer}
-use Rattle.mcs_chain.specs.declared.mark.Mark.{Mark}
+use Rattle.mcs_origins.specs.declared.mark.Mark.{Mark}
 use Rattle.mcs_chain.specs.declared.moves.Move.{Move}
 use Rattle.mcs_chain.specs.declared.moves.Move.TheVariants.{Nothing, Start, Give, Send, Land, Hold, Wake, Got, End}
 use Rattle.mcs_chain.specs.Answering.{answer_to, answers_to, answers_at}
 use Rattle.mcs_chain.specs.Answers.{gone_after, origins}
 use Rattle.mcs_chain.specs.Moves.{reach}
-use Rattle.mcs_chain.specs.Origins as marks
+use Rattle.mcs_origins.specs.Sets as marks
+use Rattle.mcs_chain.specs.Origins as chain_sets
 use Rattle.mcs_chain.specs.Steps.{gone_of}
 use Rattle.mcs_way.specs.declared.aim.Aim.{Aim}
 use Rattle.mcs_way.specs.declared.leg.Carrier.{Carrier}
@@ -132,7 +133,7 @@ round-has system chain answer past m core n x number response origin source is i
     ∙ eq-eqb number answer.number (sym (ap (λ (a : Answer). a.number) is))
     in
     let has : get_or c.carried x None ≡ None → ⊥ =
-    inside-of (x == chain.thread && marks.is_answer chain.badges word) origin (reach chain.badges) (get_or c.carried x None) (get_or o.carried x []) answer.origin there from inside
+    inside-of (x == chain.thread && chain_sets.is_answer chain.badges word) origin (reach chain.badges) (get_or c.carried x None) (get_or o.carried x []) answer.origin there from inside
     in
     let stood = stood_by past m (Some x) c in
     subst (λ b. (if b then answers x (ended_legs (by.Thread x stood) m (get_or c.carried x None)) c else ends x c).way ≡ [] → ⊥) (sym ends_it)

@@ -9,13 +9,14 @@ use Rattle.mcs_ticks.specs.declared.row.Row.{Row}
 use Rattle.mcs_system.specs.declared.part.ChainPart.{ChainPart}
 use Rattle.mcs_system.specs.System.{System}
 use Rattle.mcs_verdict.specs.declared.standing.Stood.{Stood}
-use Rattle.mcs_chain.specs.declared.mark.Mark.{Mark}
-use Rattle.mcs_chain.specs.declared.mark.Sent.{Sent as MarkSent}
+use Rattle.mcs_origins.specs.declared.mark.Mark.{Mark}
+use Rattle.mcs_chain.specs.declared.sent.Sent.{Sent as MarkSent}
 use Rattle.mcs_chain.specs.declared.moves.Move.{Move}
 use Rattle.mcs_chain.specs.declared.moves.Move.TheVariants.{Nothing, Start, Give, Send, Land, Hold, Wake, Got, End}
-use Rattle.mcs_chain.specs.declared.moves.Taking.{Taking}
-use Rattle.mcs_chain.specs.declared.moves.Taking.TheVariants.{First, Later}
-use Rattle.mcs_chain.specs.Origins as marks
+use Rattle.mcs_origins.specs.declared.taking.Taking.{Taking}
+use Rattle.mcs_origins.specs.declared.taking.Taking.TheVariants.{First, Later}
+use Rattle.mcs_origins.specs.Sets as marks
+use Rattle.mcs_chain.specs.Origins as chain_sets
 use Rattle.mcs_chain.specs.Answers.{gone_after, origins}
 use Rattle.mcs_chain.specs.Moves.{moves}
 use Rattle.mcs_way.specs.declared.aim.Aim.{Aim}
@@ -233,7 +234,7 @@ sent-before (sent ∷ mine) more their (inl h) = inl h
 sent-before (sent ∷ mine) more their (inr h) = inr (sent-before mine more their h)
 
 sent-last : (mine : List Sent) (new : Option Trace) (note maker made : ℕ) (mark : Mark) → Covers new mark
-    → IsSentWith (mine ++ sent_with note maker made new) (marks.sent note maker made mark)
+    → IsSentWith (mine ++ sent_with note maker made new) (chain_sets.sent note maker made mark)
 sent-last [] None note maker made mark h = absurd h
 sent-last [] (Some trace) note maker made mark h = inl (refl, refl, refl, h)
 sent-last (sent ∷ mine) new note maker made mark h = inr (sent-last mine new note maker made mark h)
@@ -243,7 +244,7 @@ all-before origin mine more [] h = tt
 all-before origin mine more (their ∷ theirs) h = ((λ o. sent-before mine more their (h.0 o)), all-before origin mine more theirs h.1)
 
 all-last : (origin : ℕ) (mine : List Sent) (new : Option Trace) (note maker made : ℕ) (set : List Mark) → Covered origin new set
-    → AllSentWith origin (mine ++ sent_with note maker made new) (map (marks.sent note maker made) set)
+    → AllSentWith origin (mine ++ sent_with note maker made new) (map (chain_sets.sent note maker made) set)
 all-last origin mine new note maker made [] h = tt
 all-last origin mine new note maker made (mark ∷ set) h =
     ((λ o. sent-last mine new note maker made mark (h.0 o)), all-last origin mine new note maker made set h.1)
@@ -275,7 +276,7 @@ landed-mark note maker made home moment before (sent ∷ mine) their d e f (inl 
     (subst (λ b. Covers (if b then joined (Some (arrived home moment sent)) before else before) their.mark)
     (sym (sent-is sent note maker made (h.0 ∙ d) (h.1 ∙ e) (h.2 ∙ f))) (joined-new (Some (arrived home moment sent)) before their.mark h.3))
 
-their-sent : (their : MarkSent) (note maker made : ℕ) → marks.is_sent note maker made their ≡ true → (their.note ≡ note) × (their.maker ≡ maker) × (their.made ≡ made)
+their-sent : (their : MarkSent) (note maker made : ℕ) → chain_sets.is_sent note maker made their ≡ true → (their.note ≡ note) × (their.maker ≡ maker) × (their.made ≡ made)
 their-sent their note maker made e = (
   eqb-true their.note note (first-is (their.note == note) (their.maker == maker && their.made == made) e),
   eqb-true their.maker maker (first-is (their.maker == maker) (their.made == made) (second-is (their.note == note) (their.maker == maker && their.made == made) e)),
@@ -291,23 +292,23 @@ their-sent their note maker made e = (
     second-is false b e = absurd (cc)
 
 landed-covered : (origin note maker made home moment : ℕ) (mine : List Sent) (theirs : List MarkSent) → AllSentWith origin mine theirs
-    → Covered origin (landed note maker made home moment mine) (map (λ sent. sent.mark) (filter (marks.is_sent note maker made) theirs))
+    → Covered origin (landed note maker made home moment mine) (map (λ sent. sent.mark) (filter (chain_sets.is_sent note maker made) theirs))
 landed-covered origin note maker made home moment mine [] h = tt
 landed-covered origin note maker made home moment mine (their ∷ theirs) h =
     let rest = landed-covered origin note maker made home moment mine theirs h.1 in
-    if-both (λ (xs : List MarkSent). Covered origin (landed note maker made home moment mine) (map (λ sent. sent.mark) xs)) (marks.is_sent note maker made their)
-    (their ∷ filter (marks.is_sent note maker made) theirs) (filter (marks.is_sent note maker made) theirs)
+    if-both (λ (xs : List MarkSent). Covered origin (landed note maker made home moment mine) (map (λ sent. sent.mark) xs)) (chain_sets.is_sent note maker made their)
+    (their ∷ filter (chain_sets.is_sent note maker made) theirs) (filter (chain_sets.is_sent note maker made) theirs)
     (λ e. let is = their-sent their note maker made e in ((λ o. landed-mark note maker made home moment None mine their is.0 is.1 is.2 (h.0 o)), rest))
     (λ e. rest)
 
 -- and what stays under way
 same-test : (sent : Sent) (their : MarkSent) (note maker made : ℕ) → sent.note ≡ their.note → sent.maker ≡ their.maker → sent.made ≡ their.made
-    → is_sent note maker made sent ≡ marks.is_sent note maker made their
+    → is_sent note maker made sent ≡ chain_sets.is_sent note maker made their
 same-test sent their note maker made d e f =
     ap (λ w. w == note && (sent.maker == maker && sent.made == made)) d ∙ ap (λ x. their.note == note && (x == maker && sent.made == made)) e
     ∙ ap (λ y. their.note == note && (their.maker == maker && y == made)) f
 
-left-with : (note maker made : ℕ) (mine : List Sent) (their : MarkSent) → not (marks.is_sent note maker made their) ≡ true → IsSentWith mine their
+left-with : (note maker made : ℕ) (mine : List Sent) (their : MarkSent) → not (chain_sets.is_sent note maker made their) ≡ true → IsSentWith mine their
     → IsSentWith (filter (λ sent. not (is_sent note maker made sent)) mine) their
 left-with note maker made [] their e h = absurd h
 left-with note maker made (sent ∷ mine) their e (inl h) =
@@ -319,12 +320,12 @@ left-with note maker made (sent ∷ mine) their e (inr h) =
     (λ f. inr (left-with note maker made mine their e h)) (λ f. left-with note maker made mine their e h)
 
 all-left : (origin note maker made : ℕ) (mine : List Sent) (theirs : List MarkSent) → AllSentWith origin mine theirs
-    → AllSentWith origin (filter (λ sent. not (is_sent note maker made sent)) mine) (filter (λ sent. not (marks.is_sent note maker made sent)) theirs)
+    → AllSentWith origin (filter (λ sent. not (is_sent note maker made sent)) mine) (filter (λ sent. not (chain_sets.is_sent note maker made sent)) theirs)
 all-left origin note maker made mine [] h = tt
 all-left origin note maker made mine (their ∷ theirs) h =
     let rest = all-left origin note maker made mine theirs h.1 in
-    if-both (AllSentWith origin (filter (λ sent. not (is_sent note maker made sent)) mine)) (not (marks.is_sent note maker made their))
-    (their ∷ filter (λ sent. not (marks.is_sent note maker made sent)) theirs) (filter (λ sent. not (marks.is_sent note maker made sent)) theirs)
+    if-both (AllSentWith origin (filter (λ sent. not (is_sent note maker made sent)) mine)) (not (chain_sets.is_sent note maker made their))
+    (their ∷ filter (λ sent. not (chain_sets.is_sent note maker made sent)) theirs) (filter (λ sent. not (chain_sets.is_sent note maker made sent)) theirs)
     (λ e. ((λ o. left-with note maker made mine their e (h.0 o)), rest)) (λ e. rest)
 
 all-kept : (origin : ℕ) (answered : List ℕ) (mine : List Sent) (theirs : List MarkSent) → AllSentWith origin mine theirs
@@ -338,23 +339,23 @@ all-kept origin answered mine (their ∷ theirs) h =
     (λ e. (h.0, rest)) (λ e. rest)
 
 -- the course has what the sets have of its origin
-pub record AreCovered (origin : ℕ) (o : marks.Origins) (c : Course) : Type 0 where
+pub record AreCovered (origin : ℕ) (o : chain_sets.Origins) (c : Course) : Type 0 where
   pub held : AllCovered origin c.held o.held
   pub carried : AllCovered origin c.carried o.carried
   pub under_way : AllSentWith origin c.under_way o.under_way
   pub posted : Covered origin c.posted o.posted
 
-started-covered : (chain : ChainPart) (aim : Aim) (moment source badge : ℕ) (o : marks.Origins) (c : Course) → aim.source ≡ chain.source
+started-covered : (chain : ChainPart) (aim : Aim) (moment source badge : ℕ) (o : chain_sets.Origins) (c : Course) → aim.source ≡ chain.source
     → AreCovered aim.answer.origin o c
-    → AreCovered aim.answer.origin (if source == chain.source then marks.started moment badge o else marks.rest o)
+    → AreCovered aim.answer.origin (if source == chain.source then chain_sets.started moment badge o else chain_sets.rest o)
     (if is_origin aim source moment then started moment badge c else rest c)
 started-covered chain aim moment source badge o c e h =
     if-both (λ x. AreCovered aim.answer.origin x (if is_origin aim source moment then started moment badge c else rest c)) (source == chain.source)
-    (marks.started moment badge o) (marks.rest o)
-    (λ own. if-both (AreCovered aim.answer.origin (marks.started moment badge o)) (is_origin aim source moment) (started moment badge c) (rest c)
+    (chain_sets.started moment badge o) (chain_sets.rest o)
+    (λ own. if-both (AreCovered aim.answer.origin (chain_sets.started moment badge o)) (is_origin aim source moment) (started moment badge c) (rest c)
     (λ is. record { held = h.held; carried = h.carried; under_way = h.under_way; posted = ((λ (at : moment ≡ aim.answer.origin) i. omega arith), tt) })
     (λ not_is. record { held = h.held; carried = h.carried; under_way = h.under_way; posted = ((λ (at : moment ≡ aim.answer.origin). other own not_is at), tt) }))
-    (λ other. if-both (AreCovered aim.answer.origin (marks.rest o)) (is_origin aim source moment) (started moment badge c) (rest c)
+    (λ other. if-both (AreCovered aim.answer.origin (chain_sets.rest o)) (is_origin aim source moment) (started moment badge c) (rest c)
     (λ is. record { held = h.held; carried = h.carried; under_way = h.under_way; posted = tt })
     (λ not_is. record { held = h.held; carried = h.carried; under_way = h.under_way; posted = tt }))
   where
@@ -364,8 +365,8 @@ started-covered chain aim moment source badge o c e h =
         let is : is_origin aim source moment ≡ true = ap (λ b. b && moment == aim.answer.origin) same ∙ eq-eqb moment aim.answer.origin at in
         absurd (cc)
 
-ended-covered : (aim : Aim) (thread : ℕ) (answered : List ℕ) (o : marks.Origins) (c : Course) → AreCovered aim.answer.origin o c
-    → AreCovered aim.answer.origin (marks.ends thread answered o) (ends thread c)
+ended-covered : (aim : Aim) (thread : ℕ) (answered : List ℕ) (o : chain_sets.Origins) (c : Course) → AreCovered aim.answer.origin o c
+    → AreCovered aim.answer.origin (chain_sets.ends thread answered o) (ends thread c)
 ended-covered aim thread answered o c h =
     record {
       held = all-without aim.answer.origin answered c.held o.held h.held;
@@ -375,8 +376,8 @@ ended-covered aim thread answered o c h =
       posted = tt;
     }
 
-moved-covered : (chain : ChainPart) (aim : Aim) (r : Row) (stood : Stood) (o : marks.Origins) (c : Course) (move : Move) → aim.source ≡ chain.source
-    → AreCovered aim.answer.origin o c → AreCovered aim.answer.origin (marks.moved chain r.moment move o) (moved aim r stood move c)
+moved-covered : (chain : ChainPart) (aim : Aim) (r : Row) (stood : Stood) (o : chain_sets.Origins) (c : Course) (move : Move) → aim.source ≡ chain.source
+    → AreCovered aim.answer.origin o c → AreCovered aim.answer.origin (chain_sets.moved chain r.moment move o) (moved aim r stood move c)
 moved-covered chain aim r stood o c Nothing e h = record { held = h.held; carried = h.carried; under_way = h.under_way; posted = tt }
 moved-covered chain aim r stood o c (Start source badge) e h = started-covered chain aim r.moment source badge o c e h
 moved-covered chain aim r stood o c (Give thread places badge) e h =
@@ -429,8 +430,8 @@ moved-covered chain aim r stood o c (Got thread note taking) e h =
       posted = tt;
     }
 moved-covered chain aim r stood o c (End thread word) e h =
-    let ended = ended-covered aim thread (marks.answers chain thread word o) o c h in
-    if-both (AreCovered aim.answer.origin (marks.ends thread (marks.answers chain thread word o) o)) (is_answer aim.answer r)
+    let ended = ended-covered aim thread (chain_sets.answers chain thread word o) o c h in
+    if-both (AreCovered aim.answer.origin (chain_sets.ends thread (chain_sets.answers chain thread word o) o)) (is_answer aim.answer r)
     (answers thread _ c) (ends thread c)
     (λ is. record { held = ended.held; carried = ended.carried; under_way = ended.under_way; posted = tt }) (λ not_is. ended)
 

@@ -15,8 +15,8 @@ use Rattle.mcs_verdict.proofs.Counts.{all-stood_for}
 use Rattle.mcs_chain.specs.declared.answer.Answer.{Answer}
 use Rattle.mcs_chain.specs.declared.moves.Move.{Move}
 use Rattle.mcs_chain.specs.declared.moves.Move.TheVariants.{Nothing, Start, Give, Send, Land, Hold, Wake, Got, End}
-use Rattle.mcs_chain.specs.declared.moves.Taking.{Taking}
-use Rattle.mcs_chain.specs.declared.moves.Taking.TheVariants.{First, Later}
+use Rattle.mcs_origins.specs.declared.taking.Taking.{Taking}
+use Rattle.mcs_origins.specs.declared.taking.Taking.TheVariants.{First, Later}
 use Rattle.mcs_chain.specs.declared.step.Gone.{Gone}
 use Rattle.mcs_chain.specs.Answers.{gone_after}
 use Rattle.mcs_chain.specs.Moves.{moves_by}

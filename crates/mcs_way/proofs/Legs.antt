@@ -6,8 +6,8 @@ use Rattle.mcs_system.specs.System.{System}
 use Rattle.mcs_verdict.specs.declared.standing.Stood.{Stood}
 use Rattle.mcs_chain.specs.declared.moves.Move.{Move}
 use Rattle.mcs_chain.specs.declared.moves.Move.TheVariants.{Nothing, Start, Give, Send, Land, Hold, Wake, Got, End}
-use Rattle.mcs_chain.specs.declared.moves.Taking.{Taking}
-use Rattle.mcs_chain.specs.declared.moves.Taking.TheVariants.{First, Later}
+use Rattle.mcs_origins.specs.declared.taking.Taking.{Taking}
+use Rattle.mcs_origins.specs.declared.taking.Taking.TheVariants.{First, Later}
 use Rattle.mcs_way.specs.declared.aim.Aim.{Aim}
 use Rattle.mcs_way.specs.declared.leg.Carrier.{Carrier}
 use Rattle.mcs_way.specs.declared.leg.Carrier.TheVariants as by

@@ -11,8 +11,8 @@ use Rattle.mcs_system.specs.System.{System, is_server, note_part}
 use Rattle.mcs_verdict.specs.declared.standing.Stood.{Stood}
 use Rattle.mcs_verdict.specs.Account.{subject}
 use Rattle.mcs_chain.specs.declared.moves.Move.TheVariants.{Nothing, Give, Send}
-use Rattle.mcs_chain.specs.declared.moves.Taking.{Taking}
-use Rattle.mcs_chain.specs.declared.moves.Taking.TheVariants.{First, Later}
+use Rattle.mcs_origins.specs.declared.taking.Taking.{Taking}
+use Rattle.mcs_origins.specs.declared.taking.Taking.TheVariants.{First, Later}
 use Rattle.mcs_chain.specs.declared.step.Gone.{Gone}
 use Rattle.mcs_chain.specs.Moves.{moves_by}
 use Rattle.mcs_way.specs.declared.aim.Aim.{Aim}

@@ -1,7 +1,7 @@
 -- An origin at one of its carriers: a notification, a thread, or a signal under way between cores.
 use Rattle.std.specs.Prelude.{ℕ, Bool, ◌==◌, not, if◌then◌else◌, bit_and, bit_or, List, [], ◌∷◌, ◌++◌, Option, Some, None}
-use Rattle.mcs_chain.specs.declared.moves.Taking.{Taking}
-use Rattle.mcs_chain.specs.declared.moves.Taking.TheVariants.{First, Later}
+use Rattle.mcs_origins.specs.declared.taking.Taking.{Taking}
+use Rattle.mcs_origins.specs.declared.taking.Taking.TheVariants.{First, Later}
 use Rattle.mcs_way.specs.declared.leg.Carrier.{Carrier}
 use Rattle.mcs_way.specs.declared.leg.Carrier.TheVariants.{Note}
 use Rattle.mcs_way.specs.declared.leg.Leg.{Leg}

@@ -1,6 +1,6 @@
 use Rattle.std.proofs.Common.{◌≡◌, ◌<◌, ℕ, [], true, false, get_or}
 use Rattle.mcs_system.specs.System.{core_of, thread_part}
-use Rattle.mcs_chain.specs.Later.{later_set}
+use Rattle.mcs_origins.specs.Later.{later_set}
 use Rattle.mcs_chain.proofs.later.are_carried_later.Given as goal
 
 abbrev pub invariant-loop-thread : goal.invariant-loop-thread

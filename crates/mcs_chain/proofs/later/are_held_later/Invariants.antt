@@ -1,6 +1,6 @@
 use Rattle.std.proofs.Common.{◌≡◌, ◌<◌, ℕ, [], true, false, get_or}
 use Rattle.mcs_system.specs.System.{note_part}
-use Rattle.mcs_chain.specs.Later.{later_set}
+use Rattle.mcs_origins.specs.Later.{later_set}
 use Rattle.mcs_chain.proofs.later.are_held_later.Given as goal
 
 abbrev pub invariant-loop-note : goal.invariant-loop-note

@@ -1,7 +1,7 @@
 -- The call keeps what passes the closure's test.
 use Rattle.std.proofs.Common.{not, rules}
 use Rattle.std.proofs.lemmas.Fn.{filter_same}
-use Rattle.mcs_chain.specs.Origins.{is_one_of}
+use Rattle.mcs_origins.specs.Sets.{is_one_of}
 use Rattle.mcs_chain.proofs.origins.drop_from_origins.Goals as goal
 
 pub returns : goal.returns

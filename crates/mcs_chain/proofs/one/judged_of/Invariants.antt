@@ -1,7 +1,0 @@
-use Rattle.std.proofs.Common.{◌≡◌, take}
-use Rattle.mcs_chain.specs.Watch.{all_judged_many}
-use Rattle.mcs_chain.proofs.one.judged_of.Given as goal
-
-abbrev pub invariant-loop-one : goal.invariant-loop-one
-invariant-loop-one l =
-    l.many ≡ all_judged_many (take l.one-index l.each)

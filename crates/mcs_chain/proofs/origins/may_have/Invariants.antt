@@ -1,6 +1,0 @@
-use Rattle.std.proofs.Common.{◌≡◌, [], map, set, take}
-use Rattle.mcs_chain.specs.Origins.{without}
-use Rattle.mcs_chain.proofs.origins.may_have.Given as goal
-
-abbrev pub invariant-loop-i : goal.invariant-loop-i
-invariant-loop-i l = map (without l.answered) (take l.i (set l.sets l.number [])) ≡ take l.i (set l.sets l.number [])

@@ -1,7 +1,0 @@
-use Rattle.std.proofs.Common.{◌≡◌, ◌++◌, map}
-use Rattle.mcs_chain.specs.stored.Sets.{run}
-use Rattle.mcs_chain.proofs.stretches.append_origins.Given as goal
-
-abbrev pub invariant-loop-number : goal.invariant-loop-number
-invariant-loop-number l =
-    l.origins.items ≡ l.initial.origins.items ++ map (λ mark. mark.origin) (run l.stretch.last l.stretch.step l.number l.stretch.places)

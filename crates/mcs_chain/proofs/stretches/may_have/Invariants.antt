@@ -1,7 +1,0 @@
-use Rattle.std.proofs.Common.{◌≡◌, take}
-use Rattle.mcs_chain.specs.Origins.{without}
-use Rattle.mcs_chain.specs.stored.Sets.{flat}
-use Rattle.mcs_chain.proofs.stretches.may_have.Given as goal
-
-abbrev pub invariant-loop-stretch : goal.invariant-loop-stretch
-invariant-loop-stretch l = without l.answered (flat (take l.stretch-index l.stretches)) ≡ flat (take l.stretch-index l.stretches)

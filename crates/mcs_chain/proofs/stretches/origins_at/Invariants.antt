@@ -1,7 +1,0 @@
-use Rattle.std.proofs.Common.{◌≡◌, drop, map}
-use Rattle.mcs_chain.specs.Origins.{at_places}
-use Rattle.mcs_chain.specs.stored.Sets.{flat}
-use Rattle.mcs_chain.proofs.stretches.origins_at.Given as goal
-
-abbrev pub invariant-loop-i : goal.invariant-loop-i
-invariant-loop-i l = l.origins.items ≡ map (λ mark. mark.origin) (at_places l.places (flat (drop l.i l.stretches)))

@@ -1,0 +1,8 @@
+-- The call keeps what passes the closure's test.
+use Rattle.std.proofs.Common.{not, rules}
+use Rattle.std.proofs.lemmas.Fn.{filter_same}
+use Rattle.mcs_origins.specs.Sets.{is_one_of}
+use Rattle.mcs_chain.proofs.under_way.drop_from_sent.Goals as goal
+
+pub returns : goal.returns
+returns c = filter_same _ (λ sent. not (is_one_of c.args.answered.now sent.mark.origin)) _ (λ x b f' k. search rules) _ _ c.retain.ensures.filtered

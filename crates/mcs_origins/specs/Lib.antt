@@ -1,0 +1,3 @@
+pub mod Sets
+pub mod Later
+pub mod stored
