@@ -81,9 +81,7 @@ fn find_by_core<'s, T: Target, P: Progress>(
 {
     schedules_are_in_order();
     let _parts = system.parts();
-    let Ok(mut text) = head(alloc, options, system) else {
-        return Err(RunFault::Sim(SimFault::NoMemory));
-    };
+    let mut text = head(alloc, options, system)?;
     let lines = Lines::new(alloc, target);
     let mut page = FoundLines {
         lines,
@@ -140,12 +138,8 @@ fn find_in_rows<'s, R: Runner, T: Target, P: Progress>(
     schedules_are_in_order();
     let _parts = system.parts();
     let (runner, alloc) = (machine.runner, machine.alloc);
-    let Ok(shared) = Arc::try_clone(system) else {
-        return Err(RunFault::Sim(SimFault::NoMemory));
-    };
-    let Ok(mut seen) = nothing_seen(alloc, system, options) else {
-        return Err(RunFault::Sim(SimFault::NoMemory));
-    };
+    let shared = Arc::try_clone(system)?;
+    let mut seen = nothing_seen(alloc, system, options)?;
     let lines = Lines::new(alloc, target);
     let mut finder = Finder::new(lines, options, system, allowed, &mut seen, progress);
     let result = runner.schedule_to(alloc, shared, options.horizon, &mut finder);
@@ -234,18 +228,10 @@ fn all_found(
         IfOk result (λ found. found.kept ≡ kept_of asked system.now horizon past) }
     ensures fault { IfErr result (λ why. why ≡ fault.Sim sim.NoMemory) }
 {
-    let Ok(unended) = find_unended(alloc, system, &seen.watch.threads.accounts, horizon) else {
-        return Err(RunFault::Sim(SimFault::NoMemory));
-    };
-    let Ok(due) = seen.watch.chains.due(alloc, None) else {
-        return Err(RunFault::Sim(SimFault::NoMemory));
-    };
-    let Ok(unanswered) = seen.watch.chains.unanswered(alloc, system, horizon) else {
-        return Err(RunFault::Sim(SimFault::NoMemory));
-    };
-    let Ok(unjudged) = all_unjudged(alloc, system.parts(), &seen.watch.threads, horizon) else {
-        return Err(RunFault::Sim(SimFault::NoMemory));
-    };
+    let unended = find_unended(alloc, system, &seen.watch.threads.accounts, horizon)?;
+    let due = seen.watch.chains.due(alloc, None)?;
+    let unanswered = seen.watch.chains.unanswered(alloc, system, horizon)?;
+    let unjudged = all_unjudged(alloc, system.parts(), &seen.watch.threads, horizon)?;
     let slow = seen.watch.chains.slow();
     let answers = seen.watch.chains.judged();
     let ended = &seen.watch.threads.ended;

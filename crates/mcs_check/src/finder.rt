@@ -82,6 +82,35 @@ impl<'t, 's, 'k, 'p, T: Target, P: Progress> Finder<'t, 's, 'k, 'p, T, P> {
             ++ told_with self.old.system.now self.old.allowed.now self.old.format self.old.show past row.now) }
     {
         let (alloc, system, format) = (self.lines.alloc, self.system, self.format);
+        if self.seen.see_quiet(self.show, row) {
+            return self.seen.follow(alloc, format, self.show, system, row);
+        }
+        self.take_any(row)
+    }
+
+    /// `take` for any row. It is kept out of line, since most rows have no line of their own and
+    /// need no room for one.
+    #[inline(never)]
+    fn take_any(&mut self, row: &Row) -> Result<(), NoMemory>
+        ensures lines { self.new.lines ≡ self.old.lines }
+        ensures show { self.new.show ≡ self.old.show }
+        ensures format { self.new.format ≡ self.old.format }
+        ensures system { self.new.system ≡ self.old.system }
+        ensures allowed { self.new.allowed ≡ self.old.allowed }
+        ensures seen { self.new.seen.ghost_name ≡ self.old.seen.ghost_name }
+        ensures counted { (past : List TheRow) → self.old.seen.now.watch ≡ watches_of self.old.system.now past → UpTo row.now.moment past →
+            self.new.seen.now.counts ≡ counted_at self.old.system.now self.old.allowed.now past row.now self.old.seen.now.counts }
+        ensures kept { (past : List TheRow) → self.old.seen.now.watch ≡ watches_of self.old.system.now past → UpTo row.now.moment past →
+            OnOk result (self.new.seen.now.watch ≡ watches_of self.old.system.now (row.now ∷ past)) }
+        ensures tabled { (past : List TheRow) (horizon : ℕ) → self.old.seen.now.watch ≡ watches_of self.old.system.now past → UpTo row.now.moment past →
+            self.old.seen.now.table ≡ kept_table self.old.show self.old.system.now horizon past →
+            OnOk result (self.new.seen.now.table ≡ kept_table self.old.show self.old.system.now horizon (row.now ∷ past)) }
+        ensures told { (past : List TheRow) → self.old.seen.now.watch ≡ watches_of self.old.system.now past → UpTo row.now.moment past →
+            OnOk result (self.new.seen.now.text.items ≡ self.old.seen.now.text.items
+            ++ due_lines self.old.format self.old.system.now self.old.show (all_due (Some row.now.moment) 0 (chains_of self.old.system.now past).each)
+            ++ told_with self.old.system.now self.old.allowed.now self.old.format self.old.show past row.now) }
+    {
+        let (alloc, system, format) = (self.lines.alloc, self.system, self.format);
         let shown = self.seen.see(self.show, self.allowed, row);
         self.seen
             .put_due(alloc, format, self.show, system, row.moment)?;

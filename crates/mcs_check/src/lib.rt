@@ -10,6 +10,7 @@ mod ended;
 mod find;
 mod finder;
 mod found_lines;
+mod quiet;
 mod rest;
 mod rounds;
 mod run;

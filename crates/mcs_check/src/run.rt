@@ -14,7 +14,6 @@ use mcs_check_run::{CheckFault, Machine, Progress, Runner, Team, flags_of, refus
 use mcs_check_words::Options;
 use mcs_cli::{FromRead, RunFault, Source, Target, read_system, write_text};
 use mcs_system::System;
-use mcs_team::SimFault;
 use mcs_verdict_laws::schedules_are_in_order;
 use std::alloc::Global;
 use std::fs::File;
@@ -121,19 +120,13 @@ pub(crate) fn write_check<R: Runner, T: Target, P: Progress>(
     schedules_are_in_order();
     let _parts = system.parts();
     let alloc = machine.alloc;
-    let Ok(system) = Arc::new(alloc, system) else {
-        return Err(RunFault::Sim(SimFault::NoMemory));
-    };
-    let Ok(allowed) = flags_of(alloc, system.parts(), options.allowed.as_slice()) else {
-        return Err(RunFault::Sim(SimFault::NoMemory));
-    };
+    let system = Arc::new(alloc, system)?;
+    let allowed = flags_of(alloc, system.parts(), options.allowed.as_slice())?;
     let allowed = allowed.as_slice();
     let found = find_rows(machine, target, &system, allowed, options, progress);
     progress.wipe();
     let mut all = found?;
-    if put_rest(alloc, options, &mut all, &system, allowed).is_err() {
-        return Err(RunFault::Sim(SimFault::NoMemory));
-    }
+    put_rest(alloc, options, &mut all, &system, allowed)?;
     write_text(target, all.text.as_slice())?;
     Ok(checked_of(&system, &all))
 }

@@ -238,7 +238,7 @@ fn count(table: &mut Option<Tables>, system: &System, chains: &ChainWatch, row: 
 }
 
 /// Keeps the row for the figures, if they are asked for.
-fn keep(
+pub(crate) fn keep(
     table: &mut Option<Tables>,
     job: Option<Job>,
     found: &Option<Finding>,

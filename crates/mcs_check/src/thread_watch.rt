@@ -9,7 +9,7 @@ ghost use Rattle.mcs_check.specs.stored.Threads.{threads_of};
 
 use crate::ended::Ended;
 use mcs_system::System;
-use mcs_ticks::{NoMemory, Row};
+use mcs_ticks::{NoMemory, Row, What};
 use mcs_verdict::{Finding, Job, Watch};
 use std::alloc::Global;
 
@@ -40,6 +40,14 @@ impl ThreadWatch {
         ensures merged { (system : TheSystem) (past : List TheRow) → result ≡ true → merges system past row.now.what ≡ false }
     {
         self.accounts.is_quiet(row)
+    }
+
+    /// Whether it is known at once that the row ends no round.
+    #[inline(always)]
+    pub(crate) fn ends_none(&self, row: &Row) -> bool
+        ensures { (system : TheSystem) (past : List TheRow) → result ≡ true → job_of system past row.now.moment row.now.what ≡ None }
+    {
+        !matches!(row.what, What::Round { .. })
     }
 
     /// Takes one more row without its finding.

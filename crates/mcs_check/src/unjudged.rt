@@ -15,7 +15,7 @@ use mcs_ticks::{NoMemory, ThreadId, Tick};
 use mcs_verdict::{Watch, first_wait};
 use std::alloc::Global;
 
-/// The tick at which the first round of the thread was activated, if none ended and it is under way.
+/// The tick at which the thread's first round was activated, if none ended and it is under way.
 fn first_activated(watch: &Watch, horizon: Tick, thread: ThreadId, part: &ThreadPart) -> Option<u64>
     ensures { (system : TheSystem) (past : List TheRow) → watch.now ≡ watch_of system past → UpTo horizon past → thread < length system.threads →
         part.now ≡ thread_part system thread → result ≡ first_activated system past horizon thread }

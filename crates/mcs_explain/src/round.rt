@@ -41,12 +41,8 @@ pub(crate) fn find_round<R: Runner, P: Progress>(
     schedules_are_in_order();
     let _parts = system.parts();
     let (runner, alloc) = (machine.runner, machine.alloc);
-    let Ok(shared) = Arc::try_clone(system) else {
-        return Err(RunFault::Sim(SimFault::NoMemory));
-    };
-    let Ok(watch) = Watch::new(alloc, system) else {
-        return Err(RunFault::Sim(SimFault::NoMemory));
-    };
+    let shared = Arc::try_clone(system)?;
+    let watch = Watch::new(alloc, system)?;
     let search = Search::new(system, thread, number);
     let mut seeker = Seeker::new(watch, search, progress);
     let horizon = options.horizon;
@@ -79,9 +75,7 @@ pub(crate) fn write_span<R: Runner, T: Target, P: Progress>(
     progress.wipe();
     let mut told = told?;
     let (text, account) = (&mut told.text, &told.account);
-    if put_account(machine.alloc, text, options.format, system, span, account).is_err() {
-        return Err(RunFault::Sim(SimFault::NoMemory));
-    }
+    put_account(machine.alloc, text, options.format, system, span, account)?;
     write_text(target, told.text.as_slice())
 }
 
@@ -108,12 +102,8 @@ fn tell_rows<R: Runner, T: Target, P: Progress>(
     schedules_are_in_order();
     let _parts = system.parts();
     let (runner, alloc) = (machine.runner, machine.alloc);
-    let Ok(shared) = Arc::try_clone(system) else {
-        return Err(RunFault::Sim(SimFault::NoMemory));
-    };
-    let Ok(account) = Account::new(alloc, system, span) else {
-        return Err(RunFault::Sim(SimFault::NoMemory));
-    };
+    let shared = Arc::try_clone(system)?;
+    let account = Account::new(alloc, system, span)?;
     let text = Vec::new(alloc);
     let mut told = Told { account, text };
     let lines = Lines::new(alloc, target);

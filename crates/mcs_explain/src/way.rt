@@ -36,12 +36,8 @@ pub(crate) fn find_answer<R: Runner, P: Progress>(
     ensures fault { IfErr result (λ f. f ≡ RunFault.Sim SimFault.NoMemory) }
 {
     let (runner, alloc) = (machine.runner, machine.alloc);
-    let Ok(shared) = Arc::try_clone(system) else {
-        return Err(RunFault::Sim(SimFault::NoMemory));
-    };
-    let Ok(search) = Search::new(alloc, system, chain, number) else {
-        return Err(RunFault::Sim(SimFault::NoMemory));
-    };
+    let shared = Arc::try_clone(system)?;
+    let search = Search::new(alloc, system, chain, number)?;
     let mut seeker = AnswerSeeker::new(alloc, system, search, progress);
     let result = runner.schedule_to(alloc, shared, options.horizon, &mut seeker);
     if result.is_err() {
@@ -88,12 +84,8 @@ fn way_lines<R: Runner, P: Progress>(
     schedules_are_in_order();
     let _parts = system.parts();
     let (runner, alloc) = (machine.runner, machine.alloc);
-    let Ok(shared) = Arc::try_clone(system) else {
-        return Err(RunFault::Sim(SimFault::NoMemory));
-    };
-    let Ok(trail) = Trail::new(alloc, system, answer) else {
-        return Err(RunFault::Sim(SimFault::NoMemory));
-    };
+    let shared = Arc::try_clone(system)?;
+    let trail = Trail::new(alloc, system, answer)?;
     let mut follower = Follower::new(alloc, system, trail, progress);
     let result = runner.schedule_to(alloc, shared, options.horizon, &mut follower);
     if result.is_err() {
@@ -102,8 +94,6 @@ fn way_lines<R: Runner, P: Progress>(
     follower.progress.wipe();
     let mut text = Vec::new(alloc);
     let way = follower.trail.way();
-    if put_answer_way(alloc, &mut text, options.format, system, answer, way).is_err() {
-        return Err(RunFault::Sim(SimFault::NoMemory));
-    }
+    put_answer_way(alloc, &mut text, options.format, system, answer, way)?;
     Ok(text)
 }

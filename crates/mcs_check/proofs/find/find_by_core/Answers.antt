@@ -21,15 +21,8 @@ use Rattle.mcs_check_run.proofs.Results.{moved, refused-fault}
 use Rattle.mcs_check.proofs.Told.{alone-rows, no-answers, no-due, no-slow, no-unanswered}
 use Rattle.mcs_check.proofs.find.find_by_core.Goals as goal
 
-pub returns-in_default-clause-fault : goal.returns-in_default-clause-fault
-returns-in_default-clause-fault g c =
-    let system = arc_value c.args.system.now in
-    let text = rows_text system c.args.allowed.now c.args.options.now.format c.args.options.now.show (schedule system c.args.options.now.horizon) in
-    let held = g.T.Target.contents c.args.target.now in
-    (c.requires.0, prefix-before held held text text (before-none held text))
-
-pub returns-in-Ok-look-clause-ok : goal.returns-in-Ok-look-clause-ok
-returns-in-Ok-look-clause-ok g c =
+pub returns-in-Ok-clause-ok : goal.returns-in-Ok-clause-ok
+returns-in-Ok-clause-ok g c =
     let held = g.T.Target.contents in
     let failed = g.T.Target.has_failed in
     let last = c.look.new.lines in
@@ -40,27 +33,27 @@ returns-in-Ok-look-clause-ok g c =
     let system_is : c.deref-3.result.now ≡ arc_value c.args.system.now = search rules in
     let asked_is : c.args.options.now.show ≡ show.Findings = c.requires.1 in
     let none : system.chains ≡ [] = c.requires.2 in
-    let headed : c.in-Ok.text.items ≡ head_text how show.Findings system = subst (λ a. c.in-Ok.text.items ≡ head_text how a system) asked_is (search rules) in
+    let headed : c.in_ok-text.text.items ≡ head_text how show.Findings system = subst (λ a. c.in_ok-text.text.items ≡ head_text how a system) asked_is (search rules) in
     let alone = sym (alone-rows how system c.args.allowed.now show.Findings [] (schedule system horizon) none) in
-    let target_is : last.lines.target.ghost_name ≡ c.new-lines.result.target.ghost_name = c.in-Ok-look.ensures.put.0 in
-    let text_is : last.text.ghost_name ≡ _ = c.in-Ok-look.ensures.put.1 in
+    let target_is : last.lines.target.ghost_name ≡ c.new-lines.result.target.ghost_name = c.in-Ok.ensures.put.0 in
+    let text_is : last.text.ghost_name ≡ _ = c.in-Ok.ensures.put.1 in
     let told : AppendsBefore (held c.args.target.now) (held last.lines.target.now) (rows_text system c.args.allowed.now how c.args.options.now.show (schedule system horizon)) last.text.now.items =
     subst (λ a. AppendsBefore (held c.args.target.now) (held last.lines.target.now) (rows_text system c.args.allowed.now how a (schedule system horizon)) last.text.now.items) (sym asked_is)
     (subst (λ l. AppendsBefore (held c.args.target.now) (held last.lines.target.now) (head_text how show.Findings system ++ l) last.text.now.items) alone
     (moved (λ w sys first _. AppendsBefore (held w) (held last.lines.target.now) (first ++ lines_in sys c.args.allowed.now how show.Findings [] (schedule sys horizon)) last.text.now.items)
-    _ _ _ _ _ _ _ _ begun system_is headed begun c.in-Ok-look.ensures.put.6)) in
+    _ _ _ _ _ _ _ _ begun system_is headed begun c.in-Ok.ensures.put.6)) in
     let counted = ap (λ s. counts_so_far s c.args.allowed.now (past_of [] (schedule s horizon))) system_is ∙ counts-so-far system c.args.allowed.now [] (schedule system horizon) in
     let in_time : UpTo horizon (past_of [] (schedule system horizon)) = search rules in
     record {
       text = at-last (λ w text. AppendsBefore (held c.args.target.now) (held w) (rows_text system c.args.allowed.now how c.args.options.now.show (schedule system horizon)) text)
           last.lines.target.now _ last.text.now.items _ (search rules) (ap (λ t. t.items) c.found_with.ensures.text ∙ search rules) told;
-      counts = c.found_with.ensures.counts ∙ c.in-Ok-look.ensures.counts ∙ counted;
-      unended = ap (λ v. v.items) c.found_with.ensures.unended ∙ c.in-Ok-look.ensures.unended
+      counts = c.found_with.ensures.counts ∙ c.in-Ok.ensures.counts ∙ counted;
+      unended = ap (λ v. v.items) c.found_with.ensures.unended ∙ c.in-Ok.ensures.unended
           ∙ ap (λ (s : System). all_at_end s (past_of [] (schedule s horizon)) horizon) system_is;
-      rounds = c.found_with.ensures.judged.0 ∙ c.in-Ok-look.ensures.rounds
+      rounds = c.found_with.ensures.judged.0 ∙ c.in-Ok.ensures.rounds
           ∙ ap (λ s. capped (judged_rounds s (past_of [] (schedule s horizon)))) system_is;
       answers = c.found_with.ensures.judged.1 ∙ sym (no-answers system (past_of [] (schedule system horizon)) none);
-      unjudged = ap (λ v. v.items) c.found_with.ensures.judged.2 ∙ c.in-Ok-look.ensures.unjudged
+      unjudged = ap (λ v. v.items) c.found_with.ensures.judged.2 ∙ c.in-Ok.ensures.unjudged
           ∙ ap (λ s. all_unjudged s (past_of [] (schedule s horizon)) horizon) system_is;
       due = c.found_with.ensures.none.0 ∙ sym (no-due system (past_of [] (schedule system horizon)) none);
       slow = c.found_with.ensures.none.1 ∙ sym (no-slow system (past_of [] (schedule system horizon)) none);
@@ -69,8 +62,8 @@ returns-in-Ok-look-clause-ok g c =
       in_time = in_time;
     }
 
-pub returns-in-Ok-look-clause-working : goal.returns-in-Ok-look-clause-working
-returns-in-Ok-look-clause-working g c =
+pub returns-in-Ok-clause-working : goal.returns-in-Ok-clause-working
+returns-in-Ok-clause-working g c =
     let held = g.T.Target.contents in
     let failed = g.T.Target.has_failed in
     let last = c.look.new.lines in
@@ -81,11 +74,11 @@ returns-in-Ok-look-clause-working g c =
     let system_is : c.deref-3.result.now ≡ arc_value c.args.system.now = search rules in
     let asked_is : c.args.options.now.show ≡ show.Findings = c.requires.1 in
     let none : system.chains ≡ [] = c.requires.2 in
-    let headed : c.in-Ok.text.items ≡ head_text how show.Findings system = subst (λ a. c.in-Ok.text.items ≡ head_text how a system) asked_is (search rules) in
+    let headed : c.in_ok-text.text.items ≡ head_text how show.Findings system = subst (λ a. c.in_ok-text.text.items ≡ head_text how a system) asked_is (search rules) in
     let alone = sym (alone-rows how system c.args.allowed.now show.Findings [] (schedule system horizon) none) in
-    let target_is : last.lines.target.ghost_name ≡ c.new-lines.result.target.ghost_name = c.in-Ok-look.ensures.put.0 in
-    let text_is : last.text.ghost_name ≡ _ = c.in-Ok-look.ensures.put.1 in
-    at-target (λ w. failed w ≡ false) last.lines.target.now _ (search rules) (c.in-Ok-look.ensures.put.4 refl ∙ ap failed begun ∙ c.requires.0)
+    let target_is : last.lines.target.ghost_name ≡ c.new-lines.result.target.ghost_name = c.in-Ok.ensures.put.0 in
+    let text_is : last.text.ghost_name ≡ _ = c.in-Ok.ensures.put.1 in
+    at-target (λ w. failed w ≡ false) last.lines.target.now _ (search rules) (c.in-Ok.ensures.put.4 refl ∙ ap failed begun ∙ c.requires.0)
 
 pub returns-in-Err-NoMemory-clause-fault : goal.returns-in-Err-NoMemory-clause-fault
 returns-in-Err-NoMemory-clause-fault g c =
@@ -99,7 +92,7 @@ returns-in-Err-NoMemory-clause-fault g c =
     let system_is : c.deref-3.result.now ≡ arc_value c.args.system.now = search rules in
     let asked_is : c.args.options.now.show ≡ show.Findings = c.requires.1 in
     let none : system.chains ≡ [] = c.requires.2 in
-    let headed : c.in-Ok.text.items ≡ head_text how show.Findings system = subst (λ a. c.in-Ok.text.items ≡ head_text how a system) asked_is (search rules) in
+    let headed : c.in_ok-text.text.items ≡ head_text how show.Findings system = subst (λ a. c.in_ok-text.text.items ≡ head_text how a system) asked_is (search rules) in
     let alone = sym (alone-rows how system c.args.allowed.now show.Findings [] (schedule system horizon) none) in
     let is : c.look.result ≡ Err fault.NoMemory = search rules in
     let some = err-is _ c.look.result fault.NoMemory is c.look.ensures.fault in
@@ -124,7 +117,7 @@ returns-clause-fault g c =
     let system_is : c.deref-3.result.now ≡ arc_value c.args.system.now = search rules in
     let asked_is : c.args.options.now.show ≡ show.Findings = c.requires.1 in
     let none : system.chains ≡ [] = c.requires.2 in
-    let headed : c.in-Ok.text.items ≡ head_text how show.Findings system = subst (λ a. c.in-Ok.text.items ≡ head_text how a system) asked_is (search rules) in
+    let headed : c.in_ok-text.text.items ≡ head_text how show.Findings system = subst (λ a. c.in_ok-text.text.items ≡ head_text how a system) asked_is (search rules) in
     let alone = sym (alone-rows how system c.args.allowed.now show.Findings [] (schedule system horizon) none) in
     let is : c.look.result ≡ Err fault.Sink = search rules in
     let some = err-is _ c.look.result fault.Sink is c.look.ensures.fault in

@@ -15,8 +15,8 @@ use Rattle.mcs_check.proofs.Finders.{rows-given, rows-some, rows-until}
 use Rattle.mcs_check_run.proofs.Results.{moved, refused-fault}
 use Rattle.mcs_check.proofs.find.find_in_rows.Goals as goal
 
-pub returns-in-Ok-result-clause-ok : goal.returns-in-Ok-result-clause-ok
-returns-in-Ok-result-clause-ok g c =
+pub returns-in-Ok-clause-ok : goal.returns-in-Ok-clause-ok
+returns-in-Ok-clause-ok g c =
     let held = g.T.Target.contents in
     let failed = g.T.Target.has_failed in
     let first = c.new-finder.result in
@@ -26,7 +26,7 @@ returns-in-Ok-result-clause-ok g c =
     let asked = options.show in
     let how = options.format in
     let system = arc_value c.args.system.now in
-    let shared_is : arc_value c.in-Ok.shared ≡ arc_value c.args.system.now = search rules in
+    let shared_is : arc_value c.in_ok-shared.shared ≡ arc_value c.args.system.now = search rules in
     let ordered : InOrder [] (schedule (arc_value c.args.system.now) horizon) = search rules in
     let order = subst (λ s. InOrder [] (schedule s horizon)) (sym shared_is) ordered in
     let headed_here : c.new-finder.result.seen.now.text.items ≡ head_text c.args.options.now.format c.args.options.now.show (arc_value c.args.system.now) = search rules in
@@ -43,7 +43,7 @@ returns-in-Ok-result-clause-ok g c =
     let table : c.new-finder.result.seen.now.table ≡ kept_table c.args.options.now.show (arc_value c.args.system.now) c.args.options.now.horizon [] = search rules in
     let table_is = subst (λ s. c.new-finder.result.seen.now.table ≡ kept_table c.new-finder.result.show s horizon []) (sym system_is)
     (subst (λ a. c.new-finder.result.seen.now.table ≡ kept_table a (arc_value c.args.system.now) horizon []) (sym show_is) table) in
-    let ended = rows-given held failed first horizon last (schedule (arc_value c.in-Ok.shared) horizon) order headed watch_is none table_is c.in-Ok-result.ensures.given in
+    let ended = rows-given held failed first horizon last (schedule (arc_value c.in_ok-shared.shared) horizon) order headed watch_is none table_is c.in-Ok.ensures.given in
     let target_is : c.schedule_to-result.new.sink.lines.target.ghost_name ≡ c.new-finder.result.lines.target.ghost_name = ended.0.target_is in
     let seen_is : c.schedule_to-result.new.sink.seen.ghost_name ≡ c.new-finder.result.seen.ghost_name = ended.0.seen_is in
     let told : AppendsBefore (held c.args.target.now) (held last.lines.target.now) (rows_text system c.args.allowed.now how asked (schedule system horizon)) last.seen.now.text.items =
@@ -67,8 +67,8 @@ returns-in-Ok-result-clause-ok g c =
       table = at-target (λ t. t ≡ kept_table asked system horizon (past_of [] (schedule system horizon))) last.seen.now.table _ (search rules) tabled;
     }
 
-pub returns-in-Ok-result-clause-working : goal.returns-in-Ok-result-clause-working
-returns-in-Ok-result-clause-working g c =
+pub returns-in-Ok-clause-working : goal.returns-in-Ok-clause-working
+returns-in-Ok-clause-working g c =
     let held = g.T.Target.contents in
     let failed = g.T.Target.has_failed in
     let first = c.new-finder.result in
@@ -78,7 +78,7 @@ returns-in-Ok-result-clause-working g c =
     let asked = options.show in
     let how = options.format in
     let system = arc_value c.args.system.now in
-    let shared_is : arc_value c.in-Ok.shared ≡ arc_value c.args.system.now = search rules in
+    let shared_is : arc_value c.in_ok-shared.shared ≡ arc_value c.args.system.now = search rules in
     let ordered : InOrder [] (schedule (arc_value c.args.system.now) horizon) = search rules in
     let order = subst (λ s. InOrder [] (schedule s horizon)) (sym shared_is) ordered in
     let headed_here : c.new-finder.result.seen.now.text.items ≡ head_text c.args.options.now.format c.args.options.now.show (arc_value c.args.system.now) = search rules in
@@ -95,7 +95,7 @@ returns-in-Ok-result-clause-working g c =
     let table : c.new-finder.result.seen.now.table ≡ kept_table c.args.options.now.show (arc_value c.args.system.now) c.args.options.now.horizon [] = search rules in
     let table_is = subst (λ s. c.new-finder.result.seen.now.table ≡ kept_table c.new-finder.result.show s horizon []) (sym system_is)
     (subst (λ a. c.new-finder.result.seen.now.table ≡ kept_table a (arc_value c.args.system.now) horizon []) (sym show_is) table) in
-    let ended = rows-given held failed first horizon last (schedule (arc_value c.in-Ok.shared) horizon) order headed watch_is none table_is c.in-Ok-result.ensures.given in
+    let ended = rows-given held failed first horizon last (schedule (arc_value c.in_ok-shared.shared) horizon) order headed watch_is none table_is c.in-Ok.ensures.given in
     let target_is : c.schedule_to-result.new.sink.lines.target.ghost_name ≡ c.new-finder.result.lines.target.ghost_name = ended.0.target_is in
     let seen_is : c.schedule_to-result.new.sink.seen.ghost_name ≡ c.new-finder.result.seen.ghost_name = ended.0.seen_is in
     let told : AppendsBefore (held c.args.target.now) (held last.lines.target.now) (rows_text system c.args.allowed.now how asked (schedule system horizon)) last.seen.now.text.items =
@@ -116,7 +116,7 @@ returns-in-Err-NoMemory-clause-fault g c =
     let asked = c.args.options.now.show in
     let how = c.args.options.now.format in
     let system = arc_value c.args.system.now in
-    let shared_is : arc_value c.in-Ok.shared ≡ arc_value c.args.system.now = search rules in
+    let shared_is : arc_value c.in_ok-shared.shared ≡ arc_value c.args.system.now = search rules in
     let ordered : InOrder [] (schedule (arc_value c.args.system.now) horizon) = search rules in
     let order = subst (λ s. InOrder [] (schedule s horizon)) (sym shared_is) ordered in
     let headed_here : c.new-finder.result.seen.now.text.items ≡ head_text c.args.options.now.format c.args.options.now.show (arc_value c.args.system.now) = search rules in
@@ -134,7 +134,7 @@ returns-in-Err-NoMemory-clause-fault g c =
     let table_is = subst (λ s. c.new-finder.result.seen.now.table ≡ kept_table c.new-finder.result.show s horizon []) (sym system_is)
     (subst (λ a. c.new-finder.result.seen.now.table ≡ kept_table a (arc_value c.args.system.now) horizon []) (sym show_is) table) in
     let is : c.schedule_to-result.result ≡ Err fault.NoMemory = search rules in
-    let ended = rows-some held failed first horizon last (schedule (arc_value c.in-Ok.shared) horizon) order headed watch_is none table_is
+    let ended = rows-some held failed first horizon last (schedule (arc_value c.in_ok-shared.shared) horizon) order headed watch_is none table_is
     (err-is _ c.schedule_to-result.result fault.NoMemory is c.schedule_to-result.ensures.fault) in
     let target_is : c.schedule_to-result.new.sink.lines.target.ghost_name ≡ c.new-finder.result.lines.target.ghost_name = ended.0.1.target_is in
     at-target (λ w. (failed w ≡ false) × AppendsPrefix (held c.args.target.now) (held w) (rows_text system c.args.allowed.now how asked (schedule system horizon)))
@@ -156,7 +156,7 @@ returns-in-Err-Sink-clause-fault g c =
     let asked = c.args.options.now.show in
     let how = c.args.options.now.format in
     let system = arc_value c.args.system.now in
-    let shared_is : arc_value c.in-Ok.shared ≡ arc_value c.args.system.now = search rules in
+    let shared_is : arc_value c.in_ok-shared.shared ≡ arc_value c.args.system.now = search rules in
     let ordered : InOrder [] (schedule (arc_value c.args.system.now) horizon) = search rules in
     let order = subst (λ s. InOrder [] (schedule s horizon)) (sym shared_is) ordered in
     let headed_here : c.new-finder.result.seen.now.text.items ≡ head_text c.args.options.now.format c.args.options.now.show (arc_value c.args.system.now) = search rules in
@@ -174,7 +174,7 @@ returns-in-Err-Sink-clause-fault g c =
     let table_is = subst (λ s. c.new-finder.result.seen.now.table ≡ kept_table c.new-finder.result.show s horizon []) (sym system_is)
     (subst (λ a. c.new-finder.result.seen.now.table ≡ kept_table a (arc_value c.args.system.now) horizon []) (sym show_is) table) in
     let is : c.schedule_to-result.result ≡ Err fault.Sink = search rules in
-    let ended = rows-until held failed first horizon last (schedule (arc_value c.in-Ok.shared) horizon) order headed watch_is none table_is
+    let ended = rows-until held failed first horizon last (schedule (arc_value c.in_ok-shared.shared) horizon) order headed watch_is none table_is
     (err-is _ c.schedule_to-result.result fault.Sink is c.schedule_to-result.ensures.fault) in
     let target_is : c.schedule_to-result.new.sink.lines.target.ghost_name ≡ c.new-finder.result.lines.target.ghost_name = ended.0.target_is in
     let told : AppendsPrefix (held c.args.target.now) (held last.lines.target.now) (rows_text system c.args.allowed.now how asked (schedule system horizon)) =

@@ -9,7 +9,9 @@ use Rattle.mcs_hints.specs.Hints.{hints_of}
 use Rattle.mcs_verdict.specs.Findings.{InOrder, UpTo, all_at_end, past_of}
 use Rattle.mcs_cli.specs.Devices.{AppendsPrefix}
 use Rattle.mcs_cli.specs.Flow.{AppendsBefore, IsWriteFault}
-use Rattle.mcs_cli.proofs.Flow.{before-all, before-longer, before-none, fault-longer, fault-then, prefix-before, prefix-longer}
+use Rattle.mcs_cli.specs.declared.fault.RunFault.TheVariants as fault
+use Rattle.mcs_team.specs.declared.run.SimFault.TheVariants.{NoMemory}
+use Rattle.mcs_cli.proofs.Flow.{before-all, before-longer, before-none, fault-longer, fault-memory, fault-then, prefix-before, prefix-longer}
 use Rattle.mcs_check_run.specs.Allowed.{flags_of, names_of}
 use Rattle.mcs_check.specs.Check.{check_text, counts_of}
 use Rattle.mcs_check_lines.specs.Counts.{no_counts, with_hints}
@@ -25,11 +27,17 @@ use Rattle.mcs_check_run.proofs.Results.{ok-holds}
 use Rattle.mcs_check.proofs.Texts.{behind, checked-put, counts-put, rest_text, text-is}
 use Rattle.mcs_check.proofs.run.write_check.Goals as goal
 
-pub returns-in_default-clause-fault : goal.returns-in_default-clause-fault
-returns-in_default-clause-fault g c = (c.requires.working, prefix-before _ _ _ _ (before-none (g.T.Target.contents c.args.target.now) _))
+pub returns-in_err-system-clause-fault : goal.returns-in_err-system-clause-fault
+returns-in_err-system-clause-fault g c =
+    let held = g.T.Target.contents c.args.target.now in
+    let out : IfErr c.from_residual.result (λ f. f ≡ fault.Sim NoMemory) = search rules in
+    fault-memory held held _ _ c.from_residual.result c.requires.working (prefix-before _ _ _ _ (before-none held _)) out
 
-pub returns-in_default-flags_of-clause-fault : goal.returns-in_default-flags_of-clause-fault
-returns-in_default-flags_of-clause-fault g c = (c.requires.working, prefix-before _ _ _ _ (before-none (g.T.Target.contents c.args.target.now) _))
+pub returns-in_err-allowed-clause-fault : goal.returns-in_err-allowed-clause-fault
+returns-in_err-allowed-clause-fault g c =
+    let held = g.T.Target.contents c.args.target.now in
+    let out : IfErr c.from_residual-in_err-allowed.result (λ f. f ≡ fault.Sim NoMemory) = search rules in
+    fault-memory held held _ _ c.from_residual-in_err-allowed.result c.requires.working (prefix-before _ _ _ _ (before-none held _)) out
 
 pub returns-in_err-all-clause-fault : goal.returns-in_err-all-clause-fault
 returns-in_err-all-clause-fault g c =
@@ -42,15 +50,15 @@ returns-in_err-all-clause-fault g c =
     let how = c.args.options.now.format in
     let flags_are : c.as_slice-allowed.result.now ≡ flags_of names system.notes = search rules in
     let ordered : InOrder [] (schedule c.args.system c.args.options.now.horizon) = search rules in
-    let system_is : arc_value c.in-Ok.system ≡ system = search rules in
-    let short : IfErr c.from_residual.result (IsWriteFault (held c.args.target.now) (held c.find_rows-found.new.target) (failed c.find_rows-found.new.target)
-    (rows_text (arc_value c.in-Ok.system) c.as_slice-allowed.result.now how asked (schedule (arc_value c.in-Ok.system) horizon))) = search rules in
-    IfErr-weaker c.from_residual.result _ _ (λ f fault.
+    let system_is : arc_value c.in_ok-system.system ≡ system = search rules in
+    let short : IfErr c.from_residual-in_err-all.result (IsWriteFault (held c.args.target.now) (held c.find_rows-found.new.target) (failed c.find_rows-found.new.target)
+    (rows_text (arc_value c.in_ok-system.system) c.as_slice-allowed.result.now how asked (schedule (arc_value c.in_ok-system.system) horizon))) = search rules in
+    IfErr-weaker c.from_residual-in_err-all.result _ _ (λ f fault.
     subst (λ text. IsWriteFault (held c.args.target.now) (held c.find_rows-found.new.target) (failed c.find_rows-found.new.target) text f) (text-is names system horizon ordered how asked)
     (fault-longer _ _ _ _ (rest_text how asked names system horizon (counts_of names system horizon)) f (rw (flags_are, system_is) at fault))) short
 
-pub returns-then-is_err-clause-fault : goal.returns-then-is_err-clause-fault
-returns-then-is_err-clause-fault g c =
+pub returns-in_err-put_rest-clause-fault : goal.returns-in_err-put_rest-clause-fault
+returns-in_err-put_rest-clause-fault g c =
     let held = g.T.Target.contents in
     let names = names_of c.args.options.now in
     let system = c.args.system in
@@ -59,13 +67,13 @@ returns-then-is_err-clause-fault g c =
     let how = c.args.options.now.format in
     let flags_are : c.as_slice-allowed.result.now ≡ flags_of names system.notes = search rules in
     let ordered : InOrder [] (schedule c.args.system c.args.options.now.horizon) = search rules in
-    let system_is : arc_value c.in-Ok.system ≡ system = search rules in
+    let system_is : arc_value c.in_ok-system.system ≡ system = search rules in
     let begun : AppendsPrefix (held c.args.target.now) (held c.find_rows-found.new.target) (rows_text system (flags_of names system.notes) how asked (schedule system horizon)) =
-    rw (← flags_are, ← system_is) (prefix-before _ _ _ _ c.in_ok-all.ensures.ok.text) in (
-      c.in_ok-all.ensures.working,
-      subst (AppendsPrefix (held c.args.target.now) (held c.find_rows-found.new.target)) (text-is names system horizon ordered how asked)
-          (prefix-longer _ _ _ (rest_text how asked names system horizon (counts_of names system horizon)) begun),
-    )
+    rw (← flags_are, ← system_is) (prefix-before _ _ _ _ c.in_ok-all.ensures.ok.text) in
+    let out : IfErr c.from_residual-in_err-put_rest.result (λ f. f ≡ fault.Sim NoMemory) = search rules in
+    fault-memory _ _ _ _ c.from_residual-in_err-put_rest.result c.in_ok-all.ensures.working
+    (subst (AppendsPrefix (held c.args.target.now) (held c.find_rows-found.new.target)) (text-is names system horizon ordered how asked)
+    (prefix-longer _ _ _ (rest_text how asked names system horizon (counts_of names system horizon)) begun)) out
 
 pub returns-in_err-write_text-clause-fault : goal.returns-in_err-write_text-clause-fault
 returns-in_err-write_text-clause-fault g c =
@@ -77,7 +85,7 @@ returns-in_err-write_text-clause-fault g c =
     let how = c.args.options.now.format in
     let flags_are : c.as_slice-allowed.result.now ≡ flags_of names system.notes = search rules in
     let ordered : InOrder [] (schedule c.args.system c.args.options.now.horizon) = search rules in
-    let system_is : arc_value c.in-Ok.system ≡ c.args.system = search rules in
+    let system_is : arc_value c.in_ok-system.system ≡ c.args.system = search rules in
     let own_is : c.deref-2.result.now ≡ c.args.system = search rules in
     let kept = c.in_ok-all.ensures.ok.kept ∙ ap (λ s. kept_of asked s horizon (past_of [] (schedule s horizon))) system_is
     ∙ ap (λ s. kept_of asked s horizon (past_of [] (schedule system horizon))) (sym own_is) in
@@ -128,7 +136,7 @@ returns-clause-ok g c =
     let how = c.args.options.now.format in
     let flags_are : c.as_slice-allowed.result.now ≡ flags_of names system.notes = search rules in
     let ordered : InOrder [] (schedule c.args.system c.args.options.now.horizon) = search rules in
-    let system_is : arc_value c.in-Ok.system ≡ c.args.system = search rules in
+    let system_is : arc_value c.in_ok-system.system ≡ c.args.system = search rules in
     let own_is : c.deref-2.result.now ≡ c.args.system = search rules in
     let kept = c.in_ok-all.ensures.ok.kept ∙ ap (λ s. kept_of asked s horizon (past_of [] (schedule s horizon))) system_is
     ∙ ap (λ s. kept_of asked s horizon (past_of [] (schedule system horizon))) (sym own_is) in
@@ -174,7 +182,7 @@ returns-clause-counted g c =
     let horizon = c.args.options.now.horizon in
     let flags_are : c.as_slice-allowed.result.now ≡ flags_of names system.notes = search rules in
     let ordered : InOrder [] (schedule c.args.system c.args.options.now.horizon) = search rules in
-    let system_is : arc_value c.in-Ok.system ≡ c.args.system = search rules in
+    let system_is : arc_value c.in_ok-system.system ≡ c.args.system = search rules in
     let own_is : c.deref-2.result.now ≡ c.args.system = search rules in
     let in_time = subst (λ s. UpTo horizon (past_of [] (schedule s horizon))) system_is c.in_ok-all.ensures.ok.in_time in
     let counted_are = c.in_ok-all.ensures.ok.counts ∙ ap₂ (λ s flags. counts_in s flags [] (schedule s horizon) no_counts) system_is flags_are in
@@ -206,7 +214,7 @@ put_rest-requires g c =
     let system = c.args.system in
     let own = c.deref-2.result.now in
     let past = past_of [] (schedule c.args.system horizon) in
-    let system_is : arc_value c.in-Ok.system ≡ c.args.system = search rules in
+    let system_is : arc_value c.in_ok-system.system ≡ c.args.system = search rules in
     let own_is : c.deref-2.result.now ≡ c.args.system = search rules in
     let kept = c.in_ok-all.ensures.ok.kept ∙ ap (λ s. kept_of asked s horizon (past_of [] (schedule s horizon))) system_is
     ∙ ap (λ s. kept_of asked s horizon (past_of [] (schedule system horizon))) (sym own_is) in

@@ -6,7 +6,9 @@ use Rattle.mcs_core.specs.Clock.{schedule}
 use Rattle.mcs_verdict.specs.Findings.{past_of}
 use Rattle.mcs_cli.specs.Devices.{AppendsPrefix}
 use Rattle.mcs_cli.specs.Flow.{AppendsBefore, IsWriteFault}
-use Rattle.mcs_cli.proofs.Flow.{before-all, before-longer, fault-longer, fault-then, prefix-before, prefix-longer}
+use Rattle.mcs_cli.specs.declared.fault.RunFault.TheVariants as fault
+use Rattle.mcs_team.specs.declared.run.SimFault.TheVariants.{NoMemory}
+use Rattle.mcs_cli.proofs.Flow.{before-all, before-longer, fault-longer, fault-memory, fault-then, prefix-before, prefix-longer}
 use Rattle.mcs_why.specs.Account.{account_of}
 use Rattle.mcs_explain.specs.Why.{rows_lines, round_text}
 use Rattle.mcs_why_lines.specs.Account.{account_lines}
@@ -26,15 +28,15 @@ returns-in_err-told-clause-fault g c =
     IfErr-weaker c.from_residual.result _ _ (λ f fault.
     fault-longer _ _ _ _ (account_lines how system span (past_of [] (schedule system horizon))) f fault) short
 
-pub returns-then-is_err-clause-fault : goal.returns-then-is_err-clause-fault
-returns-then-is_err-clause-fault g c =
+pub returns-in_err-put_account-clause-fault : goal.returns-in_err-put_account-clause-fault
+returns-in_err-put_account-clause-fault g c =
     let span = c.args.span.now in
     let system = arc_value c.args.system.now in
     let horizon = c.args.options.now.horizon in
-    let how = c.args.options.now.format in (
-      c.in_ok-told.ensures.working,
-      prefix-longer _ _ _ (account_lines how system span (past_of [] (schedule system horizon))) (prefix-before _ _ _ _ c.in_ok-told.ensures.ok),
-    )
+    let how = c.args.options.now.format in
+    let out : IfErr c.from_residual-in_err-put_account.result (λ f. f ≡ fault.Sim NoMemory) = search rules in
+    fault-memory _ _ _ _ c.from_residual-in_err-put_account.result c.in_ok-told.ensures.working
+    (prefix-longer _ _ _ (account_lines how system span (past_of [] (schedule system horizon))) (prefix-before _ _ _ _ c.in_ok-told.ensures.ok)) out
 
 pub returns-clause-ok : goal.returns-clause-ok
 returns-clause-ok g c =
