@@ -2,9 +2,8 @@
 """Runs the gate (rt ci), and reports its CPU seconds by crate, in Markdown; with --write it keeps them as the table of the gate's cost.
 
 After the table: the longest chain of tasks of which each waits for the one before, the wall time on 2 and on 4 processors by a model
-(gate_tasks.py), and the dearest edits. All this goes to TIMES, or else it is shown. The columns are a crate's own proof; its tests' proof; the second
-proof, over which some kits try its edits (timed_rt.py); and its edits. The last line is that of rt ci. If rt cannot be timed, it runs without clocks and
-tries edits in its own way, and a line says so.
+(gate_tasks.py), and the dearest edits. All this goes to TIMES, or else it is shown. The columns are a crate's own proof; its tests' proof; and its edits
+(timed_rt.py). The last line is that of rt ci. If rt cannot be timed, it runs without clocks and tries edits in its own way, and a line says so.
 
 A task that an earlier gate on this machine kept takes next to nothing, so a whole table needs --anew. --from FILE takes a run already made, of its
 report or of the .json beside it, and runs nothing. --write keeps a run from nothing as checks/proofs/gate.csv, and writes the section of
@@ -83,7 +82,7 @@ def dearest(tasks: Sequence[Task]) -> list[str]:
     """The dearest edits; one that was tried again counts once."""
     spent: dict[str, float] = collections.defaultdict(float)
     for task in tasks:
-        if task.part in COLUMNS['Edits']:
+        if task.part in ('edits', 'again'):
             spent[task.name] += task.seconds
     first = sorted(spent.items(), key=lambda it: -it[1])[:DEAREST]
     return [f'{seconds:6.1f} s  {name}' for name, seconds in first if seconds >= 0.5]

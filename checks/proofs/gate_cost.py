@@ -20,7 +20,7 @@ TABLE = TOP / 'checks' / 'proofs' / 'gate.csv'
 PAGE = TOP / 'checks' / 'README.md'
 BEGINS, ENDS = '<!-- cost of gate.py -->', '<!-- end of cost -->'
 # the columns, each with the parts of the gate's tasks that it sums
-COLUMNS = {'Proof': ('proof',), 'Tests': ('tests',), 'Second proof': ('seed', 'sound'), 'Edits': ('edits', 'again')}
+COLUMNS = {'Proof': ('proof',), 'Tests': ('tests',), 'Edits': ('edits', 'again', 'seed', 'sound')}
 # CPU seconds below which a task did nothing: an earlier gate had kept it
 LEAST = 0.5
 # a crate grew if it costs this often what it did, and at least so many CPU seconds more: less is noise
@@ -36,7 +36,6 @@ class Row(NamedTuple):
     crate: str
     proof: str = ''
     tests: str = ''
-    second_proof: str = ''
     edits: str = ''
     number_of_edits: str = ''
     minutes_of_a_change: str = ''
@@ -107,7 +106,7 @@ def of_report(report: str, kit: str) -> Cost:
         'by the model': number(r'By the model: (.*)\.$', report), 'longest chain': number(r'^Longest chain: (.*)\.$', report),
     }
     rows = []
-    for crate, *seconds, edits, _, change in re.findall(r'^\| `(\w+)` ' + r'\| (\S+) ' * 7 + r'\|$', report, re.M):
+    for crate, *seconds, edits, _, change in re.findall(r'^\| `(\w+)` ' + r'\| (\S+) ' * 6 + r'\|$', report, re.M):
         known = ['' if cell == '-' else cell for cell in (*seconds, edits)]
         rows.append(Row(*[crate, *known, change]))
     return Cost(head, rows)
@@ -146,7 +145,7 @@ def filled(text: str, indent: str = '') -> list[str]:
 
 def minutes(cost: Cost) -> str:
     """The CPU minutes of all, and of each column."""
-    spent = {what: sum(row.of(column) for row in cost.rows) for what, column in zip(('proofs', 'tests', 'second proofs', 'edits'), COLUMNS)}
+    spent = {what: sum(row.of(column) for row in cost.rows) for what, column in zip(('proofs', 'tests', 'edits'), COLUMNS)}
     if cost.runs:
         spent['runs of tests and programs'] = cost.runs
     *parts, last = (f'{seconds / 60:.0f} for {what}' for what, seconds in spent.items())
@@ -157,7 +156,7 @@ def sentences(cost: Cost) -> list[str]:
     """What is said of the run above the table."""
     head = cost.head
     kit = f' with {head["kit"]}' if head.get('kit') else ''
-    lines = filled(f'On {head["date"]} `rt ci`{kit} took {minutes(cost)}.')
+    lines = filled(f'On {head["date"]} the gate{kit} took {minutes(cost)}.')
     if head.get('minutes'):
         lines += ['', *filled(f'It lasted {head["minutes"]} minutes on {head["processors"]} processors. A model gives these minutes: {head["by the model"]}.')]
     took, _, steps = head.get('longest chain', '').partition(': ')
@@ -175,7 +174,7 @@ def cells(values: Sequence[object]) -> str:
 def section(cost: Cost) -> str:
     """The section of the page: sentences, the table, and why crates grew."""
     head = ['Crate', *COLUMNS, 'Number of edits', 'Minutes of a change']
-    rows = [cells([f'`{row.crate}`', *(cell or '-' for cell in row[1:7])]) for row in cost.rows]
+    rows = [cells([f'`{row.crate}`', *(cell or '-' for cell in row[1:6])]) for row in cost.rows]
     lines = [*sentences(cost), '', cells(head), '|' + '---|' * len(head), *rows]
     grew = [line for row in cost.rows if row.why_it_grew for line in filled(f'- `{row.crate}`: {row.why_it_grew}', '  ')]
     if grew:

@@ -50,11 +50,11 @@ class Tables(unittest.TestCase):
         self.assertEqual(gate_tasks.longest_chain(TASKS), [TASKS[place] for place in (0, 2, 5, 6, 8)])
 
     def test_a_column_sums_its_parts(self) -> None:
-        self.assertEqual(gate.sums_of(TASKS), {'Proof': 90, 'Tests': 90, 'Second proof': 45, 'Edits': 60})
+        self.assertEqual(gate.sums_of(TASKS), {'Proof': 90, 'Tests': 90, 'Edits': 105})
 
     def test_a_row_of_a_crate(self) -> None:
         self.assertEqual(gate.table(TASKS)[2:], [
-            '| `low` | 60 | - | - | - | - | 1.0 | 5 |', '| `high` | 30 | 90 | 45 | 60 | 2 | 3.8 | 4 |', '| in all | 90 | 90 | 45 | 60 | 2 | 4.8 | 5 |'])
+            '| `low` | 60 | - | - | - | 1.0 | 5 |', '| `high` | 30 | 90 | 105 | 2 | 3.8 | 4 |', '| in all | 90 | 90 | 105 | 2 | 4.8 | 5 |'])
 
     def test_a_change_has_the_crates_above_tried_again(self) -> None:
         tasks = [*TASKS, task('beside', 'proof', 10, (0,))]
@@ -71,7 +71,7 @@ class Tables(unittest.TestCase):
 
     def test_the_report_names_count_parts_walls_and_chain(self) -> None:
         text = gate.report(RUN)
-        for part in ('9 passed, 1 failed', 'Processor minutes: 5.0: proof 1.5, tests 1.5, second proof 0.8, edits 1.0, runs of tests and programs 0.2',
+        for part in ('9 passed, 1 failed', 'Processor minutes: 5.0: proof 1.5, tests 1.5, edits 1.8, runs of tests and programs 0.2',
                      'Minutes: 7.0 on 4 processors. By the model: 3.5 on 2, 3.5 on 4.', 'Longest chain: 3.5 minutes', 'Kit: kit-1', 'rt: ok; all was done'):
             self.assertIn(part, text)
 
@@ -104,7 +104,7 @@ class Kept(unittest.TestCase):
         self.cost = gate_cost.of_report(gate.report(RUN), 'another kit')
 
     def test_a_report_has_all_of_the_table(self) -> None:
-        self.assertEqual(self.cost.rows, [Row('low', '60', '', '', '', '', '5'), Row('high', '30', '90', '45', '60', '2', '4')])
+        self.assertEqual(self.cost.rows, [Row('low', '60', '', '', '', '5'), Row('high', '30', '90', '105', '2', '4')])
         self.assertEqual((self.cost.head['date'], self.cost.head['kit'], self.cost.head['processors'], self.cost.runs), ('2026-01-02', 'kit-1', '4', 15))
         self.assertEqual(self.cost.head['by the model'], '3.5 on 2, 3.5 on 4')
 
@@ -140,9 +140,9 @@ class Kept(unittest.TestCase):
 
     def test_the_section_has_sums_chain_table_and_reasons(self) -> None:
         text = gate_cost.section(gate_cost.with_reasons(self.cost, {'high': '9 to 225 CPU seconds'}, {'high': 'it reads files, too'}))
-        self.assertIn('took 5 CPU minutes: 2 for proofs, 2 for tests, 1', ' '.join(text.split()))
+        self.assertIn('took 5 CPU minutes: 2 for proofs, 2 for tests, 2 for edits', ' '.join(text.split()))
         for line in ('It lasted 7.0 minutes on 4 processors. A model gives these minutes: 3.5 on 2, 3.5 on 4.', '- high tests 90', '- runs of tests and programs 15',
-                     '| `high` | 30 | 90 | 45 | 60 | 2 | 4 |', '- `high`: 9 to 225 CPU seconds: it reads files, too'):
+                     '| `high` | 30 | 90 | 105 | 2 | 4 |', '- `high`: 9 to 225 CPU seconds: it reads files, too'):
             self.assertIn(line, text.splitlines())
 
     def test_the_section_stands_between_marks(self) -> None:
@@ -156,7 +156,7 @@ class Kept(unittest.TestCase):
 class Compared(unittest.TestCase):
     """A run beside the table."""
 
-    ROWS = [Row(f'crate{number}', '100', '50', '', '20', '2', '9') for number in range(10)]
+    ROWS = [Row(f'crate{number}', '100', '50', '20', '2', '9') for number in range(10)]
     COST = Cost({'date': '2026-01-02', 'kit': 'kit-1', 'runs': '30'}, ROWS)
 
     def run_of(self, ratio: float = 1, done: int = 10, **how: Any) -> Measured:
@@ -436,7 +436,7 @@ class Timed(unittest.TestCase):
         ran = self.ran(str(CHECKS / 'proofs' / 'gate.py'), '--crate', 'b', str(self.folder / 'table'))
         self.assertEqual((ran.returncode, ran.stdout.splitlines()[-1]), (1, '2 passed, 1 failed'))
         self.assertEqual(ran.stdout.count('passed, 1 failed\n'), 1)
-        self.assertIn('| `a` | 4 | - | - | - | - | 0.1 | 0 |', (self.folder / 'table').read_text())
+        self.assertIn('| `a` | 4 | - | - | - | 0.1 | 0 |', (self.folder / 'table').read_text())
 
     def test_what_the_tasks_took_is_kept_beside_the_report(self) -> None:
         self.ran(str(CHECKS / 'proofs' / 'gate.py'), str(self.folder / 'table.md'))
