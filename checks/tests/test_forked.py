@@ -22,7 +22,10 @@ SCRIPTS: dict[str, tuple[str, int]] = {
     'a signal': ('import os, signal\nos.kill(os.getpid(), signal.SIGKILL)\n', -signal.SIGKILL),
     'both streams': ('import os, sys\nprint("out")\nsys.stdout.flush()\nprint("err", file=sys.stderr)\nos._exit(2)\n', 2),
     'what is done at the end': ('import atexit\natexit.register(print, "end")\nprint("begin")\n', 0),
-    'a thread that goes on': ('import threading, time\nthreading.Thread(target=lambda: (time.sleep(0.05), print("late"))).start()\nprint("soon")\n', 0),
+    'a thread that goes on': (
+        'import threading, time\nsoon = threading.Event()\n'
+        'threading.Thread(target=lambda: (soon.wait(), time.sleep(0.05), print("late"))).start()\nprint("soon")\nsoon.set()\n', 0,
+    ),
     'its own name': ('print(__name__)\n', 0),
     'a module beside it': ('import beside\nprint(beside.SAID)\n', 0),
     'a module that was changed': ('import json\njson.many = getattr(json, "many", 0) + 1\nprint(json.many)\n', 0),
